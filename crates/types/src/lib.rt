@@ -1,0 +1,60 @@
+// The structs and enums that go by value through the engine, and that the definitions of `model` speak of.
+
+// What a board may do with a page: "a right (0 none, 1 copy, 2 own)".
+pub enum Right {
+    None,
+    Copy,
+    Own,
+}
+
+// "A frame is a right and 16 page bytes."
+pub struct Frame {
+    pub right: Right,
+    pub bytes: [u8; 16],
+}
+
+// "a got kind says copy or own"
+pub enum CopyOrOwn {
+    GotCopy,
+    GotOwn,
+}
+
+// The kind of a record, with its page number.
+pub enum Kind {
+    Got(CopyOrOwn, u8),
+    Shown(u8),
+    Dropped(u8),
+}
+
+// "Each record is a count together with its kind"; the page bytes stand beside the kind, zero unless it is a got.
+pub struct Record {
+    pub count: u16,
+    pub kind: Kind,
+    pub bytes: [u8; 16],
+}
+
+// A board's state: "0 up, 1 dark, 2 replaying". Document 01 says dark for down.
+pub enum State {
+    Up,
+    Down,
+    Replaying,
+}
+
+// What a call answers. `Done` carries the value; the others carry document 01's who where its table names a board.
+pub enum Answer {
+    Done(u32),
+    Malformed,
+    OutOfRange,
+    WrongState(u8),
+    CountersFull(u8),
+    ReplayDiffers(u8),
+    OwnerNotUp(u8),
+    LogFull(u8),
+    PowerLost(u8),
+}
+
+// An answer, and beside it the stable stores made in the call.
+pub struct Outcome {
+    pub answer: Answer,
+    pub stores: u32,
+}

@@ -1,0 +1,211 @@
+//! The steps on one board: records, flushes, stores with their fuse, checkpoint and cut.
+//! Every step works on the bank's bytes in place.
+
+use crate::fault::Fault;
+use crate::layout::*;
+use crate::watch::{During, Flush, Phase, Watch};
+
+/// Why a call stops: a code other than 0 and the board it speaks of.
+#[derive(Clone, Copy, Debug)]
+pub struct Refusal {
+    pub code: u8,
+    pub who: usize,
+}
+
+pub type Step<T = ()> = Result<T, Refusal>;
+
+pub struct Engine<'a> {
+    pub bank: &'a mut [u8],
+    pub layout: Layout,
+    pub fault: Fault,
+    pub watch: &'a mut Watch,
+    pub stores: u32,
+}
+
+impl<'a> Engine<'a> {
+    pub fn new(bank: &'a mut [u8], fault: Fault, watch: &'a mut Watch) -> Engine<'a> {
+        let layout = Layout::of(bank);
+        Engine {
+            bank,
+            layout,
+            fault,
+            watch,
+            stores: 0,
+        }
+    }
+
+    pub fn state(&self, board: usize) -> u8 {
+        self.bank[self.layout.state(board)]
+    }
+
+    pub fn number(&self, board: usize) -> u32 {
+        get32(self.bank, self.layout.number(board))
+    }
+
+    pub fn since(&self, board: usize) -> u16 {
+        get16(self.bank, self.layout.since(board))
+    }
+
+    pub fn clear_since(&mut self, board: usize) {
+        put16(self.bank, self.layout.since(board), 0);
+    }
+
+    /// One more access in both of a board's counters.
+    pub fn count_access(&mut self, board: usize) {
+        let (number, since) = (self.number(board), self.since(board));
+        put32(self.bank, self.layout.number(board), number.wrapping_add(1));
+        put16(self.bank, self.layout.since(board), since.wrapping_add(1));
+    }
+
+    pub fn right(&self, board: usize, page: usize) -> u8 {
+        self.bank[self.layout.frame(board, page)]
+    }
+
+    pub fn page_bytes(&self, board: usize, page: usize) -> [u8; PAGE] {
+        page_at(self.bank, self.layout.frame(board, page) + 1)
+    }
+
+    pub fn set_frame(&mut self, board: usize, page: usize, right: u8, bytes: [u8; PAGE]) {
+        let at = self.layout.frame(board, page);
+        self.bank[at] = right;
+        self.bank[at + 1..at + FRAME].copy_from_slice(&bytes);
+    }
+
+    pub fn clear_frame(&mut self, board: usize, page: usize) {
+        self.set_frame(board, page, NONE, [0; PAGE]);
+    }
+
+    pub fn owner(&self, page: usize) -> usize {
+        self.bank[self.layout.owner(page)] as usize
+    }
+
+    pub fn copies(&self, page: usize) -> u8 {
+        self.bank[self.layout.copies(page)]
+    }
+
+    pub fn selected(&self, board: usize) -> usize {
+        self.layout.selected(self.bank, board)
+    }
+
+    /// The boards of a copy-set.
+    pub fn holders(copies: u8) -> impl Iterator<Item = usize> {
+        (0..MAX_BOARDS).filter(move |board| copies >> board & 1 == 1)
+    }
+
+    /// Puts a record into the volatile log; the caller has made sure that there is room.
+    pub fn record(&mut self, board: usize, kind: Kind, page: usize, bytes: [u8; PAGE]) {
+        let count = self.bank[self.layout.volatile(board)] as usize;
+        let slot = self.layout.volatile_slot(board, count);
+        let since = self.since(board);
+        self.bank[slot..slot + 2].copy_from_slice(&kind);
+        self.bank[slot + SLOT_PAGE] = page as u8;
+        self.bank[slot + SLOT_ZERO] = 0;
+        put16(self.bank, slot + SLOT_COUNT, since);
+        self.bank[slot + SLOT_BYTES..slot + SLOT].copy_from_slice(&bytes);
+        self.bank[self.layout.volatile(board)] = count as u8 + 1;
+        self.clear_since(board);
+        let number = self.number(board);
+        self.watch.record_made(board, number);
+    }
+
+    /// Moves the volatile records to the selected area, one store each.
+    pub fn flush(&mut self, board: usize, flush: Flush) -> Step {
+        let count = self.bank[self.layout.volatile(board)] as usize;
+        let handled = if self.fault == Fault::HalfFlush {
+            1
+        } else {
+            count
+        };
+        for slot in 0..handled {
+            self.watch.phase = Phase::Record {
+                flush,
+                newest: slot + 1 == count,
+            };
+            self.append(board, slot);
+            self.store_made(board)?;
+        }
+        let slots = self.layout.volatile_slot(board, 0)..self.layout.volatile_slot(board, count);
+        self.bank[slots].fill(0);
+        self.bank[self.layout.volatile(board)] = 0;
+        self.watch.log_emptied(board);
+        Ok(())
+    }
+
+    /// Copies one volatile record to the end of the stored ones.
+    fn append(&mut self, board: usize, slot: usize) {
+        let from = self.layout.volatile_slot(board, slot);
+        let area = self.selected(board);
+        let stored = self.bank[self.layout.stored(area)];
+        let to = self.layout.area_slot(area, stored as usize);
+        self.bank.copy_within(from..from + SLOT, to);
+        self.bank[self.layout.stored(area)] = stored + 1;
+        self.watch.record_stored(board);
+    }
+
+    /// Every store ends here: it lowers a set fuse, and at 0 the board goes down at once.
+    fn store_made(&mut self, board: usize) -> Step {
+        self.stores += 1;
+        let fuse = get16(self.bank, self.layout.fuse(board));
+        if fuse == NO_FUSE {
+            return Ok(());
+        }
+        put16(self.bank, self.layout.fuse(board), fuse - 1);
+        if fuse > 1 {
+            return Ok(());
+        }
+        self.watch.fuse_blown();
+        self.cut(board);
+        Err(Refusal {
+            code: 8,
+            who: board,
+        })
+    }
+
+    /// Frames, head and selector to the spare area; only then is the volatile log needless.
+    pub fn checkpoint(&mut self, board: usize, during: During) -> Step {
+        let spare = 1 - self.bank[self.layout.selector(board)];
+        let area = self.layout.area(board, spare as usize);
+        for page in 0..self.layout.pages {
+            self.watch.phase = Phase::Frame { during, page };
+            let frame = self.layout.frame(board, page);
+            self.bank
+                .copy_within(frame..frame + FRAME, self.layout.area_frame(area, page));
+            self.store_made(board)?;
+        }
+        self.watch.phase = Phase::Head { during };
+        let number = self.number(board);
+        put32(self.bank, area, number);
+        self.bank[self.layout.stored(area)] = 0;
+        self.store_made(board)?;
+        self.watch.phase = Phase::Selector { during };
+        self.bank[self.layout.selector(board)] = spare;
+        self.watch.selector_stored(board, number);
+        self.store_made(board)?;
+        self.clear_since(board);
+        self.empty_volatile_log(board);
+        Ok(())
+    }
+
+    /// All 32 slots become zero, also those past the count.
+    fn empty_volatile_log(&mut self, board: usize) {
+        let slots = self.layout.volatile_slot(board, 0)..self.layout.volatile_slot(board, SLOTS);
+        self.bank[slots].fill(0);
+        self.bank[self.layout.volatile(board)] = 0;
+        self.watch.log_emptied(board);
+    }
+
+    /// Takes a board down: only its selector and its areas are left.
+    pub fn cut(&mut self, board: usize) {
+        for page in 0..self.layout.pages {
+            self.clear_frame(board, page);
+            let copies = self.layout.copies(page);
+            self.bank[copies] &= !(1 << board);
+        }
+        self.clear_since(board);
+        put32(self.bank, self.layout.number(board), 0);
+        self.bank[self.layout.place(board)] = 0;
+        self.empty_volatile_log(board);
+        put16(self.bank, self.layout.fuse(board), NO_FUSE);
+        self.bank[self.layout.state(board)] = DOWN;
+    }
+}

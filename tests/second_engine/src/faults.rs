@@ -1,0 +1,97 @@
+//! Runs every wrong engine and says what catches it.
+//! The claim is tried on random scripts, the answers on the stored outputs.
+
+use crate::counters::Counters;
+use crate::fault::{Fault, FaultKind, FAULTS};
+use crate::fuzz::search;
+use crate::runner::run;
+use std::fs;
+use std::io;
+use std::path::{Path, PathBuf};
+
+/// How many random scripts a fault may take to show.
+const SCRIPTS: u64 = 1_000;
+
+/// A script of the corpus and what it must print.
+struct Case {
+    name: String,
+    script: Vec<u8>,
+    output: Vec<u8>,
+}
+
+fn corpus(folder: &Path) -> io::Result<Vec<Case>> {
+    let files: io::Result<Vec<PathBuf>> =
+        fs::read_dir(folder)?.map(|file| Ok(file?.path())).collect();
+    let mut scripts: Vec<PathBuf> = files?
+        .into_iter()
+        .filter(|path| path.extension().is_some_and(|e| e == "txt"))
+        .collect();
+    scripts.sort();
+    scripts
+        .into_iter()
+        .map(|path| {
+            let name = path
+                .file_stem()
+                .unwrap_or_default()
+                .to_string_lossy()
+                .into_owned();
+            Ok(Case {
+                name,
+                script: fs::read(&path)?,
+                output: fs::read(path.with_extension("out"))?,
+            })
+        })
+        .collect()
+}
+
+fn differs(case: &Case, fault: Fault) -> bool {
+    let mut output = Vec::new();
+    run(&case.script[..], &mut output, fault, false).is_err() || output != case.output
+}
+
+/// Prints what catches one fault; false if what must catch it doesn't.
+fn try_fault(kind: &FaultKind, corpus: &[Case]) -> bool {
+    println!("{}: {}", kind.name, kind.what);
+    let failure = search(1, SCRIPTS, kind.fault, &mut Counters::new());
+    match &failure {
+        Some(failure) => println!("  claim broken at seed {}: {}", failure.seed, failure.why),
+        None => println!("  claim not broken in {SCRIPTS} scripts"),
+    }
+    let differing: Vec<&Case> = corpus
+        .iter()
+        .filter(|case| differs(case, kind.fault))
+        .collect();
+    match differing.first() {
+        Some(case) => println!(
+            "  {} of {} stored outputs differ, first {}",
+            differing.len(),
+            corpus.len(),
+            case.name
+        ),
+        None => println!("  no stored output differs"),
+    }
+    if kind.breaks_claim {
+        failure.is_some()
+    } else {
+        !differing.is_empty()
+    }
+}
+
+/// The whole command; false if a fault isn't caught or the right engine is.
+pub fn faults(folder: &Path) -> io::Result<bool> {
+    let corpus = corpus(folder)?;
+    if corpus.iter().any(|case| differs(case, Fault::None)) {
+        println!("the right engine differs from the stored outputs");
+        return Ok(false);
+    }
+    let missed: Vec<&str> = FAULTS
+        .iter()
+        .filter(|kind| !try_fault(kind, &corpus))
+        .map(|kind| kind.name)
+        .collect();
+    match missed[..] {
+        [] => println!("all {} faults are caught", FAULTS.len()),
+        _ => println!("not caught: {}", missed.join(", ")),
+    }
+    Ok(missed.is_empty())
+}

@@ -1,0 +1,462 @@
+//! Makes random scripts, each line chosen by what the bank is like just then.
+//! A replaying board mostly repeats its lines, as the premise asks.
+
+use crate::access::Access;
+use crate::calls::Call;
+use crate::engine::Engine;
+use crate::fault::Fault;
+use crate::layout::*;
+use crate::line::{read_line, Line};
+use crate::profile::Profile;
+use crate::random::Random;
+use crate::trial::Trial;
+use crate::watch::Watch;
+use std::io::{self, BufWriter, Write};
+
+/// Scripts at least this long have one board read until code 4 comes.
+pub const LONG_SCRIPT: u32 = 70_000;
+const LONG_READING: u32 = 65_540;
+
+/// A line of a script, readable or not.
+#[derive(Clone, Copy)]
+pub enum ScriptLine {
+    Readable(Line),
+    Malformed(&'static [u8]),
+}
+
+impl ScriptLine {
+    pub fn read(&self) -> Option<Line> {
+        match self {
+            ScriptLine::Readable(line) => Some(*line),
+            ScriptLine::Malformed(bytes) => read_line(bytes),
+        }
+    }
+
+    pub fn print(&self, output: &mut impl Write) -> io::Result<()> {
+        match self {
+            ScriptLine::Readable(line) => writeln!(output, "{line}"),
+            ScriptLine::Malformed(bytes) => output
+                .write_all(bytes)
+                .and_then(|_| output.write_all(b"\n")),
+        }
+    }
+}
+
+/// Lines that are code 9 after the first line.
+const MALFORMED: [&[u8]; 40] = [
+    b"",
+    b" ",
+    b"R",
+    b"R ",
+    b"R 0",
+    b"R 0 0",
+    b"R 0 0 0 ",
+    b" R 0 0 0",
+    b"R  0 0 0",
+    b"R 0 0  0",
+    b"R 0 0 0 0",
+    b"R 00 0 0",
+    b"R 0 0 01",
+    b"r 0 0 0",
+    b"R 0 0 -1",
+    b"R 0 0 +1",
+    b"R 0 0 4294967296",
+    b"R 0 0 99999999999999999999",
+    b"R,0,0,0",
+    b"R 0 0 x",
+    b"W 0 0 0",
+    b"W 0 0 0 0 0",
+    b"W 0 0 0 1.0",
+    b"C",
+    b"C 0 0",
+    b"C0",
+    b"CC 0",
+    b"K 0\r",
+    b"K\t0",
+    b"F 0",
+    b"F 0 1 1",
+    b"S 0\0",
+    b"\xff\xfe",
+    b"S 0x0",
+    b"N 2 1",
+    b"N 1 1 ",
+    b"N",
+    b"# R 0 0 0",
+    b"S 0;S 0",
+    b"R 0 0 0 and much more than sixty-four bytes, which no line may have at all",
+];
+
+/// A run of lines that was begun and isn't over.
+enum Run {
+    Same(Call, u32),
+    Repeats(usize, u32),
+}
+
+pub struct Generator {
+    random: Random,
+    profile: Profile,
+    run: Option<Run>,
+    long_reading_due: bool,
+}
+
+impl Generator {
+    pub fn new(seed: u64, lines: u32) -> Generator {
+        let mut random = Random::new(seed);
+        let profile = Profile::new(&mut random);
+        Generator {
+            random,
+            profile,
+            run: None,
+            long_reading_due: lines >= LONG_SCRIPT,
+        }
+    }
+
+    /// The next line for a trial that took all lines before it.
+    pub fn next(&mut self, trial: &Trial) -> ScriptLine {
+        let Some(bank) = &trial.session.bank else {
+            let Profile { boards, pages, .. } = self.profile;
+            return ScriptLine::Readable(Line::Make { boards, pages });
+        };
+        let layout = Layout::of(bank);
+        if let Some(call) = self.run_on(trial, bank, layout) {
+            return ScriptLine::Readable(Line::Call(call));
+        }
+        if self.random.permille(self.profile.noise) {
+            return self.noise(layout);
+        }
+        ScriptLine::Readable(Line::Call(self.sensible(trial, bank, layout)))
+    }
+
+    /// The next call of a run that was begun.
+    fn run_on(&mut self, trial: &Trial, bank: &[u8], layout: Layout) -> Option<Call> {
+        match self.run.take()? {
+            Run::Same(_, 0) | Run::Repeats(_, 0) => None,
+            Run::Same(call, left) => {
+                self.run = Some(Run::Same(call, left - 1));
+                Some(call)
+            }
+            Run::Repeats(board, left) => {
+                let replaying = bank[layout.state(board)] == REPLAYING;
+                self.run = replaying.then_some(Run::Repeats(board, left - 1));
+                replaying.then(|| self.replaying_access(trial, bank, layout, board))
+            }
+        }
+    }
+
+    fn sensible(&mut self, trial: &Trial, bank: &[u8], layout: Layout) -> Call {
+        if trial.latest.code == 7 && self.random.permille(self.profile.relief) {
+            return Call::Checkpoint {
+                board: trial.latest.who,
+            };
+        }
+        let any = self.any_board();
+        if let Some(board) = self
+            .board_in(bank, layout, DOWN)
+            .filter(|_| self.random.permille(self.profile.restarts))
+        {
+            return Call::Restart { board };
+        }
+        if self.random.permille(self.profile.checkpoints) {
+            return Call::Checkpoint { board: any };
+        }
+        if self.random.permille(self.profile.cuts) {
+            return Call::Cut { board: any };
+        }
+        if self.random.permille(self.profile.fuses) {
+            return self.fuse(bank, layout, any as usize);
+        }
+        if let Some(board) = self
+            .board_in(bank, layout, REPLAYING)
+            .filter(|_| self.random.permille(self.profile.repeats))
+        {
+            return self.go_on_replaying(trial, bank, layout, board as usize);
+        }
+        if self.long_reading_due && self.random.permille(10) {
+            return self.long_reading(bank, layout);
+        }
+        let board = self.mostly_not_down(bank, layout, any);
+        match bank[layout.state(board as usize)] {
+            REPLAYING => self.replaying_access(trial, bank, layout, board as usize),
+            _ => self.any_access(board),
+        }
+    }
+
+    /// A board that is down is mostly passed over, since its accesses only get code 3.
+    fn mostly_not_down(&mut self, bank: &[u8], layout: Layout, board: u32) -> u32 {
+        if bank[layout.state(board as usize)] != DOWN || self.random.permille(100) {
+            return board;
+        }
+        self.board_in(bank, layout, UP).unwrap_or(board)
+    }
+
+    fn any_board(&mut self) -> u32 {
+        self.random.below(self.profile.boards)
+    }
+
+    /// The first board in a state, counted from a random one.
+    fn board_in(&mut self, bank: &[u8], layout: Layout, state: u8) -> Option<u32> {
+        let start = self.any_board() as usize;
+        (start..start + layout.boards)
+            .map(|board| board % layout.boards)
+            .find(|board| bank[layout.state(*board)] == state)
+            .map(|board| board as u32)
+    }
+
+    fn any_access(&mut self, board: u32) -> Call {
+        let Profile {
+            pages,
+            busy_pages,
+            busy_offsets,
+            writes,
+            ..
+        } = self.profile;
+        let page = if self.random.permille(900) {
+            self.random.below(busy_pages)
+        } else {
+            self.random.below(pages)
+        };
+        let offset = if self.random.permille(900) {
+            self.random.below(busy_offsets)
+        } else {
+            self.random.below(16)
+        };
+        if self.random.permille(writes) {
+            let value = if self.random.permille(500) {
+                self.random.below(4)
+            } else {
+                self.random.below(256)
+            };
+            return Call::Write {
+                board,
+                page,
+                offset,
+                value,
+            };
+        }
+        Call::Read {
+            board,
+            page,
+            offset,
+        }
+    }
+
+    /// Sets a fuse; on an up board often with a checkpoint behind it, which may blow it.
+    fn fuse(&mut self, bank: &[u8], layout: Layout, board: usize) -> Call {
+        if bank[layout.state(board)] == UP && self.random.permille(300) {
+            self.run = Some(Run::Same(
+                Call::Checkpoint {
+                    board: board as u32,
+                },
+                1,
+            ));
+        }
+        let stores = match self.random.below(50) {
+            0 => self.random.between(1, 65_534),
+            1 => 65_534,
+            _ => self.random.between(1, self.profile.longest_fuse),
+        };
+        Call::Fuse {
+            board: board as u32,
+            stores,
+        }
+    }
+
+    /// Lets a replaying board go on, sometimes to its end at once or with a fuse.
+    fn go_on_replaying(
+        &mut self,
+        trial: &Trial,
+        bank: &[u8],
+        layout: Layout,
+        board: usize,
+    ) -> Call {
+        match self.random.below(10) {
+            0 => self.run = Some(Run::Repeats(board, u32::MAX)),
+            1 => self.run = Some(Run::Repeats(board, self.random.below(20))),
+            2 if self.random.permille(self.profile.fuses * 4) => {
+                return self.fuse(bank, layout, board)
+            }
+            _ => (),
+        }
+        self.replaying_access(trial, bank, layout, board)
+    }
+
+    /// Mostly what the premise asks or the due got needs; else a stray access or a break.
+    fn replaying_access(
+        &mut self,
+        trial: &Trial,
+        bank: &[u8],
+        layout: Layout,
+        board: usize,
+    ) -> Call {
+        if self.random.permille(self.profile.breaks) {
+            return self.any_access(board as u32);
+        }
+        if self.random.permille(self.profile.strays) {
+            let call = self.any_access(board as u32);
+            if self.is_refused(bank, &call) {
+                return call;
+            }
+        }
+        match trial.judge.history.to_repeat(board) {
+            Some(entry) => entry.call(),
+            None => self.access_at_got(bank, layout, board),
+        }
+    }
+
+    fn is_refused(&self, bank: &[u8], call: &Call) -> bool {
+        let refuses = |access: Access| on_copy(bank, |engine| engine.replay_refuses(&access));
+        call.access().is_some_and(refuses)
+    }
+
+    /// The access that the due got is needed by; any access if there is none.
+    fn access_at_got(&mut self, bank: &[u8], layout: Layout, board: usize) -> Call {
+        let call = self.any_access(board as u32);
+        let (Call::Read { offset, .. } | Call::Write { offset, .. }) = call else {
+            return call;
+        };
+        let place = bank[layout.place(board)] as usize;
+        let slot = layout.area_slot(layout.selected(bank, board), place.min(SLOTS - 1));
+        let (board, page) = (board as u32, bank[slot + SLOT_PAGE] as u32);
+        match kind_at(bank, slot) {
+            GOT_COPY => Call::Read {
+                board,
+                page,
+                offset,
+            },
+            GOT_OWN => Call::Write {
+                board,
+                page,
+                offset,
+                value: self.random.below(256),
+            },
+            _ => call,
+        }
+    }
+
+    /// One up board reads a page of its own until it may no more.
+    fn long_reading(&mut self, bank: &[u8], layout: Layout) -> Call {
+        let Some(board) = self.board_in(bank, layout, UP) else {
+            return self.any_access(0);
+        };
+        let own = (0..layout.pages).find(|page| bank[layout.frame(board as usize, *page)] != NONE);
+        let Some(page) = own else {
+            return self.any_access(board);
+        };
+        let call = Call::Read {
+            board,
+            page: page as u32,
+            offset: 0,
+        };
+        self.run = Some(Run::Same(call, LONG_READING));
+        self.long_reading_due = false;
+        call
+    }
+
+    /// A line that most likely gets code 2, 3 or 9.
+    fn noise(&mut self, layout: Layout) -> ScriptLine {
+        let board = self.any_board();
+        let call = match self.random.below(6) {
+            0 => return ScriptLine::Malformed(self.random.pick(&MALFORMED)),
+            1 => Call::Restart { board },
+            2 => Call::Checkpoint { board },
+            _ => self.out_of_range(layout),
+        };
+        ScriptLine::Readable(Line::Call(call))
+    }
+
+    /// A call with one number that is too large or, for a fuse, too small.
+    fn out_of_range(&mut self, layout: Layout) -> Call {
+        let (boards, pages) = (layout.boards as u32, layout.pages as u32);
+        let beyond = self.random.pick(&[0, 0, 0, 1, 255, 65_535, u32::MAX - 300]);
+        let board = self.any_board();
+        let call = self.any_access(board);
+        let (Call::Read { page, offset, .. } | Call::Write { page, offset, .. }) = call else {
+            return call;
+        };
+        match self.random.below(10) {
+            0 => Call::Read {
+                board: boards + beyond,
+                page,
+                offset,
+            },
+            1 => Call::Read {
+                board,
+                page: pages + beyond,
+                offset,
+            },
+            2 => Call::Read {
+                board,
+                page,
+                offset: 16 + beyond,
+            },
+            3 => Call::Write {
+                board,
+                page,
+                offset,
+                value: 256 + beyond,
+            },
+            4 => Call::Write {
+                board: boards + beyond,
+                page,
+                offset,
+                value: 0,
+            },
+            5 => Call::Checkpoint {
+                board: boards + beyond,
+            },
+            6 => Call::Cut {
+                board: boards + beyond,
+            },
+            7 => Call::Restart {
+                board: boards + beyond,
+            },
+            8 => Call::Fuse {
+                board: boards + beyond,
+                stores: 1,
+            },
+            _ => Call::Fuse {
+                board,
+                stores: self.random.pick(&[0, 65_535, 65_536, u32::MAX]),
+            },
+        }
+    }
+}
+
+/// Asks an engine about a bank without touching the bank.
+fn on_copy<T>(bank: &[u8], ask: impl Fn(&Engine) -> T) -> T {
+    let mut copy = bank.to_vec();
+    let mut watch = Watch::new();
+    let engine = Engine::new(&mut copy, Fault::None, &mut watch);
+    ask(&engine)
+}
+
+/// Prints the random script of a seed.
+pub fn generate(seed: u64, lines: u32, output: impl Write) -> io::Result<()> {
+    let mut output = BufWriter::new(output);
+    let mut generator = Generator::new(seed, lines);
+    let mut trial = Trial::new(Fault::None);
+    for _ in 0..lines {
+        let line = generator.next(&trial);
+        line.print(&mut output)?;
+        trial.take(line.read());
+    }
+    output.flush()
+}
+
+#[cfg(test)]
+mod tests {
+    use super::*;
+
+    #[test]
+    fn malformed_lines_are_code_9() {
+        let mut trial = Trial::new(Fault::None);
+        trial.take(Some(Line::Make {
+            boards: 2,
+            pages: 1,
+        }));
+        for bytes in MALFORMED {
+            let (answer, _) = trial.take(ScriptLine::Malformed(bytes).read());
+            assert_eq!(answer.code, 9, "{:?}", String::from_utf8_lossy(bytes));
+        }
+    }
+}

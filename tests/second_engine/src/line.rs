@@ -1,0 +1,124 @@
+//! Script lines: cutting the input into lines, reading a line and writing one.
+//! A line that can't be read is code 9, whatever is wrong with it.
+
+use crate::calls::Call;
+use std::fmt;
+use std::io::{self, BufReader, Bytes, Read};
+
+const LONGEST_LINE: usize = 64;
+
+#[derive(Clone, Copy, PartialEq, Eq, Debug)]
+pub enum Line {
+    Make { boards: u32, pages: u32 },
+    Call(Call),
+}
+
+/// Reads one line, without its byte 10; none if it isn't readable.
+pub fn read_line(line: &[u8]) -> Option<Line> {
+    if line.len() > LONGEST_LINE {
+        return None;
+    }
+    let mut fields = line.split(|byte| *byte == b' ');
+    let command = fields.next()?;
+    let mut numbers = [0; 4];
+    let mut count = 0;
+    for field in fields {
+        *numbers.get_mut(count)? = read_number(field)?;
+        count += 1;
+    }
+    let [board, page, offset, value] = numbers;
+    let call = match (command, count) {
+        (b"N", 2) => {
+            return Some(Line::Make {
+                boards: board,
+                pages: page,
+            })
+        }
+        (b"R", 3) => Call::Read {
+            board,
+            page,
+            offset,
+        },
+        (b"W", 4) => Call::Write {
+            board,
+            page,
+            offset,
+            value,
+        },
+        (b"C", 1) => Call::Checkpoint { board },
+        (b"K", 1) => Call::Cut { board },
+        (b"F", 2) => Call::Fuse {
+            board,
+            stores: page,
+        },
+        (b"S", 1) => Call::Restart { board },
+        _ => return None,
+    };
+    Some(Line::Call(call))
+}
+
+/// Digits alone, no leading zero, at most 4,294,967,295.
+fn read_number(field: &[u8]) -> Option<u32> {
+    if field.is_empty() || field.len() > 1 && field[0] == b'0' {
+        return None;
+    }
+    field.iter().try_fold(0u32, |number, byte| {
+        let digit = byte.is_ascii_digit().then(|| (byte - b'0') as u32)?;
+        number.checked_mul(10)?.checked_add(digit)
+    })
+}
+
+impl fmt::Display for Line {
+    fn fmt(&self, out: &mut fmt::Formatter) -> fmt::Result {
+        match *self {
+            Line::Make { boards, pages } => write!(out, "N {boards} {pages}"),
+            Line::Call(Call::Read {
+                board,
+                page,
+                offset,
+            }) => write!(out, "R {board} {page} {offset}"),
+            Line::Call(Call::Write {
+                board,
+                page,
+                offset,
+                value,
+            }) => {
+                write!(out, "W {board} {page} {offset} {value}")
+            }
+            Line::Call(Call::Checkpoint { board }) => write!(out, "C {board}"),
+            Line::Call(Call::Cut { board }) => write!(out, "K {board}"),
+            Line::Call(Call::Fuse { board, stores }) => write!(out, "F {board} {stores}"),
+            Line::Call(Call::Restart { board }) => write!(out, "S {board}"),
+        }
+    }
+}
+
+/// Cuts an input into lines; keeps no more of a line than shows that it is too long.
+pub struct Lines<R: Read> {
+    input: Bytes<BufReader<R>>,
+}
+
+impl<R: Read> Lines<R> {
+    pub fn new(input: R) -> Lines<R> {
+        Lines {
+            input: BufReader::new(input).bytes(),
+        }
+    }
+}
+
+impl<R: Read> Iterator for Lines<R> {
+    type Item = io::Result<Vec<u8>>;
+
+    fn next(&mut self) -> Option<Self::Item> {
+        let mut line = Vec::new();
+        for byte in self.input.by_ref() {
+            match byte {
+                Ok(b'\n') => return Some(Ok(line)),
+                Ok(byte) if line.len() <= LONGEST_LINE => line.push(byte),
+                Ok(_) => (),
+                Err(error) => return Some(Err(error)),
+            }
+        }
+        (!line.is_empty()).then_some(Ok(line))
+    }
+}

@@ -1,0 +1,83 @@
+//! The second engine: document 01's bank, line runner and claim, worked on plain bytes.
+//! Commands: run, dump, gen, claim, fuzz, faults.
+
+mod access;
+mod calls;
+mod check;
+mod claim;
+mod counters;
+mod engine;
+mod fault;
+mod faults;
+mod fuzz;
+mod gen;
+mod history;
+mod layout;
+mod line;
+mod profile;
+mod random;
+mod replay;
+mod runner;
+mod trial;
+mod watch;
+
+use fault::Fault;
+use std::io::{self, stdin, stdout};
+use std::path::Path;
+use std::process::ExitCode;
+
+const USAGE: &str = "usage: second run|dump|claim [--fault NAME] < SCRIPT
+       second gen SEED LINES
+       second fuzz SEED COUNT [--fault NAME]
+       second faults
+       second test";
+
+/// Takes `--fault NAME` out of the arguments; none if the name isn't known.
+fn take_fault(arguments: &mut Vec<String>) -> Option<Fault> {
+    let Some(place) = arguments.iter().position(|argument| argument == "--fault") else {
+        return Some(Fault::None);
+    };
+    let fault = fault::named(arguments.get(place + 1)?)?;
+    arguments.drain(place..place + 2);
+    Some(fault)
+}
+
+/// Carries out a command; none if it isn't one, false if it found a failure.
+fn command(arguments: &[&str], fault: Fault) -> Option<io::Result<bool>> {
+    let number = |text: &str| text.parse::<u64>().ok();
+    Some(match arguments {
+        ["run"] => runner::run(stdin(), stdout(), fault, false).map(|_| true),
+        ["dump"] => runner::run(stdin(), stdout(), fault, true).map(|_| true),
+        ["claim"] => trial::claim(stdin(), stdout(), fault),
+        ["gen", seed, lines] => {
+            gen::generate(number(seed)?, lines.parse().ok()?, stdout()).map(|_| true)
+        }
+        ["fuzz", seed, count] => fuzz::fuzz(number(seed)?, number(count)?, fault),
+        ["faults", folder] => faults::faults(Path::new(folder)),
+        _ => return None,
+    })
+}
+
+fn main() -> ExitCode {
+    let mut arguments: Vec<String> = std::env::args().skip(1).collect();
+    let result = take_fault(&mut arguments).and_then(|fault| {
+        let words: Vec<&str> = arguments.iter().map(String::as_str).collect();
+        command(&words, fault)
+    });
+    match result {
+        Some(Ok(true)) => ExitCode::SUCCESS,
+        Some(Ok(false)) => ExitCode::FAILURE,
+        Some(Err(error)) if error.kind() == io::ErrorKind::BrokenPipe => ExitCode::SUCCESS,
+        Some(Err(error)) => {
+            eprintln!("second: {error}");
+            ExitCode::from(2)
+        }
+        None => {
+            eprintln!("{USAGE}\nfaults:");
+            fault::FAULTS
+                .iter()
+                .for_each(|kind| eprintln!("  {}: {}", kind.name, kind.what));
+            ExitCode::from(2)
+        }
+    }
+}

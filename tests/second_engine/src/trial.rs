@@ -1,0 +1,97 @@
+//! A script under the claim: a session and its judge, line by line.
+//! The `claim` command runs one from its input and says what held.
+
+use crate::calls::Answer;
+use crate::claim::{Judge, Verdict};
+use crate::fault::Fault;
+use crate::line::{read_line, Line, Lines};
+use crate::runner::Session;
+use std::io::{self, Read, Write};
+
+pub struct Trial {
+    pub session: Session,
+    pub judge: Judge,
+    /// What the latest line was answered.
+    pub latest: Answer,
+}
+
+impl Trial {
+    pub fn new(fault: Fault) -> Trial {
+        Trial {
+            session: Session::new(fault),
+            judge: Judge::new(),
+            latest: Answer::default(),
+        }
+    }
+
+    pub fn take(&mut self, line: Option<Line>) -> (Answer, Verdict) {
+        let before = match (&self.session.bank, &line) {
+            (Some(bank), Some(Line::Call(call))) => Some((*call, self.judge.before(bank, call))),
+            _ => None,
+        };
+        (self.judge.began, self.judge.ended) = (None, None);
+        let answer = self.session.take(line);
+        let verdict = match (&self.session.bank, before) {
+            (Some(_), _) if answer.code == 1 => {
+                Verdict::ClaimBroken("the calls before left a bank that isn't well formed".into())
+            }
+            (Some(bank), Some((call, before))) => {
+                self.judge
+                    .after(bank, &call, &answer, before, &self.session.watch)
+            }
+            _ => Verdict::Held,
+        };
+        self.latest = answer;
+        (answer, verdict)
+    }
+}
+
+/// Runs a script under the claim; false if the claim broke while the premise held.
+pub fn claim(input: impl Read, mut output: impl Write, fault: Fault) -> io::Result<bool> {
+    let mut trial = Trial::new(fault);
+    for line in Lines::new(input).take(u32::MAX as usize) {
+        let (_, verdict) = trial.take(read_line(&line?));
+        let number = trial.session.lines;
+        match verdict {
+            Verdict::Held => (),
+            Verdict::PremiseBroken(why) => {
+                writeln!(output, "premise broken at line {number}: {why}")?
+            }
+            Verdict::ClaimBroken(why) => {
+                writeln!(output, "claim broken at line {number}: {why}")?;
+                return Ok(false);
+            }
+        }
+    }
+    let until = if trial.judge.premise_holds {
+        "throughout"
+    } else {
+        "as long as the premise held"
+    };
+    writeln!(output, "claim held {until}, {} lines", trial.session.lines)?;
+    Ok(true)
+}
+
+#[cfg(test)]
+mod tests {
+    use super::*;
+    use crate::layout::recovery_point;
+
+    /// Case B's own facts: stand point 3, the repeated read 0, 4 stores, then 9 with 2 stores.
+    #[test]
+    fn case_b() {
+        let script = include_bytes!("../../scripts/case-b.txt");
+        let mut trial = Trial::new(Fault::None);
+        let mut answers = Vec::new();
+        for line in Lines::new(&script[..]) {
+            let (answer, verdict) = trial.take(read_line(&line.unwrap()));
+            assert!(matches!(verdict, Verdict::Held));
+            if trial.session.lines == 7 {
+                let bank = trial.session.bank.as_ref().unwrap();
+                assert_eq!(recovery_point(bank, 0), 3);
+            }
+            answers.push((answer.code, answer.value, answer.stores));
+        }
+        assert_eq!(answers[8..], [(0, 0, 0), (0, 0, 0), (0, 0, 4), (0, 9, 2)]);
+    }
+}

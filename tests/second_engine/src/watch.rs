@@ -1,0 +1,179 @@
+//! What an onlooker notes while the engine works: the claim and the counters need it.
+//! The engine writes these notes and never reads one.
+
+use crate::layout::{MAX_BOARDS, MAX_PAGES};
+
+/// Which checkpoint is being made.
+#[derive(Clone, Copy, PartialEq, Eq)]
+pub enum During {
+    Asked,
+    AfterRepeat,
+    BeforeLive,
+}
+
+/// Which flush is being made.
+#[derive(Clone, Copy, PartialEq, Eq)]
+pub enum Flush {
+    OwnerShowsReader,
+    OwnerShowsWriter,
+    Writer,
+}
+
+/// The step that a store belongs to.
+#[derive(Clone, Copy)]
+pub enum Phase {
+    /// A record of a flush; `newest` for the one that this call made.
+    Record {
+        flush: Flush,
+        newest: bool,
+    },
+    Frame {
+        during: During,
+        page: usize,
+    },
+    Head {
+        during: During,
+    },
+    Selector {
+        during: During,
+    },
+}
+
+const FLUSHES: usize = 6;
+const PARTS: usize = MAX_PAGES + 2;
+pub const PHASES: usize = 2 * FLUSHES + 3 * PARTS;
+
+impl Phase {
+    /// A place in the table of counters; a flush after a replay ended in the same call has its own.
+    fn index(self, after_end: bool) -> usize {
+        let part = |during: During, part: usize| 2 * FLUSHES + during as usize * PARTS + part;
+        match self {
+            Phase::Record { flush, newest } => {
+                after_end as usize * FLUSHES + flush as usize * 2 + newest as usize
+            }
+            Phase::Frame { during, page } => part(during, page),
+            Phase::Head { during } => part(during, MAX_PAGES),
+            Phase::Selector { during } => part(during, MAX_PAGES + 1),
+        }
+    }
+}
+
+/// No phase of this index can come: a writer's log is empty right after its end of replay.
+pub const IMPOSSIBLE_PHASE: usize = FLUSHES + Flush::Writer as usize * 2;
+
+pub fn phase_name(index: usize) -> String {
+    if index < 2 * FLUSHES {
+        let flush = [
+            "owner's flush for a reader",
+            "owner's flush for a writer",
+            "writer's flush",
+        ];
+        let record = ["an earlier record", "its newest record"][index % 2];
+        let after = ["", " (after a replay ended in the call)"][index / FLUSHES];
+        return format!("{}, {}{}", flush[index % FLUSHES / 2], record, after);
+    }
+    let during = [
+        "checkpoint",
+        "end of replay after a repeat",
+        "end of replay before going on live",
+    ];
+    let part = match (index - 2 * FLUSHES) % PARTS {
+        MAX_PAGES => "head".to_string(),
+        part if part > MAX_PAGES => "selector".to_string(),
+        page => format!("frame {page}"),
+    };
+    format!("{}, {}", during[(index - 2 * FLUSHES) / PARTS], part)
+}
+
+/// An access number and the moment it was noted at.
+#[derive(Clone, Copy)]
+struct Note {
+    moment: u64,
+    number: u32,
+}
+
+#[derive(Clone, Default)]
+struct BoardNotes {
+    /// One for each volatile record, from when it was made.
+    made: Vec<Note>,
+    last_stored: Option<Note>,
+    last_selector: Option<Note>,
+}
+
+#[derive(Clone)]
+pub struct Watch {
+    moment: u64,
+    boards: [BoardNotes; MAX_BOARDS],
+    pub phase: Phase,
+    /// The table index of the phase in which a fuse blew in this call.
+    pub blown: Option<usize>,
+    /// The owner that another board fetched from in this call.
+    pub fetched_from: Option<usize>,
+    /// The board whose replay ended in this call.
+    pub replay_ended: Option<usize>,
+}
+
+impl Watch {
+    pub fn new() -> Watch {
+        Watch {
+            moment: 0,
+            boards: Default::default(),
+            phase: Phase::Head {
+                during: During::Asked,
+            },
+            blown: None,
+            fetched_from: None,
+            replay_ended: None,
+        }
+    }
+
+    pub fn begin_call(&mut self) {
+        self.blown = None;
+        self.fetched_from = None;
+        self.replay_ended = None;
+    }
+
+    fn note(&mut self, number: u32) -> Note {
+        self.moment += 1;
+        Note {
+            moment: self.moment,
+            number,
+        }
+    }
+
+    pub fn record_made(&mut self, board: usize, number: u32) {
+        let note = self.note(number);
+        self.boards[board].made.push(note);
+    }
+
+    /// The oldest volatile record is stored.
+    pub fn record_stored(&mut self, board: usize) {
+        let notes = &mut self.boards[board];
+        notes.last_stored = Some(notes.made.remove(0));
+    }
+
+    pub fn selector_stored(&mut self, board: usize, number: u32) {
+        self.boards[board].last_selector = Some(self.note(number));
+    }
+
+    /// A cut or a checkpoint emptied the volatile log.
+    pub fn log_emptied(&mut self, board: usize) {
+        self.boards[board].made.clear();
+    }
+
+    pub fn fuse_blown(&mut self) {
+        self.blown = Some(self.phase.index(self.replay_ended.is_some()));
+    }
+
+    /// What the stand point must be: the access number when the last stored record was made
+    /// or, if later, at the last selector store; 0 before either.
+    pub fn demanded_recovery_point(&self, board: usize) -> u64 {
+        let notes = &self.boards[board];
+        let latest = match (notes.last_stored, notes.last_selector) {
+            (Some(stored), Some(selector)) if selector.moment > stored.moment => Some(selector),
+            (Some(stored), _) => Some(stored),
+            (None, selector) => selector,
+        };
+        latest.map_or(0, |note| note.number as u64)
+    }
+}
