@@ -1,0 +1,10 @@
+-- Document 01's marked cases and worked histories: tables, and one theorem for each.
+pub mod Evaluate
+pub mod Digest
+pub mod Table
+pub mod Worked
+pub mod Running
+pub mod Computed
+pub mod OnBank
+pub mod Marked
+pub mod Histories

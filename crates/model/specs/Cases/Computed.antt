@@ -1,0 +1,61 @@
+-- The worked cases and histories, computed on the bank. Nothing here rests on a law, so a wrong definition is refused by a value that differs. Assumes nothing.
+use mathlib.Core.Path.{_≡_, refl}
+use mathlib.Core.Bool.{true, false}
+use mathlib.Core.List.{[], _∷_}
+use Rattle.model.specs.Definitions.Parts.{every}
+use Rattle.model.specs.Definitions.Bank.{fresh}
+use Rattle.model.specs.Definitions.Calls.{Reading, Writing, Cutting}
+use Rattle.model.specs.History.Statement.{noHistory, ofBoard, discard, doneEvent, eventOf, entryCount, repeats, withNumberOf, bytesFrom, withEntry, fed, zeroMemory, byteIn, written, accessOf, liveBank, giverIn, gaveIn, grantedAfter, nextEntry}
+use Rattle.model.specs.History.Tests.{sameBytes, sameAccess, doneOrLost, repeatsEntry, premiseFor, oneMemoryTest, gaveEntry, repeatFor, grantsFor}
+use Rattle.model.specs.History.Banks.{historyAfter, grantsAfter}
+use Rattle.model.specs.Cases.Evaluate.{evaluate}
+use Rattle.model.specs.Cases.Digest.{taken, digestFrom, digest}
+use Rattle.model.specs.Cases.Table.{agrees, caseA, caseBCut, caseB, boardOutOfRange, restartOfUpBoard, replayDiffers, ownerNotUp, alternating, alternatingWrites, fuseBlows, lastOffset, scripts, lengths}
+use Rattle.model.specs.Cases.Worked.{callsOf, fuseAtReplayEnd, everyEntry, fuseInFlush, fuseAtSelector, givenAfterReplay, takerCut, histories, otherByte, otherByteRepeated, twoDue}
+use Rattle.model.specs.Cases.Running.{leavesOn, passesOn, passesFresh, sizesTest, premisesOn, claimsOn, holdsOn, grantsIn}
+
+-- A theorem that says `unfolding evaluate tables` computes with the definitions of the history and of the tables too
+unfoldable pub tables : Unit {0}
+unfolding noHistory ofBoard discard doneEvent eventOf entryCount repeats withNumberOf bytesFrom withEntry fed zeroMemory byteIn written accessOf liveBank giverIn gaveIn grantedAfter nextEntry sameBytes sameAccess doneOrLost repeatsEntry premiseFor oneMemoryTest gaveEntry repeatFor grantsFor historyAfter grantsAfter leavesOn passesOn passesFresh sizesTest premisesOn claimsOn holdsOn grantsIn taken digestFrom digest agrees caseA caseBCut caseB boardOutOfRange restartOfUpBoard replayDiffers ownerNotUp alternating alternatingWrites fuseBlows lastOffset scripts lengths callsOf fuseAtReplayEnd everyEntry fuseInFlush fuseAtSelector givenAfterReplay takerCut histories otherByte otherByteRepeated twoDue
+tables = tt
+
+pub lengths-hold : lengths ≡ true
+unfolding evaluate tables
+lengths-hold = refl
+
+pub scripts-sized : every (λ c. sizesTest (c .boards) (c .pages)) scripts ≡ true
+unfolding evaluate tables
+scripts-sized = refl
+
+pub scripts-hold : every passesFresh scripts ≡ true
+unfolding evaluate tables
+scripts-hold = refl
+
+pub histories-hold : every holdsOn histories ≡ true
+unfolding evaluate tables
+histories-hold = refl
+
+pub twoDue-holds : passesFresh twoDue ≡ true
+unfolding evaluate tables
+twoDue-holds = refl
+
+-- two boards and up to three pages are in range
+pub sized : (sizesTest 2 1 ≡ true) × (sizesTest 2 3 ≡ true)
+unfolding evaluate tables
+sized = (refl, refl)
+
+pub otherByte-breaks : (premisesOn otherByte (fresh 2 1) noHistory ≡ false) × (claimsOn otherByte (fresh 2 1) noHistory (λ b. 0) ≡ false)
+unfolding evaluate tables
+otherByte-breaks = (refl, refl)
+
+-- a repeated read that gives another byte breaks the claim, with no entry that contradicts one memory
+pub otherByteRepeated-breaks : claimsOn otherByteRepeated (fresh 2 1) noHistory (λ b. 0) ≡ false
+unfolding evaluate tables
+otherByteRepeated-breaks = refl
+
+-- what is given is noted, live and after a replay that ended in the same access; a recovery point below what was given breaks the claim
+pub grants-noted :
+    (grantsIn (Writing 0 0 0 5 ∷ Reading 1 0 0 ∷ []) (fresh 2 1) (λ b. 0) 0 ≡ 1)
+    × ((grantsIn givenAfterReplay (fresh 2 2) (λ b. 0) 1 ≡ 1) × (claimsOn (Cutting 0 ∷ []) (fresh 2 1) noHistory (λ b. 1) ≡ false))
+unfolding evaluate tables
+grants-noted = (refl, (refl, refl))

@@ -1,0 +1,16 @@
+-- The definitions give every marked case of document 01: one theorem, through bytes. It is computed on the bank; the laws of the codec and of
+-- well-formedness say that the bytes answer the same. Assumes nothing.
+use mathlib.Core.Path.{_≡_, _∙_}
+use mathlib.Core.Bool.{true}
+use Rattle.model.specs.Laws.Logic.{and-both}
+use Rattle.model.specs.Laws.Lists.{every-each}
+use Rattle.model.specs.Cases.Table.{scripts, table}
+use Rattle.model.specs.Cases.Running.{sizesTest}
+use Rattle.model.specs.Cases.Computed.{lengths-hold, scripts-sized, scripts-hold}
+use Rattle.model.specs.Cases.OnBank.{every-fresh, sizes-ok}
+
+pub marked-cases : table ≡ true
+unfolding table
+marked-cases =
+    and-both lengths-hold
+    (every-fresh scripts (every-each (λ c. sizesTest (c .boards) (c .pages)) scripts (λ c t. sizes-ok (c .boards) (c .pages) t) scripts-sized) ∙ scripts-hold)

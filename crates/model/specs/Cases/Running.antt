@@ -1,0 +1,61 @@
+-- Scripts and histories run on the bank, by computation. Definitions only: what is computed with them rests on no law. Assumes nothing.
+use Prim.Native.Nat.{ℕ}
+use mathlib.Core.Bool.{Bool, true, _&&_}
+use mathlib.Core.List.{List, [], _∷_}
+use lib.Dec.{eqb, ltb, leb}
+use Rattle.model.specs.Definitions.Layout.{mostBoards, mostPages}
+use Rattle.model.specs.Definitions.Bank.{Bank, boardAt, fresh}
+use Rattle.model.specs.Definitions.Codec.{encode}
+use Rattle.model.specs.Definitions.Replay.{recoveryPoint}
+use Rattle.model.specs.Definitions.Calls.{Call, Result, callBank}
+use Rattle.model.specs.History.Statement.{History, noHistory, accessOf, zeroMemory}
+use Rattle.model.specs.History.Tests.{premiseFor, oneMemoryTest, repeatFor, grantsFor}
+use Rattle.model.specs.History.Banks.{historyAfter, grantsAfter}
+use Rattle.model.specs.Cases.Digest.{digest}
+use Rattle.model.specs.Cases.Table.{Line, Left, Anything, Digest, RecoveryPoint, Script, agrees}
+use Rattle.model.specs.Cases.Worked.{Worked}
+
+-- ---- the table of answers
+
+unfoldable pub leavesOn : Left → Bank → Bool
+leavesOn Anything k = true
+leavesOn (Digest d) k = eqb (digest (encode k)) d
+leavesOn (RecoveryPoint b n) k = eqb (recoveryPoint (boardAt k b)) n
+
+unfoldable pub passesOn : List Line → Left → Bank → Bool
+passesOn [] left k = leavesOn left k
+passesOn (l ∷ ls) left k =
+    let t : Result = callBank (l .asks) k in
+    agrees (l .prints) (record { answer = t .answer; stores = t .run .stores }) && passesOn ls left (t .run .bank)
+
+unfoldable pub passesFresh : Script → Bool
+passesFresh c = passesOn (c .lines) (c .left) (fresh (c .boards) (c .pages))
+
+-- the sizes of a script, by computation
+unfoldable pub sizesTest : ℕ → ℕ → Bool
+sizesTest n p = ltb 0 n && (leb n mostBoards && (ltb 0 p && leb p mostPages))
+
+-- ---- premise and claim
+
+unfoldable pub premisesOn : List Call → Bank → History → Bool
+premisesOn [] k h = true
+premisesOn (c ∷ cs) k h =
+    premiseFor (callBank c k .answer) (λ b. boardAt k b .state) h (accessOf c) && premisesOn cs (callBank c k .run .bank) (historyAfter c k h)
+
+unfoldable pub claimsOn : List Call → Bank → History → (ℕ → ℕ) → Bool
+claimsOn [] k h granted = true
+claimsOn (c ∷ cs) k h granted =
+    (oneMemoryTest zeroMemory (historyAfter c k h .entries)
+    && (repeatFor (callBank c k .answer) h (accessOf c) && grantsFor (callBank c k .run .bank) (grantsAfter c k granted)))
+    && claimsOn cs (callBank c k .run .bank) (historyAfter c k h) (grantsAfter c k granted)
+
+-- the sizes are in range, and premise and claim hold throughout
+unfoldable pub holdsOn : Worked → Bool
+holdsOn h =
+    sizesTest (h .boards) (h .pages)
+    && (premisesOn (h .calls) (fresh (h .boards) (h .pages)) noHistory && claimsOn (h .calls) (fresh (h .boards) (h .pages)) noHistory (λ b. 0))
+
+-- what each board gave in a list of calls
+unfoldable pub grantsIn : List Call → Bank → (ℕ → ℕ) → ℕ → ℕ
+grantsIn [] k g = g
+grantsIn (c ∷ cs) k g = grantsIn cs (callBank c k .run .bank) (grantsAfter c k g)

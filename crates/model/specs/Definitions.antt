@@ -1,0 +1,10 @@
+-- Document 01 as definitions, in its order. No proof stands here: what guards these definitions is under Laws and Cases.
+pub mod Parts
+pub mod Layout
+pub mod Bank
+pub mod Codec
+pub mod WellFormed
+pub mod Steps
+pub mod Replay
+pub mod Answers
+pub mod Calls

@@ -1,0 +1,243 @@
+-- Document 01's calls, for any numbers: first on a bank, then on bytes of any length and content. Each refusal is in the table's order, and the
+-- list of tests shows that order. Assumes nothing.
+use Prim.Native.Nat.{ℕ, _+_}
+use mathlib.Core.Bool.{Bool, true, false, _&&_, _||_, not}
+use mathlib.Core.Option.{Option, none, some}
+use mathlib.Core.List.{List, [], _∷_}
+use lib.ListN.{length}
+use lib.Dec.{eqb, ltb, leb}
+use Rattle.types.specs.declared.CopyOrOwn.{CopyOrOwn}
+use Rattle.types.specs.declared.CopyOrOwn.the-variants.{GotCopy, GotOwn}
+use Rattle.types.specs.declared.Answer.{Answer}
+use Rattle.types.specs.declared.Answer.the-variants.{Done, Malformed, OutOfRange, WrongState, CountersFull, ReplayDiffers, OwnerNotUp, LogFull, PowerLost}
+use Rattle.types.specs.declared.Outcome.{Outcome}
+use Rattle.model.specs.Definitions.Parts.{firstBelow, member}
+use Rattle.model.specs.Definitions.Layout.{byteValues, mostBoards, mostPages, pageSize, slotCount, noFuse, lastSince, lastNumber, bankSize}
+use Rattle.model.specs.Definitions.Bank.{Board, Bank, boardAt, entryAt, onBoard, fresh}
+use Rattle.model.specs.Definitions.Codec.{encode, decode}
+use Rattle.model.specs.Definitions.WellFormed.{wellFormed, isUp, isDown, isReplaying}
+use Rattle.model.specs.Definitions.Steps.{Run, start, step, powerOff, withFuse, checkpoint, Access, Read, Write, pageNamed, takes, valueOf, access, giver, dropCopies, fetch}
+use Rattle.model.specs.Definitions.Replay.{loaded, usedUp, lacking, differs, tookDue, replayOver, endReplay, endIfOver, replayed}
+
+-- ==== a call's result on a bank
+
+pub record Result : Type 0 where
+  pub answer : Answer
+  pub run : Run
+
+-- "Codes: checked in this order": the answer of the first test that holds
+unfoldable pub firstOf : List (Bool × Answer) → Option Answer
+firstOf [] = none
+firstOf (t ∷ ts) = elim (t .0) [ true ↦ some (t .1) | false ↦ firstOf ts ]
+
+-- a refusal leaves the run as it is; without one the call goes on. "Codes 1 to 7 change no byte, except that an access ending a replay keeps what the end did."
+unfoldable pub unless : List (Bool × Answer) → Run → Result → Result
+unless tests r go = elim (firstOf tests) [ some a ↦ record { answer = a; run = r } | none ↦ go ]
+
+-- "8: a fuse blew in this call; who: that board"; else done, with a value
+unfoldable pub finished : ℕ → Run → Result
+finished v r = elim (r .lost) [ some b ↦ record { answer = PowerLost b; run = r } | none ↦ record { answer = Done v; run = r } ]
+
+-- ==== an access of an up board
+
+-- whether an own write finds copies out
+unfoldable pub copiesOut : Access → Bank → Bool
+copiesOut (Read p o) k = false
+copiesOut (Write p o v) k = not (eqb (entryAt k p .copies) 0)
+
+-- "read fetch: reader 1, owner 1; write fetch: writer 1, owner 2, other holders 1": what board c needs when board b fetches page p from o
+unfoldable pub fetchNeed : CopyOrOwn → Bank → ℕ → ℕ → ℕ → ℕ → ℕ
+fetchNeed GotCopy k b o p c = elim (eqb c b) [ true ↦ 1 | false ↦ elim (eqb c o) [ true ↦ 1 | false ↦ 0 ] ]
+fetchNeed GotOwn k b o p c =
+    elim (eqb c b) [
+      | true ↦ 1
+      | false ↦ elim (eqb c o) [ true ↦ 2 | false ↦ elim (member c (entryAt k p .copies)) [ true ↦ 1 | false ↦ 0 ] ]
+    ]
+
+-- "own write: holders 1"
+unfoldable pub dropNeed : Access → Bank → ℕ → ℕ
+dropNeed a k c = elim (copiesOut a k && member c (entryAt k (pageNamed a) .copies)) [ true ↦ 1 | false ↦ 0 ]
+
+unfoldable pub lackingOf : ℕ → Access → Bank → Bool
+lackingOf b a k = lacking a (boardAt k b .working .frames)
+
+-- what board c needs in its log for an access of board b
+unfoldable pub need : ℕ → Access → Bank → ℕ → ℕ
+need b a k c =
+    elim (lackingOf b a k) [ true ↦ fetchNeed (takes a) k b (giver k (pageNamed a)) (pageNamed a) c | false ↦ dropNeed a k c ]
+
+-- "stored + volatile + needed > 32"
+unfoldable pub short : ℕ → Access → Bank → ℕ → Bool
+short b a k c =
+    ltb slotCount (length (boardAt k c .stable .selected .log .records) + length (boardAt k c .working .log .records) + need b a k c)
+
+-- "on some board ..; who: lowest such board"
+unfoldable pub shortBoard : ℕ → Access → Bank → Option ℕ
+shortBoard b a k = firstBelow (length (k .boards)) (short b a k)
+
+unfoldable pub isSome : Option ℕ → Bool
+isSome none = false
+isSome (some n) = true
+
+unfoldable pub numberIn : Option ℕ → ℕ
+numberIn none = 0
+numberIn (some n) = n
+
+-- the refusals of a live access, codes 6 and 7
+unfoldable pub liveRefusals : ℕ → Access → Bank → List (Bool × Answer)
+liveRefusals b a k =
+    (lackingOf b a k && not (isUp (boardAt k (giver k (pageNamed a)) .state)), OwnerNotUp (giver k (pageNamed a)))
+    ∷ (isSome (shortBoard b a k), LogFull (numberIn (shortBoard b a k)))
+    ∷ []
+
+-- what comes before the access itself: a fetch, or the copies of an owned page dropped, or nothing
+unfoldable pub prepared : ℕ → Access → Run → Run
+prepared b a r =
+    elim (lackingOf b a (r .bank)) [
+      | true ↦ fetch (takes a) b (pageNamed a) r
+      | false ↦ elim (copiesOut a (r .bank)) [ true ↦ step (dropCopies (pageNamed a)) r | false ↦ r ]
+    ]
+
+-- the access itself, and its value
+unfoldable pub performed : ℕ → Access → Run → Result
+performed b a r = finished (valueOf a (boardAt (r .bank) b .working .frames)) (step (access b a) r)
+
+unfoldable pub live : ℕ → Access → Run → Result
+live b a r = unless (liveRefusals b a (r .bank)) r (performed b a (prepared b a r))
+
+-- ==== an access of a replaying board
+
+-- "An access whose got was the last record then goes on live", unless the end's own checkpoint blew the fuse
+unfoldable pub liveAfterEnd : ℕ → Access → Run → Result
+liveAfterEnd b a r = elim (r .lost) [ some c ↦ record { answer = PowerLost c; run = r } | none ↦ live b a r ]
+
+-- the byte is read before the end of replay drops rights
+unfoldable pub replaying : ℕ → Access → Bank → Result
+replaying b a k =
+    let taken : Bank = onBoard b (tookDue a) k in
+    elim (replayOver (boardAt taken b)) [
+      | true ↦ liveAfterEnd b a (endReplay b (start taken))
+      | false ↦ finished (valueOf a (boardAt taken b .working .frames)) (endIfOver b (start (onBoard b (replayed a) taken)))
+    ]
+
+-- ==== the calls on a bank
+
+-- "board ≥ N, page ≥ P, offset ≥ 16, value > 255"
+unfoldable pub accessInRange : ℕ → Access → Bank → Bool
+accessInRange b (Read p o) k = ltb b (length (k .boards)) && (ltb p (length (k .directory)) && ltb o pageSize)
+accessInRange b (Write p o v) k =
+    ltb b (length (k .boards)) && (ltb p (length (k .directory)) && (ltb o pageSize && ltb v byteValues))
+
+-- "access with since 65,535 or number 4,294,967,295"
+unfoldable pub countersFull : Board → Bool
+countersFull x = eqb (x .working .since) lastSince || eqb (x .working .number) lastNumber
+
+-- the refusals on entry, codes 2 to 5
+unfoldable pub accessRefusals : ℕ → Access → Bank → List (Bool × Answer)
+accessRefusals b a k =
+    let x : Board = boardAt k b in
+    (not (accessInRange b a k), OutOfRange)
+    ∷ (isDown (x .state), WrongState b)
+    ∷ (countersFull x, CountersFull b)
+    ∷ (isReplaying (x .state) && differs a x, ReplayDiffers b)
+    ∷ []
+
+unfoldable pub accessBank : ℕ → Access → Bank → Result
+accessBank b a k =
+    unless (accessRefusals b a k) (start k)
+    (elim (isReplaying (boardAt k b .state)) [ true ↦ replaying b a k | false ↦ live b a (start k) ])
+
+-- "dark and not restart ..; checkpoint while replaying"
+unfoldable pub checkpointBank : ℕ → Bank → Result
+checkpointBank b k =
+    unless
+    ((not (ltb b (length (k .boards))), OutOfRange) ∷ (not (isUp (boardAt k b .state)), WrongState b) ∷ [])
+    (start k)
+    (finished 0 (checkpoint b (start k)))
+
+unfoldable pub cutBank : ℕ → Bank → Result
+cutBank b k =
+    unless
+    ((not (ltb b (length (k .boards))), OutOfRange) ∷ (isDown (boardAt k b .state), WrongState b) ∷ [])
+    (start k)
+    (finished 0 (step (powerOff b) (start k)))
+
+-- "Fuse k, 1 to 65,534"
+unfoldable pub fuseBank : ℕ → ℕ → Bank → Result
+fuseBank b n k =
+    unless
+    ((not (ltb b (length (k .boards)) && (ltb 0 n && ltb n noFuse)), OutOfRange) ∷ (isDown (boardAt k b .state), WrongState b) ∷ [])
+    (start k)
+    (finished 0 (step (onBoard b (withFuse n)) (start k)))
+
+-- "restart and not dark"; "the checkpoint's access number for restart"
+unfoldable pub restartBank : ℕ → Bank → Result
+restartBank b k =
+    unless
+    ((not (ltb b (length (k .boards))), OutOfRange) ∷ (not (isDown (boardAt k b .state)), WrongState b) ∷ [])
+    (start k)
+    (finished (boardAt k b .stable .selected .number) (endIfOver b (start (onBoard b (λ x. usedUp (loaded x)) k))))
+
+pub data Call : Type 0 where
+  Reading : (board page offset : ℕ) → Call
+  Writing : (board page offset value : ℕ) → Call
+  Checkpointing : (board : ℕ) → Call
+  Cutting : (board : ℕ) → Call
+  Fusing : (board stores : ℕ) → Call
+  Restarting : (board : ℕ) → Call
+
+unfoldable pub callBank : Call → Bank → Result
+callBank (Reading b p o) k = accessBank b (Read p o) k
+callBank (Writing b p o v) k = accessBank b (Write p o v) k
+callBank (Checkpointing b) k = checkpointBank b k
+callBank (Cutting b) k = cutBank b k
+callBank (Fusing b n) k = fuseBank b n k
+callBank (Restarting b) k = restartBank b k
+
+-- ==== the calls on bytes
+
+-- the answer, with its stores, and the bytes left
+pub record Reply : Type 0 where
+  pub outcome : Outcome
+  pub bytes : List ℕ
+
+unfoldable pub refused : Answer → List ℕ → Reply
+refused a s = record { outcome = record { answer = a; stores = 0 }; bytes = s }
+
+unfoldable pub replyOf : Result → Reply
+replyOf t = record { outcome = record { answer = t .answer; stores = t .run .stores }; bytes = encode (t .run .bank) }
+
+-- every call but make: "1: not well formed", then the call on the bank that the bytes stand for
+unfoldable pub call : Call → List ℕ → Reply
+call c s = elim (wellFormed s) [ false ↦ refused Malformed s | true ↦ replyOf (callBank c (decode s)) ]
+
+-- "making a bank checks 2 before 1": "N or P out of range", then "wrong length"
+unfoldable pub make : ℕ → ℕ → List ℕ → Reply
+make boards pages s =
+    elim (ltb 0 boards && (leb boards mostBoards && (ltb 0 pages && leb pages mostPages))) [
+      | false ↦ refused OutOfRange s
+      | true ↦
+          elim (eqb (length s) (bankSize boards pages)) [
+            | false ↦ refused Malformed s
+            | true ↦ record { outcome = record { answer = Done 0; stores = 0 }; bytes = encode (fresh boards pages) }
+          ]
+    ]
+
+-- with make, the seven calls of document 01
+unfoldable pub read : ℕ → ℕ → ℕ → List ℕ → Reply
+read b p o s = call (Reading b p o) s
+
+unfoldable pub write : ℕ → ℕ → ℕ → ℕ → List ℕ → Reply
+write b p o v s = call (Writing b p o v) s
+
+unfoldable pub checkpointCall : ℕ → List ℕ → Reply
+checkpointCall b s = call (Checkpointing b) s
+
+unfoldable pub cut : ℕ → List ℕ → Reply
+cut b s = call (Cutting b) s
+
+unfoldable pub fuse : ℕ → ℕ → List ℕ → Reply
+fuse b n s = call (Fusing b n) s
+
+unfoldable pub restart : ℕ → List ℕ → Reply
+restart b s = call (Restarting b) s

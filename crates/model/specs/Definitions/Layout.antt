@@ -1,0 +1,195 @@
+-- Document 01, "Bytes of a bank": every width, offset and limit of the format, named once. Everything else cites these names.
+-- docs/FORMAT.md draws them. Assumes nothing.
+use Prim.Native.Nat.{ℕ, _+_, _*_}
+
+-- ---- limits
+
+-- "A bank has N boards (1 to 8) and P pages (1 to 16) of 16 bytes."
+abbrev pub mostBoards : ℕ
+mostBoards = 8
+
+abbrev pub mostPages : ℕ
+mostPages = 16
+
+abbrev pub pageSize : ℕ
+pageSize = 16
+
+-- "32 volatile slots", and as many in each area
+abbrev pub slotCount : ℕ
+slotCount = 32
+
+-- "fuse u16 (stores left, 65,535 none)"
+abbrev pub noFuse : ℕ
+noFuse = 65535
+
+-- "access with since 65,535 or number 4,294,967,295": the last value of each counter
+abbrev pub lastSince : ℕ
+lastSince = 65535
+
+abbrev pub lastNumber : ℕ
+lastNumber = 4294967295
+
+-- a byte has 256 values
+abbrev pub byteValues : ℕ
+byteValues = 256
+
+-- ---- widths of fields
+
+abbrev pub fuseSize : ℕ
+fuseSize = 2
+
+abbrev pub numberSize : ℕ
+numberSize = 4
+
+-- since, and a record's count, which takes its value
+abbrev pub sinceSize : ℕ
+sinceSize = 2
+
+-- ---- "Head: bytes 66, 75, then N, P."
+
+abbrev pub headMark0 : ℕ
+headMark0 = 66
+
+abbrev pub headMark1 : ℕ
+headMark1 = 75
+
+abbrev pub boardsAt : ℕ
+boardsAt = 2
+
+abbrev pub pagesAt : ℕ
+pagesAt = 3
+
+abbrev pub headSize : ℕ
+headSize = 4
+
+-- ---- "Directory, per page: owner; copy-set"
+
+abbrev pub ownerAt : ℕ
+ownerAt = 0
+
+abbrev pub copiesAt : ℕ
+copiesAt = 1
+
+abbrev pub entrySize : ℕ
+entrySize = 2
+
+-- ---- "A frame is a right .. and 16 page bytes"
+
+abbrev pub rightAt : ℕ
+rightAt = 0
+
+abbrev pub frameBytesAt : ℕ
+frameBytesAt = 1
+
+abbrev pub frameSize : ℕ
+frameSize = frameBytesAt + pageSize
+
+-- ---- "A slot is 22 bytes: a two-byte mark, page, a zero byte, count u16, 16 bytes."
+
+abbrev pub mark0At : ℕ
+mark0At = 0
+
+abbrev pub mark1At : ℕ
+mark1At = 1
+
+abbrev pub slotPageAt : ℕ
+slotPageAt = 2
+
+abbrev pub slotZeroAt : ℕ
+slotZeroAt = 3
+
+abbrev pub recordCountAt : ℕ
+recordCountAt = 4
+
+abbrev pub slotBytesAt : ℕ
+slotBytesAt = recordCountAt + sinceSize
+
+abbrev pub slotSize : ℕ
+slotSize = slotBytesAt + pageSize
+
+abbrev pub slotsSize : ℕ
+slotsSize = slotCount * slotSize
+
+-- "Marks: "GC" got copy, "GO" got own, "SH" shown, "DR" dropped": the letters
+abbrev pub letterG : ℕ
+letterG = 71
+
+abbrev pub letterC : ℕ
+letterC = 67
+
+abbrev pub letterO : ℕ
+letterO = 79
+
+abbrev pub letterS : ℕ
+letterS = 83
+
+abbrev pub letterH : ℕ
+letterH = 72
+
+abbrev pub letterD : ℕ
+letterD = 68
+
+abbrev pub letterR : ℕ
+letterR = 82
+
+-- ---- "An area: access number u32, stored count u8, P frames, 32 slots."
+
+abbrev pub areaNumberAt : ℕ
+areaNumberAt = 0
+
+abbrev pub areaCountAt : ℕ
+areaCountAt = areaNumberAt + numberSize
+
+abbrev pub areaFramesAt : ℕ
+areaFramesAt = areaCountAt + 1
+
+abbrev pub areaSlotsAt : ℕ → ℕ
+areaSlotsAt pages = areaFramesAt + pages * frameSize
+
+abbrev pub areaSize : ℕ → ℕ
+areaSize pages = areaSlotsAt pages + slotsSize
+
+-- ---- a block: "state, selector, fuse u16, access number u32, since u16, replay place u8, volatile count u8, P frames, 32 volatile slots, two areas"
+
+abbrev pub stateAt : ℕ
+stateAt = 0
+
+abbrev pub selectorAt : ℕ
+selectorAt = stateAt + 1
+
+abbrev pub fuseAt : ℕ
+fuseAt = selectorAt + 1
+
+abbrev pub numberAt : ℕ
+numberAt = fuseAt + fuseSize
+
+abbrev pub sinceAt : ℕ
+sinceAt = numberAt + numberSize
+
+abbrev pub placeAt : ℕ
+placeAt = sinceAt + sinceSize
+
+abbrev pub volatileCountAt : ℕ
+volatileCountAt = placeAt + 1
+
+abbrev pub framesAt : ℕ
+framesAt = volatileCountAt + 1
+
+abbrev pub slotsAt : ℕ → ℕ
+slotsAt pages = framesAt + pages * frameSize
+
+-- the place of area 0 or 1
+abbrev pub areaAt : ℕ → ℕ → ℕ
+areaAt pages area = slotsAt pages + slotsSize + area * areaSize pages
+
+abbrev pub blockSize : ℕ → ℕ
+blockSize pages = areaAt pages 2
+
+-- ---- the bank
+
+abbrev pub blocksAt : ℕ → ℕ
+blocksAt pages = headSize + pages * entrySize
+
+-- "Length 4 + 2P + N(2134 + 51P)."
+abbrev pub bankSize : ℕ → ℕ → ℕ
+bankSize boards pages = blocksAt pages + boards * blockSize pages

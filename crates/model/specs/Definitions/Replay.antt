@@ -1,0 +1,155 @@
+-- Document 01, "Restart", "Replay" and "End of replay". A replaying board goes by itself: each step is of one board and of the pages that the
+-- directory gives it, and no other board is read. Assumes nothing.
+use Prim.Native.Nat.{ℕ, _+_}
+use mathlib.Core.Bool.{Bool, true, false, _&&_, not}
+use mathlib.Core.Option.{Option, none, some}
+use mathlib.Core.List.{List, [], _∷_}
+use lib.ListN.{length, drop, set}
+use lib.Dec.{eqb, leb}
+use Rattle.types.specs.declared.Right.{Right}
+use Rattle.types.specs.declared.Right.the-variants.{None, Copy, Own}
+use Rattle.types.specs.declared.Frame.{Frame}
+use Rattle.types.specs.declared.CopyOrOwn.{CopyOrOwn}
+use Rattle.types.specs.declared.CopyOrOwn.the-variants.{GotCopy, GotOwn}
+use Rattle.types.specs.declared.Kind.{Kind}
+use Rattle.types.specs.declared.Kind.the-variants.{Got, Shown, Dropped}
+use Rattle.types.specs.declared.Record.{Record}
+use Rattle.types.specs.declared.State.the-variants.{Up, Replaying}
+use Rattle.model.specs.Definitions.Parts.{each}
+use Rattle.model.specs.Definitions.Bank.{Working, Board, emptyFrame, boardAt, entryAt, frameAt, onBoard, onWorking}
+use Rattle.model.specs.Definitions.Steps.{Run, step, checkpoint, Access, pageNamed, lacks, takes, accessed}
+
+-- "Restart: frames and number from the selected area, state replaying, place and since 0."
+unfoldable pub loaded : Board → Board
+loaded x =
+    record {
+      state = Replaying;
+      fuse = x .fuse;
+      working =
+          record {
+            number = x .stable .selected .number;
+            since = 0;
+            place = 0;
+            frames = x .stable .selected .frames;
+            log = x .working .log;
+          };
+      stable = x .stable;
+    }
+
+-- the stored records that replay has not used yet
+unfoldable pub recordsLeft : Board → List Record
+recordsLeft x = drop (x .working .place) (x .stable .selected .log .records)
+
+-- one record used: the next place, the frames as the record leaves them, since 0
+unfoldable pub used : List Frame → Working → Working
+used fs w = record { number = w .number; since = 0; place = w .place + 1; frames = fs; log = w .log }
+
+-- "use up every shown or dropped record whose count equals since (dropped clears the frame; since becomes 0)"
+unfoldable pub useUp : List Record → Working → Working
+useUp [] w = w
+useUp (r ∷ rs) w =
+    elim (eqb (r .count) (w .since)) [
+      | false ↦ w
+      | true ↦
+          elim (r .kind) [
+            | Got g p ↦ w
+            | Shown p ↦ useUp rs (used (w .frames) w)
+            | Dropped p ↦ useUp rs (used (set (w .frames) p emptyFrame) w)
+          ]
+    ]
+
+unfoldable pub usedUp : Board → Board
+usedUp x = onWorking (useUp (recordsLeft x)) x
+
+-- "A got record is due when it is next and its count equals since."
+unfoldable pub gotDue : List Record → ℕ → Option Record
+gotDue [] since = none
+gotDue (r ∷ rs) since =
+    elim (eqb (r .count) since) [
+      | false ↦ none
+      | true ↦ elim (r .kind) [ Got g p ↦ some r | Shown p ↦ none | Dropped p ↦ none ]
+    ]
+
+unfoldable pub due : Board → Option Record
+due x = gotDue (recordsLeft x) (x .working .since)
+
+unfoldable pub sameGot : CopyOrOwn → CopyOrOwn → Bool
+sameGot GotCopy GotCopy = true
+sameGot GotCopy GotOwn = false
+sameGot GotOwn GotCopy = false
+sameGot GotOwn GotOwn = true
+
+-- whether an access lacks the right to its page in these frames
+unfoldable pub lacking : Access → List Frame → Bool
+lacking a fs = lacks a (frameAt fs (pageNamed a) .right)
+
+-- "an access that needs it: its page, a read with right none for copy, a write without right own for own"
+unfoldable pub needsGot : Access → List Frame → Kind → Bool
+needsGot a fs (Got g p) = eqb p (pageNamed a) && (sameGot g (takes a) && lacking a fs)
+needsGot a fs (Shown p) = false
+needsGot a fs (Dropped p) = false
+
+-- code 5: "a got is due and the access doesn't need it, or the access lacks a right and no fitting got is due"
+unfoldable pub differs : Access → Board → Bool
+differs a x = elim (due x) [ some r ↦ not (needsGot a (x .working .frames) (r .kind)) | none ↦ lacking a (x .working .frames) ]
+
+-- the right that a got record gives
+unfoldable pub rightGot : Kind → Right
+rightGot (Got GotCopy p) = Copy
+rightGot (Got GotOwn p) = Own
+rightGot (Shown p) = None
+rightGot (Dropped p) = None
+
+-- "The frame then takes its right and bytes, and since becomes 0."
+unfoldable pub tookGot : ℕ → Record → Working → Working
+tookGot p r w = used (set (w .frames) p (record { right = rightGot (r .kind); bytes = r .bytes })) w
+
+-- a due got is used by the access that needs it; without one nothing changes
+unfoldable pub tookDue : Access → Board → Board
+tookDue a x = elim (due x) [ none ↦ x | some r ↦ onWorking (tookGot (pageNamed a) r) x ]
+
+-- "when no record is left"
+unfoldable pub replayOver : Board → Bool
+replayOver x = leb (length (x .stable .selected .log .records)) (x .working .place)
+
+-- "pages the directory gives to others lose their right; those it gives this board are own"
+unfoldable pub settledFrame : Bool → Frame → Frame
+settledFrame true f = record { right = Own; bytes = f .bytes }
+settledFrame false f = emptyFrame
+
+-- ".. place 0; state up"; `owned` says which pages the directory gives this board
+unfoldable pub settled : (ℕ → Bool) → Board → Board
+settled owned x =
+    record {
+      state = Up;
+      fuse = x .fuse;
+      working =
+          record {
+            number = x .working .number;
+            since = x .working .since;
+            place = 0;
+            frames = each (λ p f. settledFrame (owned p) f) (x .working .frames);
+            log = x .working .log;
+          };
+      stable = x .stable;
+    }
+
+-- "End of replay ..: ..; checkpoint."
+unfoldable pub endReplay : ℕ → Run → Run
+endReplay b r = checkpoint b (step (λ k. onBoard b (settled (λ p. eqb (entryAt k p .owner) b)) k) r)
+
+-- the end of replay, "when no record is left (inside the restart or access that used the last)"
+unfoldable pub endIfOver : ℕ → Run → Run
+endIfOver b r = elim (replayOver (boardAt (r .bank) b)) [ true ↦ endReplay b r | false ↦ r ]
+
+-- a replayed access that doesn't end the replay before it: local, then the records that it makes due are used up
+unfoldable pub replayed : Access → Board → Board
+replayed a x = usedUp (onWorking (accessed a) x)
+
+unfoldable pub countSum : List Record → ℕ
+countSum [] = 0
+countSum (r ∷ rs) = r .count + countSum rs
+
+-- "The stand point is the selected area's number plus the counts of its stored records." The field's word is recovery point.
+unfoldable pub recoveryPoint : Board → ℕ
+recoveryPoint x = x .stable .selected .number + countSum (x .stable .selected .log .records)

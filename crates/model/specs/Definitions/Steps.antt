@@ -1,0 +1,311 @@
+-- Document 01, "Steps", up to the cut: what one board or several do to the bank, one micro-step each, and the stores that a power loss can follow.
+-- A call in progress is a `Run`: once a fuse blew, every later step passes it on unchanged. Assumes nothing.
+use Prim.Native.Nat.{ℕ, zero, suc, _+_, _-_}
+use mathlib.Core.Bool.{Bool, true, false, _&&_, _||_, not}
+use mathlib.Core.Option.{Option, none, some}
+use mathlib.Core.List.{List, [], _∷_, _++_, map}
+use lib.ListN.{length, drop, set, getD}
+use lib.Dec.{eqb}
+use Rattle.types.specs.declared.Right.{Right}
+use Rattle.types.specs.declared.Right.the-variants.{None, Copy, Own}
+use Rattle.types.specs.declared.Frame.{Frame}
+use Rattle.types.specs.declared.CopyOrOwn.{CopyOrOwn}
+use Rattle.types.specs.declared.CopyOrOwn.the-variants.{GotCopy, GotOwn}
+use Rattle.types.specs.declared.Kind.{Kind}
+use Rattle.types.specs.declared.Kind.the-variants.{Got, Shown, Dropped}
+use Rattle.types.specs.declared.Record.{Record}
+use Rattle.types.specs.declared.State.the-variants.{Down}
+use Rattle.model.specs.Definitions.Parts.{zeros, each, member, withMember, withoutMember, encodeAll}
+use Rattle.model.specs.Definitions.Layout.{pageSize, slotSize, noFuse}
+use Rattle.model.specs.Definitions.Bank.{Entry, Log, Working, Board, Bank, emptyFrame, emptyLog, boardAt, entryAt, frameAt, onBoard, onEntry, onWorking, onSpare, onFrames}
+use Rattle.model.specs.Definitions.Codec.{encodeRecord}
+
+-- ==== a call in progress
+
+-- the bank so far, "stable stores made in the call", and the board whose fuse blew, if one did
+pub record Run : Type 0 where
+  pub bank : Bank
+  pub stores : ℕ
+  pub lost : Option ℕ
+
+unfoldable pub start : Bank → Run
+start k = record { bank = k; stores = 0; lost = none }
+
+-- a step that stores nothing; "Code 8 keeps the steps done up to the cut and does none after."
+unfoldable pub step : (Bank → Bank) → Run → Run
+step f r = elim (r .lost) [ some b ↦ r | none ↦ record { bank = f (r .bank); stores = r .stores; lost = none } ]
+
+-- "Cut: frames, since, access number, replay place, volatile log and slots become zero, fuse none, state dark, its copy-set bits 0."
+unfoldable pub poweredOff : Board → Board
+poweredOff x =
+    record {
+      state = Down;
+      fuse = noFuse;
+      working = record { number = 0; since = 0; place = 0; frames = map (λ f. emptyFrame) (x .working .frames); log = emptyLog };
+      stable = x .stable;
+    }
+
+-- "The directory is battery-kept and survives every cut": only the board's bits go.
+unfoldable pub forgotten : ℕ → Entry → Entry
+forgotten b e = record { owner = e .owner; copies = withoutMember b (e .copies) }
+
+unfoldable pub powerOff : ℕ → Bank → Bank
+powerOff b k = onBoard b poweredOff (record { directory = map (forgotten b) (k .directory); boards = k .boards })
+
+-- "Fuse k .. : cut after its k-th next store."
+unfoldable pub withFuse : ℕ → Board → Board
+withFuse n x = record { state = x .state; fuse = n; working = x .working; stable = x .stable }
+
+-- "A store lowers its board's set fuse"
+unfoldable pub burnt : Board → Board
+burnt x = elim (eqb (x .fuse) noFuse) [ true ↦ x | false ↦ withFuse (x .fuse - 1) x ]
+
+-- One stable store of board b, which does `f` to it; "at 0 the board goes dark right after it". The only step that counts a store.
+unfoldable pub store : ℕ → (Board → Board) → Run → Run
+store b f r =
+    elim (r .lost) [
+      | some c ↦ r
+      | none ↦
+          let k : Bank = onBoard b burnt (onBoard b f (r .bank)) in
+          elim (eqb (boardAt k b .fuse) 0) [
+            | true ↦ record { bank = powerOff b k; stores = r .stores + 1; lost = some b }
+            | false ↦ record { bank = k; stores = r .stores + 1; lost = none }
+          ]
+    ]
+
+-- ==== records
+
+-- one record more behind a log's records: it takes the next slot
+unfoldable pub appended : Record → Log → Log
+appended r l = record { records = l .records ++ (r ∷ []); rest = drop slotSize (l .rest) }
+
+-- "Record: takes the board's since as its count, then since becomes 0. It enters the volatile log."
+unfoldable pub recorded : Kind → List ℕ → Working → Working
+recorded kind bytes w =
+    record {
+      number = w .number;
+      since = 0;
+      place = w .place;
+      frames = w .frames;
+      log = appended (record { count = w .since; kind = kind; bytes = bytes }) (w .log);
+    }
+
+unfoldable pub note : ℕ → Kind → List ℕ → Bank → Bank
+note b kind bytes k = onBoard b (onWorking (recorded kind bytes)) k
+
+-- "one record appended to the selected area": the first volatile record r, whose slot becomes zero; rs are the volatile ones behind it.
+-- Between two stores of a flush these stand one slot lower than in the bytes; no caller sees that.
+unfoldable pub movedRecord : Record → List Record → Board → Board
+movedRecord r rs x =
+    record {
+      state = x .state;
+      fuse = x .fuse;
+      working =
+          record {
+            number = x .working .number;
+            since = x .working .since;
+            place = x .working .place;
+            frames = x .working .frames;
+            log = record { records = rs; rest = zeros slotSize ++ x .working .log .rest };
+          };
+      stable =
+          record {
+            second = x .stable .second;
+            selected =
+                record {
+                  number = x .stable .selected .number;
+                  frames = x .stable .selected .frames;
+                  log = appended r (x .stable .selected .log);
+                };
+            spare = x .stable .spare;
+          };
+    }
+
+-- the next record of a flush; a flush stores as many as there are
+unfoldable pub storedRecord : Board → Board
+storedRecord x = elim (x .working .log .records) [ [] ↦ x | r ∷ rs ↦ movedRecord r rs x ]
+
+unfoldable pub storeRecords : ℕ → ℕ → Run → Run
+storeRecords zero b r = r
+storeRecords (suc n) b r = storeRecords n b (store b storedRecord r)
+
+-- "Flush stores the volatile records in order, zeroing their slots."
+unfoldable pub flush : ℕ → Run → Run
+flush b r = storeRecords (length (boardAt (r .bank) b .working .log .records)) b r
+
+-- ==== checkpoint
+
+-- "one area frame": page p's frame goes to the spare area
+unfoldable pub storedFrame : ℕ → Board → Board
+storedFrame p x =
+    onSpare
+    (λ a. record { number = a .number; frames = set (a .frames) p (frameAt (x .working .frames) p); log = a .log })
+    x
+
+-- "one area head (number and stored count 0)"; the old slots stay as they are
+unfoldable pub storedHead : Board → Board
+storedHead x =
+    onSpare
+    (λ a.
+    record {
+      number = x .working .number;
+      frames = a .frames;
+      log = record { records = []; rest = encodeAll encodeRecord (a .log .records) ++ a .log .rest };
+    })
+    x
+
+-- "one selector": the spare area becomes the selected one
+unfoldable pub storedSelector : Board → Board
+storedSelector x =
+    record {
+      state = x .state;
+      fuse = x .fuse;
+      working = x .working;
+      stable = record { second = not (x .stable .second); selected = x .stable .spare; spare = x .stable .selected };
+    }
+
+-- "then since is 0 and the volatile log is emptied and zeroed"
+unfoldable pub restedWorking : Working → Working
+restedWorking w = record { number = w .number; since = 0; place = w .place; frames = w .frames; log = emptyLog }
+
+-- frames p, p + 1, .., n of them, "in page order"
+unfoldable pub storeFrames : ℕ → ℕ → ℕ → Run → Run
+storeFrames p zero b r = r
+storeFrames p (suc n) b r = storeFrames (suc p) n b (store b (storedFrame p) r)
+
+-- "While a checkpoint stores frames and head, the spare area is written, nothing else in the block but the fuse, or what a cut changes."
+-- "Checkpoint: P frames to the spare area in page order, its head, the selector (P + 2 stores); then ..."
+unfoldable pub checkpoint : ℕ → Run → Run
+checkpoint b r =
+    step (onBoard b (onWorking restedWorking))
+    (store b storedSelector (store b storedHead (storeFrames 0 (length (r .bank .directory)) b r)))
+
+-- ==== accesses
+
+-- what a read or a write asks for
+pub data Access : Type 0 where
+  Read : (page offset : ℕ) → Access
+  Write : (page offset value : ℕ) → Access
+
+-- one byte of the shared memory
+pub record Cell : Type 0 where
+  pub page : ℕ
+  pub offset : ℕ
+
+unfoldable pub pageNamed : Access → ℕ
+pageNamed (Read p o) = p
+pageNamed (Write p o v) = p
+
+-- which cells an access reads
+unfoldable pub cellsRead : Access → List Cell
+cellsRead (Read p o) = record { page = p; offset = o } ∷ []
+cellsRead (Write p o v) = []
+
+-- which cells an access writes, each with its byte
+unfoldable pub cellsWritten : Access → List (Cell × ℕ)
+cellsWritten (Read p o) = []
+cellsWritten (Write p o v) = (record { page = p; offset = o }, v) ∷ []
+
+-- "local if a read has any right or a write has right own": whether a right is too little
+unfoldable pub lacks : Access → Right → Bool
+lacks (Read p o) None = true
+lacks (Read p o) Copy = false
+lacks (Read p o) Own = false
+lacks (Write p o v) None = true
+lacks (Write p o v) Copy = true
+lacks (Write p o v) Own = false
+
+-- which got record an access that lacks a right takes
+unfoldable pub takes : Access → CopyOrOwn
+takes (Read p o) = GotCopy
+takes (Write p o v) = GotOwn
+
+unfoldable pub cellByte : List Frame → Cell → ℕ
+cellByte fs c = getD (frameAt fs (c .page) .bytes) (c .offset) 0
+
+unfoldable pub withByte : Cell → ℕ → List Frame → List Frame
+withByte c v fs =
+    set fs (c .page) (record { right = frameAt fs (c .page) .right; bytes = set (frameAt fs (c .page) .bytes) (c .offset) v })
+
+unfoldable pub withBytes : List (Cell × ℕ) → List Frame → List Frame
+withBytes [] fs = fs
+withBytes (w ∷ ws) fs = withBytes ws (withByte (w .0) (w .1) fs)
+
+-- "value (the byte read ..; 0 for the rest)"
+unfoldable pub valueOf : Access → List Frame → ℕ
+valueOf a fs = elim (cellsRead a) [ [] ↦ 0 | c ∷ cs ↦ cellByte fs c ]
+
+-- "A done access adds 1 to access number and since"
+unfoldable pub accessed : Access → Working → Working
+accessed a w =
+    record {
+      number = w .number + 1;
+      since = w .since + 1;
+      place = w .place;
+      frames = withBytes (cellsWritten a) (w .frames);
+      log = w .log;
+    }
+
+unfoldable pub access : ℕ → Access → Bank → Bank
+access b a k = onBoard b (onWorking (accessed a)) k
+
+-- ==== fetches
+
+-- a board with another frame of page p, and the frame of a board
+unfoldable pub withFrame : ℕ → Frame → Board → Board
+withFrame p f x = onWorking (onFrames (λ fs. set fs p f)) x
+
+unfoldable pub frameOf : Bank → ℕ → ℕ → Frame
+frameOf k b p = frameAt (boardAt k b .working .frames) p
+
+-- who gives a page: its owner
+unfoldable pub giver : Bank → ℕ → ℕ
+giver k p = entryAt k p .owner
+
+-- the giver's part of every fetch: "owner records shown and flushes"
+unfoldable pub show : ℕ → ℕ → Run → Run
+show o p r = flush o (step (note o (Shown p) (zeros pageSize)) r)
+
+-- "reader records got copy, gains the copy and its bit"
+unfoldable pub giveCopy : ℕ → ℕ → ℕ → Bank → Bank
+giveCopy o b p k =
+    let bytes : List ℕ = frameOf k o p .bytes in
+    onEntry p (λ e. record { owner = e .owner; copies = withMember b (e .copies) })
+    (onBoard b (withFrame p (record { right = Copy; bytes = bytes })) (note b (Got GotCopy p) bytes k))
+
+-- "record dropped and lose the right"
+unfoldable pub dropped : ℕ → Board → Board
+dropped p x = withFrame p emptyFrame (onWorking (recorded (Dropped p) (zeros pageSize)) x)
+
+-- the boards that pass a test do so together
+unfoldable pub dropAt : (ℕ → Bool) → ℕ → Bank → Bank
+dropAt loses p k =
+    record { directory = k .directory; boards = each (λ c x. elim (loses c) [ true ↦ dropped p x | false ↦ x ]) (k .boards) }
+
+-- "Own write with copies out: each holder records dropped and loses its copy, the copy-set empties."
+unfoldable pub dropCopies : ℕ → Bank → Bank
+dropCopies p k =
+    onEntry p (λ e. record { owner = e .owner; copies = 0 }) (dropAt (λ c. member c (entryAt k p .copies)) p k)
+
+-- "then together owner and all copy holders but the writer record dropped and lose the right, the writer gains right own and the page,
+-- the directory names the writer, the copy-set empties"
+unfoldable pub passOwnership : ℕ → ℕ → ℕ → Bank → Bank
+passOwnership o w p k =
+    onEntry p (λ e. record { owner = w; copies = 0 })
+    (onBoard w (withFrame p (record { right = Own; bytes = frameOf k o p .bytes }))
+    (dropAt (λ c. not (eqb c w) && (eqb c o || member c (entryAt k p .copies))) p k))
+
+-- "Read fetch: owner records shown and flushes; reader records got copy, gains the copy and its bit."
+unfoldable pub readFetch : ℕ → ℕ → Run → Run
+readFetch b p r = let o : ℕ = giver (r .bank) p in step (giveCopy o b p) (show o p r)
+
+-- "Write fetch: owner records shown and flushes; writer records got own and flushes; then together .."
+unfoldable pub writeFetch : ℕ → ℕ → Run → Run
+writeFetch w p r =
+    let o : ℕ = giver (r .bank) p in
+    step (passOwnership o w p) (flush w (step (λ k. note w (Got GotOwn p) (frameOf k o p .bytes) k) (show o p r)))
+
+-- the fetch that brings a copy, or ownership
+unfoldable pub fetch : CopyOrOwn → ℕ → ℕ → Run → Run
+fetch GotCopy b p r = readFetch b p r
+fetch GotOwn b p r = writeFetch b p r

@@ -1,0 +1,241 @@
+-- Document 01, "The roll": the history of a bank, its premise and its claim, over a list of calls that are run on bytes. Definitions only.
+-- No board keeps the history: it is fed with the calls' arguments, their answers and, at a power loss, the recovery point that the steps left.
+-- Assumes nothing.
+use mathlib.Core.Path.{_≡_}
+use Prim.Native.Nat.{ℕ, zero, suc, _+_, _≤_, _<_}
+use mathlib.Core.Bool.{Bool, true, false}
+use mathlib.Core.Option.{Option, none, some}
+use mathlib.Core.Logic.{_⊎_}
+use mathlib.Core.List.{List, [], _∷_, _++_, map}
+use lib.ListN.{length, set, getD, getElem?}
+use lib.Dec.{eqb, ltb}
+use Rattle.types.specs.declared.State.the-variants.{Replaying}
+use Rattle.types.specs.declared.Answer.{Answer}
+use Rattle.types.specs.declared.Answer.the-variants.{Done, Malformed, OutOfRange, WrongState, CountersFull, ReplayDiffers, OwnerNotUp, LogFull, PowerLost}
+use Rattle.model.specs.Definitions.Parts.{zeros}
+use Rattle.model.specs.Definitions.Layout.{pageSize}
+use Rattle.model.specs.Definitions.Bank.{Bank, boardAt, onBoard, fresh}
+use Rattle.model.specs.Definitions.Codec.{encode, decode}
+use Rattle.model.specs.Definitions.WellFormed.{isReplaying}
+use Rattle.model.specs.Definitions.Steps.{start, Access, Read, Write, pageNamed, Cell, cellsRead, cellsWritten, giver}
+use Rattle.model.specs.Definitions.Replay.{tookDue, replayOver, endReplay, recoveryPoint}
+use Rattle.model.specs.Definitions.Answers.{code}
+use Rattle.model.specs.Definitions.Calls.{Call, Reading, Writing, Checkpointing, Cutting, Fusing, Restarting, Reply, call, lackingOf}
+
+-- ==== the history
+
+-- A line of the roll: "board, kind, page, offset, the byte read or written". The access says the cells it reads and writes; a byte for each cell read stands beside it.
+pub record HistoryEntry : Type 0 where
+  pub board : ℕ
+  pub access : Access
+  pub bytesRead : List ℕ
+
+-- The roll, and each board's mark: how many of its lines the board has made or repeated.
+pub record History : Type 0 where
+  pub entries : List HistoryEntry
+  pub cursor : ℕ → ℕ
+
+-- "It starts empty, each board's mark at 0."
+unfoldable pub noHistory : History
+noHistory = record { entries = []; cursor = λ b. 0 }
+
+-- a board's own entries, in order
+unfoldable pub ofBoard : ℕ → List HistoryEntry → List HistoryEntry
+ofBoard b [] = []
+ofBoard b (e ∷ es) = elim (eqb (e .board) b) [ true ↦ e ∷ ofBoard b es | false ↦ ofBoard b es ]
+
+-- "the cut board's lines .., counted from 1, are struck above its stand point and gone":
+-- of board b's entries the first n stay, and all of the other boards' do
+unfoldable pub discard : ℕ → ℕ → List HistoryEntry → List HistoryEntry
+discard b n [] = []
+discard b n (e ∷ es) =
+    elim (eqb (e .board) b) [
+      | false ↦ e ∷ discard b n es
+      | true ↦ elim n [ zero ↦ discard b zero es | suc m ↦ e ∷ discard b m es ]
+    ]
+
+-- ==== what a call does to the history
+
+pub data Event : Type 0 where
+  Accessed : (board : ℕ) (access : Access) (value : ℕ) → Event
+  Restarted : (board value : ℕ) → Event
+  LostPower : (board : ℕ) → Event
+  Nothing : Event
+
+-- a call answered 0
+unfoldable pub doneEvent : Call → ℕ → Event
+doneEvent (Reading b p o) v = Accessed b (Read p o) v
+doneEvent (Writing b p o w) v = Accessed b (Write p o w) v
+doneEvent (Checkpointing b) v = Nothing
+doneEvent (Cutting b) v = LostPower b
+doneEvent (Fusing b n) v = Nothing
+doneEvent (Restarting b) v = Restarted b v
+
+-- "Cut answered 0", and "any call answered 8": under 8 it is the board that `who` names. "All else: nothing."
+unfoldable pub eventOf : Call → Answer → Event
+eventOf c (Done v) = doneEvent c v
+eventOf c Malformed = Nothing
+eventOf c OutOfRange = Nothing
+eventOf c (WrongState b) = Nothing
+eventOf c (CountersFull b) = Nothing
+eventOf c (ReplayDiffers b) = Nothing
+eventOf c (OwnerNotUp b) = Nothing
+eventOf c (LogFull b) = Nothing
+eventOf c (PowerLost b) = LostPower b
+
+-- how many entries a board has
+unfoldable pub entryCount : ℕ → History → ℕ
+entryCount b h = length (ofBoard b (h .entries))
+
+-- whether a board's next access repeats an entry: "its board's mark is below the number of its lines"
+unfoldable pub repeats : ℕ → History → Bool
+repeats b h = ltb (h .cursor b) (entryCount b h)
+
+unfoldable pub withNumberOf : ℕ → ℕ → (ℕ → ℕ) → ℕ → ℕ
+withNumberOf b n cursor c = elim (eqb c b) [ true ↦ n | false ↦ cursor c ]
+
+-- the byte that an access read, if it reads
+unfoldable pub bytesFrom : Access → ℕ → List ℕ
+bytesFrom a v = elim (cellsRead a) [ [] ↦ [] | c ∷ cs ↦ v ∷ [] ]
+
+-- "Else it adds a line at the end"
+unfoldable pub withEntry : ℕ → Access → ℕ → History → List HistoryEntry
+withEntry b a v h =
+    elim (repeats b h) [
+      | true ↦ h .entries
+      | false ↦ h .entries ++ (record { board = b; access = a; bytesRead = bytesFrom a v } ∷ [])
+    ]
+
+-- the history after an event; `k` is the bank that the call left
+unfoldable pub fed : Event → Bank → History → History
+fed (Accessed b a v) k h = record { entries = withEntry b a v h; cursor = withNumberOf b (h .cursor b + 1) (h .cursor) }
+fed (Restarted b v) k h = record { entries = h .entries; cursor = withNumberOf b v (h .cursor) }
+fed (LostPower b) k h = record { entries = discard b (recoveryPoint (boardAt k b)) (h .entries); cursor = h .cursor }
+fed Nothing k h = h
+
+-- ==== one memory
+
+-- the bytes of each page
+abbrev pub Memory : Type 0
+Memory = ℕ → List ℕ
+
+unfoldable pub zeroMemory : Memory
+zeroMemory p = zeros pageSize
+
+unfoldable pub byteIn : Memory → Cell → ℕ
+byteIn m c = getD (m (c .page)) (c .offset) 0
+
+unfoldable pub written : List (Cell × ℕ) → Memory → Memory
+written [] m = m
+written (w ∷ ws) m = written ws (λ p. elim (eqb p (w .0 .page)) [ true ↦ set (m p) (w .0 .offset) (w .1) | false ↦ m p ])
+
+-- "one memory, at first zero, that takes the lines from the top gives each read line's byte"
+unfoldable pub OneMemory : Memory → List HistoryEntry → Type 0
+OneMemory m [] = Unit
+OneMemory m (e ∷ es) = (e .bytesRead ≡ map (byteIn m) (cellsRead (e .access))) × OneMemory (written (cellsWritten (e .access)) m) es
+
+-- ==== a bank and its history
+
+-- `granted` holds each board's access number when it last gave a page away, 0 if it never did
+pub record System : Type 0 where
+  pub bytes : List ℕ
+  pub history : History
+  pub granted : ℕ → ℕ
+
+-- a fresh bank: what `make` leaves (OnBytes, make-begins)
+unfoldable pub begin : ℕ → ℕ → System
+begin n p = record { bytes = encode (fresh n p); history = noHistory; granted = λ b. 0 }
+
+-- the access of a call, with its board
+unfoldable pub accessOf : Call → Option (ℕ × Access)
+accessOf (Reading b p o) = some (b, Read p o)
+accessOf (Writing b p o v) = some (b, Write p o v)
+accessOf (Checkpointing b) = none
+accessOf (Cutting b) = none
+accessOf (Fusing b n) = none
+accessOf (Restarting b) = none
+
+-- the bank on which an access answered 0 goes on live, if it does: of an up board, and of a replaying board whose due got was the last record
+unfoldable pub liveBank : ℕ → Access → Bank → Option Bank
+liveBank b a k =
+    elim (isReplaying (boardAt k b .state)) [
+      | false ↦ some k
+      | true ↦
+          elim (replayOver (boardAt (onBoard b (tookDue a) k) b)) [
+            | true ↦ some (endReplay b (start (onBoard b (tookDue a) k)) .bank)
+            | false ↦ none
+          ]
+    ]
+
+-- who gave a page away: "A board gives a page away when another board's fetch from it is done."
+unfoldable pub giverIn : ℕ → Access → Option Bank → Option ℕ
+giverIn b a none = none
+giverIn b a (some k) = elim (lackingOf b a k) [ true ↦ some (giver k (pageNamed a)) | false ↦ none ]
+
+unfoldable pub gaveIn : Event → Bank → Option ℕ
+gaveIn (Accessed b a v) k = giverIn b a (liveBank b a k)
+gaveIn (Restarted b v) k = none
+gaveIn (LostPower b) k = none
+gaveIn Nothing k = none
+
+-- a giver's access number, which the call doesn't change, is noted
+unfoldable pub grantedAfter : Option ℕ → Bank → (ℕ → ℕ) → ℕ → ℕ
+grantedAfter none k g = g
+grantedAfter (some o) k g = withNumberOf o (boardAt k o .working .number) g
+
+-- a call, run on the bytes that the last one left
+unfoldable pub after : Call → System → System
+after c t =
+    let r : Reply = call c (t .bytes) in
+    let e : Event = eventOf c (r .outcome .answer) in
+    record {
+      bytes = r .bytes;
+      history = fed e (decode (r .bytes)) (t .history);
+      granted = grantedAfter (gaveIn e (decode (t .bytes))) (decode (t .bytes)) (t .granted);
+    }
+
+-- ==== premise and claim
+
+-- the entry that a board's next access repeats, if there is one
+unfoldable pub nextEntry : ℕ → History → Option HistoryEntry
+nextEntry b h = getElem? (ofBoard b (h .entries)) (h .cursor b)
+
+-- "while a replaying board's mark is below the number of its lines, a read or write of its own answered 0 or 8 has the kind, page, offset and,
+-- for a write, byte of its line mark + 1"
+unfoldable pub Premise : Call → System → Type 0
+Premise c t =
+    (b : ℕ) (a : Access) (e : HistoryEntry)
+    → accessOf c ≡ some (b, a)
+    → (code (call c (t .bytes) .outcome .answer) ≡ 0) ⊎ (code (call c (t .bytes) .outcome .answer) ≡ 8)
+    → boardAt (decode (t .bytes)) b .state ≡ Replaying
+    → nextEntry b (t .history) ≡ some e
+    → e .access ≡ a
+
+-- "each repeated read answered 0 gave its line's byte". The premise excludes a repeat of another kind; one would count as not agreeing.
+unfoldable pub RepeatAgrees : Call → System → Type 0
+RepeatAgrees c t =
+    (b : ℕ) (a : Access) (v : ℕ) (e : HistoryEntry)
+    → accessOf c ≡ some (b, a)
+    → call c (t .bytes) .outcome .answer ≡ Done v
+    → nextEntry b (t .history) ≡ some e
+    → e .bytesRead ≡ bytesFrom a v
+
+-- "the stand points are as demanded": none is below its board's access number when the board last gave a page away.
+-- That it is the access number at the last stored record or selector store is in RecoveryStatement, and needs no premise.
+unfoldable pub GrantsStand : System → Type 0
+GrantsStand t = (b : ℕ) → b < length (decode (t .bytes) .boards) → t .granted b ≤ recoveryPoint (boardAt (decode (t .bytes)) b)
+
+-- "Claim, after every call"
+pub record Claim (c : Call) (t : System) : Type 0 where
+  pub memory : OneMemory zeroMemory (after c t .history .entries)
+  pub repeat : RepeatAgrees c t
+  pub grants : GrantsStand (after c t)
+
+-- over a list of calls
+unfoldable pub Premises : List Call → System → Type 0
+Premises [] t = Unit
+Premises (c ∷ cs) t = Premise c t × Premises cs (after c t)
+
+unfoldable pub Claims : List Call → System → Type 0
+Claims [] t = Unit
+Claims (c ∷ cs) t = Claim c t × Claims cs (after c t)

@@ -1,0 +1,388 @@
+-- A board's block as bytes, field by field: what stands at each place of `encodeBoard x`, and that one field changed is one splice.
+-- Steps of whole boards are in BlockWorking. Assumes nothing.
+use mathlib.Core.Path.{_≡_, refl, sym, ap, _∙_}
+use Prim.Native.Nat.{ℕ, _+_, _*_, _≤_, _<_}
+use native.Mathlib.Nat.{add-zero}
+use native.Mathlib.Omega.{arith}
+use mathlib.Core.List.{List, [], _∷_, _++_, append-nil}
+use lib.ListN.{length, getD, set, length-append, length-set}
+use Rattle.words.specs.Bytes.{Each}
+use Rattle.words.specs.LittleEndian.{bytesOf, numberOf}
+use Rattle.words.specs.LittleEndianLaws.{length-bytesOf, numberOf-bytesOf}
+use Rattle.types.specs.declared.Right.{Right}
+use Rattle.types.specs.declared.Frame.{Frame}
+use Rattle.types.specs.declared.Record.{Record}
+use Rattle.types.specs.declared.State.{State}
+use Rattle.model.specs.Definitions.Parts.{part, splice, byteAt, encodeAll}
+use Rattle.model.specs.Definitions.Layout.{pageSize, noFuse, lastSince, lastNumber, frameSize, frameBytesAt, rightAt, slotSize, slotsSize, fuseSize, numberSize, sinceSize, stateAt, selectorAt, fuseAt, numberAt, sinceAt, placeAt, volatileCountAt, framesAt, slotsAt, blockSize}
+use Rattle.model.specs.Definitions.Bank.{Log, Working, Board, emptyFrame, frameAt, onWorking, onFrames}
+use Rattle.model.specs.Definitions.Codec.{rightByte, encodeFrame, decodeFrame, encodeRecord, decodeRecord, encodeLog, stateByte, selectorByte, encodeFixed, encodeStable, encodeBoard}
+use Rattle.model.specs.Definitions.Steps.{withFuse, withFrame, withByte, cellByte}
+use Rattle.model.specs.Definitions.WellFormed.{LogOk, FramesOk, FieldsOk}
+use Rattle.model.specs.Laws.Lists.{each-imp, each-getD}
+use Rattle.model.specs.Laws.Parts.{length-splice, part-part, part-append-left, part-end, splice-append-left, splice-append-right, splice-front, splice-at, splice-amid, splice-behind, splice-within, splice-one, byteAt-part, index-in, part-encodeAll, encodeAll-set}
+use Rattle.model.specs.Laws.Codec.{length-encodeFrame, decode-encodeFrame, length-encodeFrames, length-encodeRecord, decode-encodeRecord, length-encodeRecords}
+use Rattle.model.specs.Laws.CodecBank.{length-encodeFixed, fixed-state, fixed-selector, fixed-fuse, fixed-number, fixed-since, fixed-place, fixed-volatile, board-fixed, board-byte, board-frames, board-slots, length-encodeBoard}
+use Rattle.model.specs.Laws.Keeps.Accesses.{frameOk-at}
+
+-- a splice of the whole list
+pub splice-all : {A : Type 0} (l v : List A) → length l ≡ length v → splice l 0 v ≡ v
+splice-all l v e = simp append-nil at (splice-front l v [] e)
+
+-- ---- one field changed
+
+unfoldable pub withState : State → Board → Board
+withState s x = record { state = s; fuse = x .fuse; working = x .working; stable = x .stable }
+
+unfoldable pub withNumber : ℕ → Working → Working
+withNumber n w = record { number = n; since = w .since; place = w .place; frames = w .frames; log = w .log }
+
+unfoldable pub withSince : ℕ → Working → Working
+withSince n w = record { number = w .number; since = n; place = w .place; frames = w .frames; log = w .log }
+
+unfoldable pub withPlace : ℕ → Working → Working
+withPlace n w = record { number = w .number; since = w .since; place = n; frames = w .frames; log = w .log }
+
+unfoldable pub withLog : Log → Working → Working
+withLog g w = record { number = w .number; since = w .since; place = w .place; frames = w .frames; log = g }
+
+-- ---- writing the fixed fields: for any board, whatever its values
+
+-- what stands behind the fixed fields
+abbrev pub behindFixed : Board → List ℕ
+behindFixed x = encodeAll encodeFrame (x .working .frames) ++ (encodeLog (x .working .log) ++ encodeStable (x .stable))
+
+-- a block is at least its fixed fields
+pub fixed-inside : (x : Board) → framesAt ≤ length (encodeBoard x)
+unfolding encodeBoard
+fixed-inside x = rw (length-append (encodeFixed x) (behindFixed x), length-encodeFixed x) (omega arith)
+
+-- a splice in the fixed fields leaves what stands behind them
+pub write-fixed : (x y : Board) (a : ℕ) (v : List ℕ) → a + length v ≤ framesAt → splice (encodeFixed x) a v ≡ encodeFixed y
+    → behindFixed x ≡ behindFixed y → splice (encodeBoard x) a v ≡ encodeBoard y
+unfolding encodeBoard
+write-fixed x y a v h e b =
+    splice-append-left (encodeFixed x) (behindFixed x) a v (rw (length-encodeFixed x) h) ∙ rw (e, b)
+
+-- a number over another of the same width
+same-width : (w m n : ℕ) → length (bytesOf w m) ≡ length (bytesOf w n)
+same-width w m n = rw (length-bytesOf w m, length-bytesOf w n)
+
+number-fits : (a w n b : ℕ) → a + w ≤ b → a + length (bytesOf w n) ≤ b
+number-fits a w n b h = rw (length-bytesOf w n) h
+
+module _ (x : Board) where
+  pub write-state : (s : State) → splice (encodeBoard x) stateAt (stateByte s ∷ []) ≡ encodeBoard (withState s x)
+  unfolding encodeFixed splice withState
+  write-state s = write-fixed x (withState s x) stateAt (stateByte s ∷ []) (omega arith) refl refl
+
+  -- the bytes before the fuse, and the numbers behind them
+  abbrev switches : List ℕ
+  switches = stateByte (x .state) ∷ selectorByte (x .stable .second) ∷ []
+
+  abbrev fuseBytes : List ℕ
+  fuseBytes = bytesOf fuseSize (x .fuse)
+
+  abbrev numberBytes : List ℕ
+  numberBytes = bytesOf numberSize (x .working .number)
+
+  abbrev sinceBytes : List ℕ
+  sinceBytes = bytesOf sinceSize (x .working .since)
+
+  abbrev lastTwo : List ℕ
+  lastTwo = x .working .place ∷ length (x .working .log .records) ∷ []
+
+  pub write-fuse : (n : ℕ) → splice (encodeBoard x) fuseAt (bytesOf fuseSize n) ≡ encodeBoard (withFuse n x)
+  unfolding encodeFixed withFuse
+  write-fuse n =
+      write-fixed x (withFuse n x) fuseAt (bytesOf fuseSize n) (number-fits fuseAt fuseSize n framesAt (omega arith))
+      (splice-at switches fuseBytes (bytesOf fuseSize n) (numberBytes ++ (sinceBytes ++ lastTwo)) fuseAt refl (same-width fuseSize (x .fuse) n)) refl
+
+  pub write-number : (n : ℕ) → splice (encodeBoard x) numberAt (bytesOf numberSize n) ≡ encodeBoard (onWorking (withNumber n) x)
+  unfolding encodeFixed onWorking withNumber
+  write-number n =
+      write-fixed x (onWorking (withNumber n) x) numberAt (bytesOf numberSize n) (number-fits numberAt numberSize n framesAt (omega arith))
+      (splice-append-right switches _ numberAt fuseSize (bytesOf numberSize n) refl
+      ∙ ap (λ (r : List ℕ). switches ++ r)
+      (splice-at fuseBytes numberBytes (bytesOf numberSize n) (sinceBytes ++ lastTwo) fuseSize
+      (length-bytesOf fuseSize (x .fuse)) (same-width numberSize (x .working .number) n)))
+      refl
+
+  -- a splice behind the access number
+  behind-number : (r : List ℕ) (a b : ℕ) (v : List ℕ) → sinceAt + b ≡ a
+      → splice (switches ++ (fuseBytes ++ (numberBytes ++ r))) a v ≡ switches ++ (fuseBytes ++ (numberBytes ++ splice r b v))
+  behind-number r a b v e =
+      splice-behind switches fuseBytes (numberBytes ++ r) a (numberSize + b) v (rw (length-bytesOf fuseSize (x .fuse)) (omega arith))
+      ∙ ap (λ (t : List ℕ). switches ++ (fuseBytes ++ t))
+      (splice-append-right numberBytes r (numberSize + b) b v (rw (length-bytesOf numberSize (x .working .number))))
+
+  pub write-since : (n : ℕ) → splice (encodeBoard x) sinceAt (bytesOf sinceSize n) ≡ encodeBoard (onWorking (withSince n) x)
+  unfolding encodeFixed onWorking withSince
+  write-since n =
+      write-fixed x (onWorking (withSince n) x) sinceAt (bytesOf sinceSize n) (number-fits sinceAt sinceSize n framesAt (omega arith))
+      (behind-number (sinceBytes ++ lastTwo) sinceAt 0 (bytesOf sinceSize n) refl
+      ∙ rw (splice-front sinceBytes (bytesOf sinceSize n) lastTwo (same-width sinceSize (x .working .since) n)))
+      refl
+
+  -- a splice in the last two bytes
+  in-lastTwo : (a b : ℕ) (v : List ℕ) → placeAt + b ≡ a
+      → splice (switches ++ (fuseBytes ++ (numberBytes ++ (sinceBytes ++ lastTwo)))) a v
+      ≡ switches ++ (fuseBytes ++ (numberBytes ++ (sinceBytes ++ splice lastTwo b v)))
+  in-lastTwo a b v e =
+      behind-number (sinceBytes ++ lastTwo) a (sinceSize + b) v (omega arith)
+      ∙ rw (splice-append-right sinceBytes lastTwo (sinceSize + b) b v (rw (length-bytesOf sinceSize (x .working .since))))
+
+  pub write-place : (n : ℕ) → splice (encodeBoard x) placeAt (n ∷ []) ≡ encodeBoard (onWorking (withPlace n) x)
+  unfolding encodeFixed onWorking withPlace splice
+  write-place n = write-fixed x (onWorking (withPlace n) x) placeAt (n ∷ []) (omega arith) (in-lastTwo placeAt 0 (n ∷ []) refl) refl
+
+  -- the volatile count: the same slots, read as more or fewer records
+  pub write-count : (g : Log) → encodeLog g ≡ encodeLog (x .working .log)
+      → splice (encodeBoard x) volatileCountAt (length (g .records) ∷ []) ≡ encodeBoard (onWorking (withLog g) x)
+  unfolding encodeFixed onWorking withLog splice
+  write-count g e =
+      write-fixed x (onWorking (withLog g) x) volatileCountAt (length (g .records) ∷ []) (omega arith)
+      (in-lastTwo volatileCountAt 1 (length (g .records) ∷ []) refl) (rw e)
+
+-- valid frames have the width of a frame
+pub wide-frames : {pages : ℕ} (fs : List Frame) → FramesOk pages fs → Each (λ f. length (encodeFrame f) ≡ frameSize) fs
+wide-frames fs ok = each-imp fs (λ f o. length-encodeFrame f (o .size)) (ok .frames)
+
+-- ---- reading the fixed fields
+
+module _ (pages : ℕ) (x : Board) (ok : FieldsOk pages x) where
+  pub read-state : byteAt (encodeBoard x) stateAt ≡ stateByte (x .state)
+  read-state = board-byte pages x ok stateAt (omega arith) ∙ fixed-state x
+
+  pub read-selector : byteAt (encodeBoard x) selectorAt ≡ selectorByte (x .stable .second)
+  read-selector = board-byte pages x ok selectorAt (omega arith) ∙ fixed-selector x
+
+  pub read-fuse : numberOf (part (encodeBoard x) fuseAt fuseSize) ≡ x .fuse
+  read-fuse = rw (board-fixed pages x ok fuseAt fuseSize (omega arith), fixed-fuse x) (numberOf-bytesOf fuseSize (x .fuse) (omega (arith, ok .fuse)))
+
+  pub read-number : numberOf (part (encodeBoard x) numberAt numberSize) ≡ x .working .number
+  read-number =
+      rw (board-fixed pages x ok numberAt numberSize (omega arith), fixed-number x)
+      (numberOf-bytesOf numberSize (x .working .number) (omega (arith, ok .number)))
+
+  pub read-since : numberOf (part (encodeBoard x) sinceAt sinceSize) ≡ x .working .since
+  read-since =
+      rw (board-fixed pages x ok sinceAt sinceSize (omega arith), fixed-since x)
+      (numberOf-bytesOf sinceSize (x .working .since) (omega (arith, ok .since)))
+
+  pub read-place : byteAt (encodeBoard x) placeAt ≡ x .working .place
+  read-place = board-byte pages x ok placeAt (omega arith) ∙ fixed-place x
+
+  pub read-count : byteAt (encodeBoard x) volatileCountAt ≡ length (x .working .log .records)
+  read-count = board-byte pages x ok volatileCountAt (omega arith) ∙ fixed-volatile x
+
+  -- ---- reading a frame: whole, its right, its bytes, one of them
+
+  pub frame-part : (p : ℕ) → p < pages → part (encodeBoard x) (framesAt + p * frameSize) frameSize ≡ encodeFrame (frameAt (x .working .frames) p)
+  unfolding frameAt
+  frame-part p h =
+      sym (part-part (encodeBoard x) framesAt (pages * frameSize) (p * frameSize) frameSize (index-in frameSize pages p h))
+      ∙ rw (board-frames pages x ok)
+      (part-encodeAll encodeFrame frameSize (x .working .frames) p emptyFrame (wide-frames (x .working .frames) (ok .frames))
+      (omega (arith, ok .frames .count)))
+
+  pub read-frame : (p : ℕ) → p < pages → decodeFrame (part (encodeBoard x) (framesAt + p * frameSize) frameSize) ≡ frameAt (x .working .frames) p
+  read-frame p h = rw (frame-part p h) (decode-encodeFrame (frameAt (x .working .frames) p) (frameOk-at (x .working .frames) p (ok .frames)))
+
+  pub read-right : (p : ℕ) → p < pages → byteAt (encodeBoard x) (framesAt + p * frameSize + rightAt) ≡ rightByte (frameAt (x .working .frames) p .right)
+  unfolding encodeFrame byteAt
+  read-right p h = sym (byteAt-part (encodeBoard x) (framesAt + p * frameSize) frameSize rightAt (omega arith)) ∙ rw (frame-part p h)
+
+  pub read-bytes : (p : ℕ) → p < pages
+      → part (encodeBoard x) (framesAt + p * frameSize + frameBytesAt) pageSize ≡ frameAt (x .working .frames) p .bytes
+  unfolding encodeFrame
+  read-bytes p h =
+      let f : Frame = frameAt (x .working .frames) p in
+      sym (part-part (encodeBoard x) (framesAt + p * frameSize) frameSize frameBytesAt pageSize (omega arith))
+      ∙ rw (frame-part p h)
+      (part-end (rightByte (f .right) ∷ []) (f .bytes) frameBytesAt pageSize refl (frameOk-at (x .working .frames) p (ok .frames) .size))
+
+  pub read-byte : (p o : ℕ) → p < pages → o < pageSize
+      → byteAt (encodeBoard x) (framesAt + p * frameSize + frameBytesAt + o) ≡ cellByte (x .working .frames) (record { page = p; offset = o })
+  unfolding cellByte byteAt
+  read-byte p o h k =
+      sym (byteAt-part (encodeBoard x) (framesAt + p * frameSize + frameBytesAt) pageSize o k) ∙ rw (read-bytes p h)
+
+  -- ---- reading a volatile record
+
+  pub slot-part : (i : ℕ) (d : Record) → i < length (x .working .log .records)
+      → part (encodeBoard x) (slotsAt pages + i * slotSize) slotSize ≡ encodeRecord (getD (x .working .log .records) i d)
+  unfolding encodeLog
+  slot-part i d h =
+      let rs : List Record = x .working .log .records in
+      let bytes : List ℕ = encodeAll encodeRecord rs in
+      let m : i * slotSize + slotSize ≤ length rs * slotSize = index-in slotSize (length rs) i h in
+      let e : length bytes ≡ length rs * slotSize = length-encodeRecords pages rs (ok .log .records) in
+      sym (part-part (encodeBoard x) (slotsAt pages) slotsSize (i * slotSize) slotSize (omega (arith, ok .log .slots)))
+      ∙ rw (board-slots pages x ok)
+      (part-append-left bytes (x .working .log .rest) (i * slotSize) slotSize (omega arith)
+      ∙ part-encodeAll encodeRecord slotSize rs i d (each-imp rs (λ r o. length-encodeRecord r (o .size)) (ok .log .records)) h)
+
+  pub read-record : (i : ℕ) (d : Record) → i < length (x .working .log .records)
+      → decodeRecord (part (encodeBoard x) (slotsAt pages + i * slotSize) slotSize) ≡ getD (x .working .log .records) i d
+  read-record i d h =
+      rw (slot-part i d h)
+      (decode-encodeRecord pages (getD (x .working .log .records) i d) (each-getD (x .working .log .records) i d (ok .log .records) h))
+
+  -- ---- a write keeps the length
+
+  pub length-written : (a : ℕ) (v : List ℕ) → a + length v ≤ blockSize pages → length (splice (encodeBoard x) a v) ≡ blockSize pages
+  length-written a v h = length-splice (encodeBoard x) a v (rw (length-encodeBoard pages x ok) h) ∙ length-encodeBoard pages x ok
+
+-- ---- writing frames
+
+-- a splice in the frames
+pub write-frames : (pages : ℕ) (x : Board) (g : List Frame → List Frame) (b : ℕ) (v : List ℕ) → FramesOk pages (x .working .frames)
+    → b + length v ≤ pages * frameSize
+    → splice (encodeAll encodeFrame (x .working .frames)) b v ≡ encodeAll encodeFrame (g (x .working .frames))
+    → splice (encodeBoard x) (framesAt + b) v ≡ encodeBoard (onWorking (onFrames g) x)
+unfolding encodeBoard encodeFixed onWorking onFrames
+write-frames pages x g b v ok h e =
+    let n : length (encodeAll encodeFrame (x .working .frames)) ≡ pages * frameSize = length-encodeFrames pages (x .working .frames) ok in
+    splice-amid (encodeFixed x) (encodeAll encodeFrame (x .working .frames)) (encodeLog (x .working .log) ++ encodeStable (x .stable))
+    (framesAt + b) b v (rw (length-encodeFixed x)) (omega arith)
+    ∙ rw e
+
+-- one frame
+pub write-frame : (pages : ℕ) (x : Board) (p : ℕ) (f : Frame) → FramesOk pages (x .working .frames) → length (f .bytes) ≡ pageSize → p < pages
+    → splice (encodeBoard x) (framesAt + p * frameSize) (encodeFrame f) ≡ encodeBoard (withFrame p f x)
+unfolding withFrame
+write-frame pages x p f ok e h =
+    let n : length (encodeFrame f) ≡ frameSize = length-encodeFrame f e in
+    let m : p * frameSize + frameSize ≤ pages * frameSize = index-in frameSize pages p h in
+    write-frames pages x (λ fs. set fs p f) (p * frameSize) (encodeFrame f) ok (omega arith)
+    (sym (encodeAll-set encodeFrame frameSize (x .working .frames) p f (wide-frames (x .working .frames) ok) n (omega (arith, ok .count))))
+
+-- a splice in one frame
+write-in-frame : (pages : ℕ) (x : Board) (p b a : ℕ) (v : List ℕ) (f : Frame) → FramesOk pages (x .working .frames) → length (f .bytes) ≡ pageSize
+    → p < pages → framesAt + p * frameSize + b ≡ a → b + length v ≤ frameSize
+    → splice (encodeFrame (frameAt (x .working .frames) p)) b v ≡ encodeFrame f → splice (encodeBoard x) a v ≡ encodeBoard (withFrame p f x)
+unfolding withFrame frameAt
+write-in-frame pages x p b a v f ok e h i k s =
+    let fs : List Frame = x .working .frames in
+    let l : List ℕ = encodeAll encodeFrame fs in
+    let wide : Each (λ g. length (encodeFrame g) ≡ frameSize) fs = wide-frames fs ok in
+    let m : p * frameSize + frameSize ≤ pages * frameSize = index-in frameSize pages p h in
+    let n : length l ≡ pages * frameSize = length-encodeFrames pages fs ok in
+    let q : splice l (p * frameSize + b) v ≡ encodeAll encodeFrame (set fs p f)
+    = sym (splice-within l (p * frameSize) frameSize b v k (omega arith))
+    ∙ rw (part-encodeAll encodeFrame frameSize fs p emptyFrame wide (omega (arith, ok .count)), s)
+    (sym (encodeAll-set encodeFrame frameSize fs p f wide (length-encodeFrame f e) (omega (arith, ok .count)))) in
+    let j : framesAt + (p * frameSize + b) ≡ a = omega arith in
+    rw j at (write-frames pages x (λ gs. set gs p f) (p * frameSize + b) v ok (omega arith) q)
+
+module _ (pages : ℕ) (x : Board) (p : ℕ) (ok : FramesOk pages (x .working .frames)) (h : p < pages) where
+  -- its right alone
+  pub write-right : (r : Right) → splice (encodeBoard x) (framesAt + p * frameSize + rightAt) (rightByte r ∷ [])
+      ≡ encodeBoard (withFrame p (record { right = r; bytes = frameAt (x .working .frames) p .bytes }) x)
+  unfolding encodeFrame splice
+  write-right r =
+      write-in-frame pages x p rightAt (framesAt + p * frameSize + rightAt) (rightByte r ∷ [])
+      (record { right = r; bytes = frameAt (x .working .frames) p .bytes })
+      ok (frameOk-at (x .working .frames) p ok .size) h refl (omega arith) refl
+
+  -- one of its bytes alone
+  pub write-byte : (o v : ℕ) → o < pageSize
+      → splice (encodeBoard x) (framesAt + p * frameSize + frameBytesAt + o) (v ∷ [])
+      ≡ encodeBoard (onWorking (onFrames (withByte (record { page = p; offset = o }) v)) x)
+  unfolding encodeFrame withFrame withByte onWorking onFrames
+  write-byte o v k =
+      let f : Frame = frameAt (x .working .frames) p in
+      let z : length (f .bytes) ≡ pageSize = frameOk-at (x .working .frames) p ok .size in
+      write-in-frame pages x p (frameBytesAt + o) (framesAt + p * frameSize + frameBytesAt + o) (v ∷ [])
+      (record { right = f .right; bytes = set (f .bytes) o v }) ok (length-set (f .bytes) o v ∙ z) h (omega arith) (omega arith)
+      (splice-append-right (rightByte (f .right) ∷ []) (f .bytes) (frameBytesAt + o) o (v ∷ []) refl
+      ∙ ap (λ (r : List ℕ). rightByte (f .right) ∷ r) (splice-one (f .bytes) o v (omega arith)))
+
+-- a block is at least its fixed fields and frames
+pub frames-inside : (pages : ℕ) (x : Board) → FramesOk pages (x .working .frames) → slotsAt pages ≤ length (encodeBoard x)
+unfolding encodeBoard
+frames-inside pages x ok =
+    let frames : List ℕ = encodeAll encodeFrame (x .working .frames) in
+    let n : length frames ≡ pages * frameSize = length-encodeFrames pages (x .working .frames) ok in
+    rw (
+      length-append (encodeFixed x) (behindFixed x),
+      length-encodeFixed x,
+      length-append frames (encodeLog (x .working .log) ++ encodeStable (x .stable)),
+    )
+    (omega arith)
+
+-- all frames
+pub write-all-frames : (pages : ℕ) (x : Board) (fs : List Frame) → FramesOk pages (x .working .frames)
+    → length (encodeAll encodeFrame fs) ≡ pages * frameSize
+    → splice (encodeBoard x) framesAt (encodeAll encodeFrame fs) ≡ encodeBoard (onWorking (onFrames (λ gs. fs)) x)
+write-all-frames pages x fs ok n =
+    let m : length (encodeAll encodeFrame (x .working .frames)) ≡ pages * frameSize = length-encodeFrames pages (x .working .frames) ok in
+    write-frames pages x (λ gs. fs) 0 (encodeAll encodeFrame fs) ok (omega arith)
+    (splice-all (encodeAll encodeFrame (x .working .frames)) (encodeAll encodeFrame fs) (m ∙ sym n))
+
+-- ---- writing slots
+
+-- a splice in the volatile slots, under the same count
+pub write-slots : (pages : ℕ) (x : Board) (g : Log) (b : ℕ) (v : List ℕ) → FramesOk pages (x .working .frames)
+    → length (encodeLog (x .working .log)) ≡ slotsSize → b + length v ≤ slotsSize → length (g .records) ≡ length (x .working .log .records)
+    → splice (encodeLog (x .working .log)) b v ≡ encodeLog g
+    → splice (encodeBoard x) (slotsAt pages + b) v ≡ encodeBoard (onWorking (withLog g) x)
+unfolding encodeBoard encodeFixed onWorking withLog
+write-slots pages x g b v ok n h c e =
+    let frames : List ℕ = encodeAll encodeFrame (x .working .frames) in
+    let m : length frames ≡ pages * frameSize = length-encodeFrames pages (x .working .frames) ok in
+    splice-behind (encodeFixed x) frames (encodeLog (x .working .log) ++ encodeStable (x .stable))
+    (slotsAt pages + b) b v (rw (length-encodeFixed x) (omega arith))
+    ∙ rw (splice-append-left (encodeLog (x .working .log)) (encodeStable (x .stable)) b v (omega arith), e, c)
+
+-- all of them
+pub write-all-slots : (pages : ℕ) (x : Board) (g : Log) → FramesOk pages (x .working .frames) → length (encodeLog (x .working .log)) ≡ slotsSize
+    → length (encodeLog g) ≡ slotsSize → length (g .records) ≡ length (x .working .log .records)
+    → splice (encodeBoard x) (slotsAt pages) (encodeLog g) ≡ encodeBoard (onWorking (withLog g) x)
+write-all-slots pages x g ok n m c =
+    rw add-zero at
+    (write-slots pages x g 0 (encodeLog g) ok n (omega arith) c (splice-all (encodeLog (x .working .log)) (encodeLog g) (n ∙ sym m)))
+
+-- ---- fields in range stay in range
+
+module _ {pages : ℕ} {x : Board} (ok : FieldsOk pages x) where
+  pub withState-fields : (s : State) → FieldsOk pages (withState s x)
+  unfolding withState
+  withState-fields s =
+      record {
+        fuse = ok .fuse;
+        number = ok .number;
+        since = ok .since;
+        frames = ok .frames;
+        log = ok .log;
+        selected = ok .selected;
+        spare = ok .spare;
+      }
+
+  pub withFuse-fields : (n : ℕ) → n ≤ noFuse → FieldsOk pages (withFuse n x)
+  unfolding withFuse
+  withFuse-fields n h =
+      record {
+        fuse = h;
+        number = ok .number;
+        since = ok .since;
+        frames = ok .frames;
+        log = ok .log;
+        selected = ok .selected;
+        spare = ok .spare;
+      }
+
+  pub onWorking-fields : (f : Working → Working) → f (x .working) .number ≤ lastNumber → f (x .working) .since ≤ lastSince
+      → FramesOk pages (f (x .working) .frames) → LogOk pages (f (x .working) .log) → FieldsOk pages (onWorking f x)
+  unfolding onWorking
+  onWorking-fields f n s fs g =
+      record {
+        fuse = ok .fuse;
+        number = n;
+        since = s;
+        frames = fs;
+        log = g;
+        selected = ok .selected;
+        spare = ok .spare;
+      }

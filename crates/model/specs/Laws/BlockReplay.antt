@@ -1,0 +1,315 @@
+-- Restart, replay and the end of replay as writes into a board's block; frames that a loop replaces page by page. Assumes nothing.
+use mathlib.Core.Path.{_≡_, refl, sym, ap, _∙_}
+use Prim.Native.Nat.{ℕ, suc, _+_, _*_, _≤_, _<_}
+use native.Mathlib.Nat.{le-of-lt}
+use native.Mathlib.Omega.{arith}
+use mathlib.Core.Bool.{Bool, true, false}
+use mathlib.Core.List.{List, [], _∷_, _++_, append-nil}
+use lib.ListN.{length, getD, set, take, drop, length-append, length-drop, drop-of-length-le}
+use lib.Seq.{drop-cons, take-suc, append-snoc, set-at, getD-at, take-all, length-take-le}
+use Rattle.words.specs.LittleEndian.{bytesOf}
+use Rattle.types.specs.declared.Right.the-variants.{Own}
+use Rattle.types.specs.declared.Frame.{Frame}
+use Rattle.types.specs.declared.Record.{Record}
+use Rattle.types.specs.declared.State.the-variants.{Up, Replaying}
+use Rattle.model.specs.Definitions.Parts.{part, splice, zeros, encodeAll, each}
+use Rattle.model.specs.Definitions.Layout.{pageSize, frameSize, rightAt, numberSize, sinceSize, stateAt, numberAt, sinceAt, placeAt, framesAt, areaAt, areaSize, areaFramesAt}
+use Rattle.model.specs.Definitions.Bank.{Board, emptyFrame, frameAt, onWorking, onFrames}
+use Rattle.model.specs.Definitions.Codec.{rightByte, encodeFrame, encodeArea, stateByte, selectorByte, encodeBoard}
+use Rattle.model.specs.Definitions.Steps.{withFrame}
+use Rattle.model.specs.Definitions.Replay.{loaded, used, rightGot, tookGot, settledFrame, settled}
+use Rattle.model.specs.Definitions.WellFormed.{FramesOk, FieldsOk}
+use Rattle.model.specs.Laws.Lists.{each-append, each-take, each-drop, each-each, length-each}
+use Rattle.model.specs.Laws.Logic.{byBool}
+use Rattle.model.specs.Laws.Parts.{part-part}
+use Rattle.model.specs.Laws.Codec.{length-encodeFrames, area-frames}
+use Rattle.model.specs.Laws.CodecBank.{area0, area1, board-area0, board-area1}
+use Rattle.model.specs.Laws.Boards.{frameAt-each}
+use Rattle.model.specs.Laws.Keeps.Stores.{frameOk-empty}
+use Rattle.model.specs.Laws.Keeps.Accesses.{frameOk-at}
+use Rattle.model.specs.Laws.BlockFields.{withState, withNumber, withSince, withPlace, write-state, write-number, write-since, write-place, write-frame, write-right, write-all-frames, withState-fields, onWorking-fields}
+use Rattle.model.specs.Laws.BlockWorking.{encode-emptyFrame}
+use Rattle.model.specs.Laws.Keeps.Replay.{frameOk-settled}
+
+-- ---- elements replaced one by one
+
+module _ {A : Type 0} where
+  -- the first n elements as in another list
+  unfoldable pub replaced : ℕ → List A → List A → List A
+  replaced n gs fs = take n gs ++ drop n fs
+
+  pub replaced-none : (gs fs : List A) → replaced 0 gs fs ≡ fs
+  unfolding replaced
+  replaced-none gs fs = refl
+
+  pub replaced-all : (n : ℕ) (gs fs : List A) → length gs ≡ n → length fs ≡ n → replaced n gs fs ≡ gs
+  unfolding replaced
+  replaced-all n gs fs e h = rw (take-all n gs (omega arith), drop-of-length-le fs {i = n} (omega arith), append-nil)
+
+  pub length-replaced : (n : ℕ) (gs fs : List A) → length gs ≡ length fs → n ≤ length fs → length (replaced n gs fs) ≡ length fs
+  unfolding replaced
+  length-replaced n gs fs e h =
+      let m : length (take n gs) ≡ n = length-take-le n gs (omega arith) in
+      rw (length-append (take n gs) (drop n fs), length-drop n fs) (omega arith)
+
+  module _ (n : ℕ) (gs fs : List A) (d : A) (e : length gs ≡ length fs) (h : n < length fs) where
+    abbrev front : length (take n gs) ≡ n
+    front = length-take-le n gs (omega arith)
+
+    -- element n is still the old one
+    pub replaced-here : getD (replaced n gs fs) n d ≡ getD fs n d
+    unfolding replaced
+    replaced-here = rw (drop-cons fs n d h) (getD-at (take n gs) (getD fs n d) (drop (suc n) fs) d n front)
+
+    -- element n stored
+    pub replaced-next : set (replaced n gs fs) n (getD gs n d) ≡ replaced (suc n) gs fs
+    unfolding replaced
+    replaced-next =
+        rw (drop-cons fs n d h, take-suc gs n d (omega arith), append-snoc (take n gs) (getD gs n d) (drop (suc n) fs))
+        (set-at (take n gs) (getD fs n d) (drop (suc n) fs) (getD gs n d) n front)
+
+-- ---- a loop that replaces the frames of a block, page by page
+
+-- the first p frames as in another list
+abbrev pub replacing : ℕ → List Frame → Board → Board
+replacing p gs x = onWorking (onFrames (replaced p gs)) x
+
+module _ (pages : ℕ) (x : Board) (gs : List Frame) (old : FramesOk pages (x .working .frames)) (new : FramesOk pages gs) where
+  same-count : length gs ≡ length (x .working .frames)
+  same-count = new .count ∙ sym (old .count)
+
+  pub replacing-none : replacing 0 gs x ≡ x
+  unfolding onWorking onFrames replaced
+  replacing-none = refl
+
+  pub replacing-all : replacing pages gs x ≡ onWorking (onFrames (λ fs. gs)) x
+  unfolding onWorking onFrames
+  replacing-all = rw (replaced-all pages gs (x .working .frames) (new .count) (old .count))
+
+  replaced-ok : (p : ℕ) → p ≤ pages → FramesOk pages (replaced p gs (x .working .frames))
+  unfolding replaced
+  replaced-ok p h =
+      record {
+        count = length-replaced p gs (x .working .frames) same-count (omega (arith, old .count)) ∙ old .count;
+        frames = each-append (take p gs) (drop p (x .working .frames)) (each-take p gs (new .frames)) (each-drop p (x .working .frames) (old .frames));
+      }
+
+  pub replacing-fields : FieldsOk pages x → (p : ℕ) → p ≤ pages → FieldsOk pages (replacing p gs x)
+  unfolding onFrames
+  replacing-fields ok p h = onWorking-fields ok (onFrames (replaced p gs)) (ok .number) (ok .since) (replaced-ok p h) (ok .log)
+
+  module _ (p : ℕ) (h : p < pages) where
+    inside : p < length (x .working .frames)
+    inside = omega (arith, old .count)
+
+    -- the frame of page p is still the old one
+    pub replacing-here : frameAt (replacing p gs x .working .frames) p ≡ frameAt (x .working .frames) p
+    unfolding onWorking onFrames frameAt
+    replacing-here = replaced-here p gs (x .working .frames) emptyFrame same-count inside
+
+    -- page p's frame put in, however it was written
+    pub replacing-next : (f : Frame) → f ≡ frameAt gs p → withFrame p f (replacing p gs x) ≡ replacing (suc p) gs x
+    unfolding withFrame onWorking onFrames frameAt
+    replacing-next f e = rw (e, replaced-next p gs (x .working .frames) emptyFrame same-count inside)
+
+    -- written whole
+    pub write-next : splice (encodeBoard (replacing p gs x)) (framesAt + p * frameSize) (encodeFrame (frameAt gs p)) ≡ encodeBoard (replacing (suc p) gs x)
+    unfolding onWorking onFrames
+    write-next =
+        write-frame pages (replacing p gs x) p (frameAt gs p) (replaced-ok p (le-of-lt h)) (frameOk-at gs p new .size) h
+        ∙ ap encodeBoard (replacing-next (frameAt gs p) refl)
+
+-- ---- restart
+
+-- all of a restart but its frames
+unfoldable pub restarting : Board → Board
+restarting x = onWorking (withPlace 0) (onWorking (withSince 0) (onWorking (withNumber (x .stable .selected .number)) (withState Replaying x)))
+
+pub restarting-loaded : (x : Board) → onWorking (onFrames (λ fs. x .stable .selected .frames)) (restarting x) ≡ loaded x
+unfolding restarting withState withPlace withSince withNumber onWorking onFrames loaded
+restarting-loaded x = refl
+
+selected-area : (pages : ℕ) (x : Board) → FieldsOk pages x
+    → part (encodeBoard x) (areaAt pages (selectorByte (x .stable .second))) (areaSize pages) ≡ encodeArea (x .stable .selected)
+unfolding selectorByte area0 area1
+selected-area pages x ok = byBool (x .stable .second) (λ t. cc (board-area1 pages x ok)) (λ t. cc (board-area0 pages x ok))
+
+-- the bytes of the selected area's frames
+selected-frames : (pages : ℕ) (x : Board) → FieldsOk pages x
+    → part (encodeBoard x) (areaAt pages (selectorByte (x .stable .second)) + areaFramesAt) (pages * frameSize)
+    ≡ encodeAll encodeFrame (x .stable .selected .frames)
+selected-frames pages x ok =
+    sym (part-part (encodeBoard x) (areaAt pages (selectorByte (x .stable .second))) (areaSize pages) areaFramesAt (pages * frameSize) (omega arith))
+    ∙ rw (selected-area pages x ok) (area-frames pages (x .stable .selected) (ok .selected))
+
+-- state, number, since, place
+abbrev pub restartWritten : Board → List ℕ
+restartWritten x =
+    splice
+    (splice
+    (splice (splice (encodeBoard x) stateAt (stateByte Replaying ∷ [])) numberAt (bytesOf numberSize (x .stable .selected .number)))
+    sinceAt (bytesOf sinceSize 0))
+    placeAt (0 ∷ [])
+
+pub restarting-bytes : (x : Board) → restartWritten x ≡ encodeBoard (restarting x)
+unfolding restarting
+restarting-bytes x =
+    let a : Board = withState Replaying x in
+    let b : Board = onWorking (withNumber (x .stable .selected .number)) a in
+    rw (write-state x Replaying, write-number a (x .stable .selected .number), write-since b 0) (write-place (onWorking (withSince 0) b) 0)
+
+module _ (pages : ℕ) (x : Board) (ok : FieldsOk pages x) where
+  pub restarting-fields : FieldsOk pages (restarting x)
+  unfolding restarting withState withPlace withSince withNumber onWorking
+  restarting-fields =
+      record {
+        fuse = ok .fuse;
+        number = ok .selected .number;
+        since = omega arith;
+        frames = ok .frames;
+        log = ok .log;
+        selected = ok .selected;
+        spare = ok .spare;
+      }
+
+  -- the frames copied in one run
+  pub loaded-bytes : splice (restartWritten x) framesAt
+      (part (restartWritten x) (areaAt pages (selectorByte (x .stable .second)) + areaFramesAt) (pages * frameSize))
+      ≡ encodeBoard (loaded x)
+  unfolding restarting withState withPlace withSince withNumber onWorking
+  loaded-bytes =
+      let y : Board = restarting x in
+      rw (restarting-bytes x, selected-frames pages y restarting-fields)
+      (write-all-frames pages y (x .stable .selected .frames) (ok .frames) (length-encodeFrames pages (x .stable .selected .frames) (ok .selected .frames))
+      ∙ ap encodeBoard (restarting-loaded x))
+
+  pub loaded-fields : FieldsOk pages (loaded x)
+  unfolding onFrames
+  loaded-fields =
+      rw (← restarting-loaded x)
+      (onWorking-fields restarting-fields (onFrames (λ fs. x .stable .selected .frames)) (restarting-fields .number) (restarting-fields .since)
+      (ok .selected .frames) (restarting-fields .log))
+
+-- ---- a stored record used
+
+-- the next place, since 0
+abbrev pub useWritten : Board → List ℕ
+useWritten x = splice (splice (encodeBoard x) placeAt ((x .working .place + 1) ∷ [])) sinceAt (bytesOf sinceSize 0)
+
+-- a shown
+pub used-shown : (x : Board) → useWritten x ≡ encodeBoard (onWorking (λ w. used (w .frames) w) x)
+unfolding onWorking withPlace withSince used
+used-shown x = rw (write-place x (x .working .place + 1)) (write-since (onWorking (withPlace (x .working .place + 1)) x) 0)
+
+module _ (pages : ℕ) (x : Board) (ok : FieldsOk pages x) (p : ℕ) (h : p < pages) where
+  -- one that leaves another frame
+  pub used-frame : (f : Frame) → length (f .bytes) ≡ pageSize
+      → splice (useWritten x) (framesAt + p * frameSize) (encodeFrame f) ≡ encodeBoard (onWorking (λ w. used (set (w .frames) p f) w) x)
+  unfolding onWorking onFrames withFrame used
+  used-frame f e = rw (used-shown x) (write-frame pages (onWorking (λ w. used (w .frames) w) x) p f (ok .frames) e h)
+
+  -- a dropped
+  pub used-dropped : splice (useWritten x) (framesAt + p * frameSize) (zeros frameSize)
+      ≡ encodeBoard (onWorking (λ w. used (set (w .frames) p emptyFrame) w) x)
+  used-dropped = rw (← encode-emptyFrame) (used-frame emptyFrame (frameOk-empty .size))
+
+  -- a got
+  pub used-got : (r : Record) → length (r .bytes) ≡ pageSize
+      → splice (useWritten x) (framesAt + p * frameSize) (encodeFrame (record { right = rightGot (r .kind); bytes = r .bytes }))
+      ≡ encodeBoard (onWorking (tookGot p r) x)
+  unfolding tookGot onWorking
+  used-got r e = used-frame (record { right = rightGot (r .kind); bytes = r .bytes }) e
+
+pub used-fields : {pages : ℕ} {x : Board} → FieldsOk pages x → (fs : List Frame) → FramesOk pages fs → FieldsOk pages (onWorking (used fs) x)
+unfolding used
+used-fields ok fs h = onWorking-fields ok (used fs) (ok .number) (omega arith) h (ok .log)
+
+-- ---- the end of replay
+
+-- the frames as the end of replay leaves them
+abbrev settledFrames : (ℕ → Bool) → List Frame → List Frame
+settledFrames owned fs = each (λ p f. settledFrame (owned p) f) fs
+
+settledFrames-ok : {pages : ℕ} (owned : ℕ → Bool) (fs : List Frame) → FramesOk pages fs → FramesOk pages (settledFrames owned fs)
+settledFrames-ok owned fs ok =
+    record {
+      count = length-each (λ p f. settledFrame (owned p) f) fs ∙ ok .count;
+      frames = each-each (λ p f. settledFrame (owned p) f) fs (ok .frames) (λ p f h. frameOk-settled (owned p) f h);
+    }
+
+-- all of the end but its frames
+unfoldable pub ending : Board → Board
+ending x = onWorking (withPlace 0) (withState Up x)
+
+-- with the first p frames settled
+unfoldable pub settledFirst : (ℕ → Bool) → ℕ → Board → Board
+settledFirst owned p x = replacing p (settledFrames owned (x .working .frames)) (ending x)
+
+module _ (pages : ℕ) (owned : ℕ → Bool) (x : Board) (ok : FieldsOk pages x) where
+  pub settled-none : splice (splice (encodeBoard x) stateAt (stateByte Up ∷ [])) placeAt (0 ∷ []) ≡ encodeBoard (settledFirst owned 0 x)
+  unfolding settledFirst ending onWorking onFrames withState withPlace replaced
+  settled-none = rw (write-state x Up) (write-place (withState Up x) 0)
+
+  pub settled-all : settledFirst owned pages x ≡ settled owned x
+  unfolding settledFirst ending onWorking onFrames withState withPlace settled
+  settled-all =
+      rw (replaced-all pages (settledFrames owned (x .working .frames)) (x .working .frames)
+      (settledFrames-ok owned (x .working .frames) (ok .frames) .count) (ok .frames .count))
+
+  ending-fields : FieldsOk pages (ending x)
+  unfolding ending withState withPlace
+  ending-fields = onWorking-fields (withState-fields ok Up) (withPlace 0) (ok .number) (ok .since) (ok .frames) (ok .log)
+
+  abbrev new : FramesOk pages (settledFrames owned (x .working .frames))
+  new = settledFrames-ok owned (x .working .frames) (ok .frames)
+
+  pub settledFirst-fields : (p : ℕ) → p ≤ pages → FieldsOk pages (settledFirst owned p x)
+  unfolding settledFirst ending onWorking withState withPlace
+  settledFirst-fields p h = replacing-fields pages (ending x) (settledFrames owned (x .working .frames)) (ok .frames) new ending-fields p h
+
+  module _ (p : ℕ) (h : p < pages) where
+    -- what frame p becomes
+    frame-settled : (t : Bool) → owned p ≡ t → settledFrame t (frameAt (x .working .frames) p) ≡ frameAt (settledFrames owned (x .working .frames)) p
+    frame-settled t e =
+        rw (← e) (sym (frameAt-each p (λ q f. settledFrame (owned q) f) (x .working .frames) (omega (arith, ok .frames .count))))
+
+    -- frame p as the end leaves it, put in where the first p are
+    settled-next : (f : Frame) → f ≡ frameAt (settledFrames owned (x .working .frames)) p → withFrame p f (settledFirst owned p x) ≡ settledFirst owned (suc p) x
+    unfolding settledFirst ending onWorking withState withPlace
+    settled-next f e = replacing-next pages (ending x) (settledFrames owned (x .working .frames)) (ok .frames) new p h f e
+
+    abbrev framesIn : FramesOk pages (settledFirst owned p x .working .frames)
+    framesIn = settledFirst-fields p (le-of-lt h) .frames
+
+    -- page p still has its old frame
+    pub settled-here : frameAt (settledFirst owned p x .working .frames) p ≡ frameAt (x .working .frames) p
+    unfolding settledFirst ending onWorking withState withPlace
+    settled-here = replacing-here pages (ending x) (settledFrames owned (x .working .frames)) (ok .frames) new p h
+
+    -- the frame of page p written whole
+    pub settled-frame : splice (encodeBoard (settledFirst owned p x)) (framesAt + p * frameSize)
+        (encodeFrame (settledFrame (owned p) (frameAt (x .working .frames) p)))
+        ≡ encodeBoard (settledFirst owned (suc p) x)
+    settled-frame =
+        let f : Frame = frameAt (x .working .frames) p in
+        write-frame pages (settledFirst owned p x) p (settledFrame (owned p) f) framesIn
+        (frameOk-settled (owned p) f (frameOk-at (x .working .frames) p (ok .frames)) .size) h
+        ∙ ap encodeBoard (settled-next (settledFrame (owned p) f) (frame-settled (owned p) refl))
+
+    -- a page that the directory gives this board: its right becomes own
+    pub settled-own : owned p ≡ true
+        → splice (encodeBoard (settledFirst owned p x)) (framesAt + p * frameSize + rightAt) (rightByte Own ∷ []) ≡ encodeBoard (settledFirst owned (suc p) x)
+    unfolding settledFrame
+    settled-own t =
+        let f : Frame = frameAt (settledFirst owned p x .working .frames) p in
+        write-right pages (settledFirst owned p x) p framesIn h Own
+        ∙ ap encodeBoard (settled-next (settledFrame true f) (ap (λ (g : Frame). settledFrame true g) settled-here ∙ frame-settled true t))
+
+    -- another board's page: its frame is emptied
+    pub settled-other : owned p ≡ false
+        → splice (encodeBoard (settledFirst owned p x)) (framesAt + p * frameSize) (zeros frameSize) ≡ encodeBoard (settledFirst owned (suc p) x)
+    unfolding settledFrame
+    settled-other t =
+        rw (← encode-emptyFrame)
+        (write-frame pages (settledFirst owned p x) p emptyFrame framesIn (frameOk-empty .size) h
+        ∙ ap encodeBoard (settled-next emptyFrame (frame-settled false t)))

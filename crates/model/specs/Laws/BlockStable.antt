@@ -1,0 +1,368 @@
+-- The stable part of a block: where the selected area, the spare area and the selector stand in the bytes of a board, and that each stable store is
+-- one or two splices of them. Assumes nothing.
+use mathlib.Core.Path.{_≡_, refl, sym, ap, _∙_}
+use Prim.Native.Nat.{ℕ, _+_, _*_, _≤_, _<_}
+use native.Mathlib.Nat.{zero-mul, one-mul}
+use native.Mathlib.Omega.{arith}
+use mathlib.Core.Bool.{Bool, true, false, not}
+use mathlib.Core.List.{List, [], _∷_, _++_, append-assoc, append-nil}
+use lib.ListN.{length, getD, length-append}
+use lib.Dec.{eqb}
+use Rattle.words.specs.LittleEndian.{bytesOf, numberOf}
+use Rattle.types.specs.declared.Frame.{Frame}
+use Rattle.types.specs.declared.Record.{Record}
+use Rattle.model.specs.Definitions.Parts.{part, splice, byteAt, encodeAll}
+use Rattle.model.specs.Definitions.Layout.{mostPages, slotCount, numberSize, frameSize, slotSize, slotsSize, areaNumberAt, areaCountAt, areaFramesAt, areaSlotsAt, areaSize, selectorAt, slotsAt, areaAt, blockSize}
+use Rattle.model.specs.Definitions.Bank.{Area, Stable, Board, frameAt, onSpare}
+use Rattle.model.specs.Definitions.Codec.{encodeFrame, decodeFrame, encodeRecord, decodeRecord, encodeLog, encodeArea, stateByte, selectorByte, encodeFixed, encodeStable, encodeBoard}
+use Rattle.model.specs.Definitions.WellFormed.{FrameOk, RecordOk, AreaOk, FieldsOk}
+use Rattle.model.specs.Definitions.Steps.{storedFrame, storedHead, storedSelector}
+use Rattle.model.specs.Laws.Parts.{length-part, part-append-right, part-front, part-end, part-part, length-splice, part-splice, splice-append-right, splice-front, splice-at, splice-within, splice-again, byteAt-part, byteAt-splice-before, index-in}
+use Rattle.model.specs.Laws.WrittenTests.{log-count}
+use Rattle.model.specs.Laws.Codec.{areaHead, length-areaHead, length-encodeArea, area-count, length-encodeFrames, length-encodeFrame, length-encodeRecord, length-encodeLog}
+use Rattle.model.specs.Laws.CodecBack.{slot-in}
+use Rattle.model.specs.Laws.CodecBank.{length-encodeFixed, length-encodeBoard, eqb-selectorByte}
+use Rattle.model.specs.Laws.Keeps.Accesses.{frameOk-at}
+use Rattle.model.specs.Laws.BlockFields.{read-selector}
+use Rattle.model.specs.Laws.BlockAreas.{area-number-read, area-frame-read, area-record-read, withRecord, withAreaFrame, withHead, write-areaRecord, write-areaFrame, write-areaHead, areaOk-record, areaOk-frame, areaOk-head}
+
+-- ---- a part changed by two splices and put back
+
+module _ {A : Type 0} (l : List A) (a n b : ℕ) (v : List A) (c : ℕ) (w : List A) where
+  pub splice-within-twice : b + length v ≤ n → c + length w ≤ n → a + n ≤ length l
+      → splice l a (splice (splice (part l a n) b v) c w) ≡ splice (splice l (a + b) v) (a + c) w
+  splice-within-twice h k m =
+      let u : List A = splice (part l a n) b v in
+      let e : length (part l a n) ≡ n = length-part l a n m in
+      let f : length u ≡ n = length-splice (part l a n) b v (omega arith) ∙ e in
+      let g : length (splice u c w) ≡ n = length-splice u c w (omega arith) ∙ f in
+      let i : length (splice l a u) ≡ length l = length-splice l a u (omega arith) in
+      rw (← splice-within l a n b v h m, ← splice-within (splice l a u) a n c w k (omega arith), part-splice l a n u f (omega arith))
+      (sym (splice-again l a u (splice u c w) (f ∙ sym g) (omega arith)))
+
+-- ---- the two areas, side by side
+
+-- either area lies in the block
+pub area-in : (pages : ℕ) (second : Bool) → areaAt pages (selectorByte second) + areaSize pages ≤ blockSize pages
+unfolding selectorByte
+area-in pages true = omega arith
+area-in pages false = omega arith
+
+-- the areas change places in the record, not in the bytes
+swapped-areas : (second : Bool) (a s : Area)
+    → encodeStable (record { second = not second; selected = s; spare = a }) ≡ encodeStable (record { second = second; selected = a; spare = s })
+unfolding encodeStable
+swapped-areas true a s = refl
+swapped-areas false a s = refl
+
+module _ (pages : ℕ) (a s : Area) (wide : length (encodeArea a) ≡ areaSize pages) (wide′ : length (encodeArea s) ≡ areaSize pages) where
+  selected-in : (second : Bool)
+      → part (encodeStable (record { second = second; selected = a; spare = s })) (selectorByte second * areaSize pages) (areaSize pages) ≡ encodeArea a
+  unfolding encodeStable selectorByte
+  selected-in true = rw one-mul (part-end (encodeArea s) (encodeArea a) (areaSize pages) (areaSize pages) wide′ wide)
+  selected-in false = rw zero-mul (part-front (encodeArea a) (encodeArea s) (areaSize pages) wide)
+
+  selected-spliced : (second : Bool) (b : Area) → length (encodeArea b) ≡ areaSize pages
+      → splice (encodeStable (record { second = second; selected = a; spare = s })) (selectorByte second * areaSize pages) (encodeArea b)
+      ≡ encodeStable (record { second = second; selected = b; spare = s })
+  unfolding encodeStable selectorByte
+  selected-spliced true b e =
+      rw one-mul (simp append-nil at (splice-at (encodeArea s) (encodeArea a) (encodeArea b) [] (areaSize pages) wide′ (wide ∙ sym e)))
+  selected-spliced false b e = rw zero-mul (splice-front (encodeArea a) (encodeArea b) (encodeArea s) (wide ∙ sym e))
+
+-- ---- a block: what stands before the areas, and the areas
+
+abbrev before : Board → List ℕ
+before x = encodeFixed x ++ (encodeAll encodeFrame (x .working .frames) ++ encodeLog (x .working .log))
+
+before-areas : (x : Board) → encodeBoard x ≡ before x ++ encodeStable (x .stable)
+unfolding encodeBoard
+before-areas x = simp append-assoc
+
+-- a board with another selected area; onSpare is the same for the spare one
+unfoldable pub onSelected : (Area → Area) → Board → Board
+onSelected f x =
+    record {
+      state = x .state;
+      fuse = x .fuse;
+      working = x .working;
+      stable = record { second = x .stable .second; selected = f (x .stable .selected); spare = x .stable .spare };
+    }
+
+module _ (pages : ℕ) (x : Board) (ok : FieldsOk pages x) where
+  abbrev l : List ℕ
+  l = encodeBoard x
+
+  abbrev selectedPlace : ℕ
+  selectedPlace = areaAt pages (selectorByte (x .stable .second))
+
+  abbrev sparePlace : ℕ
+  sparePlace = areaAt pages (selectorByte (not (x .stable .second)))
+
+  length-before : length (before x) ≡ slotsAt pages + slotsSize
+  length-before =
+      simp (length-append, length-encodeFixed, length-encodeFrames pages (x .working .frames) (ok .frames), length-encodeLog pages (x .working .log) (ok .log))
+      (omega arith)
+
+  wide-selected : length (encodeArea (x .stable .selected)) ≡ areaSize pages
+  wide-selected = length-encodeArea pages (x .stable .selected) (ok .selected)
+
+  wide-spare : length (encodeArea (x .stable .spare)) ≡ areaSize pages
+  wide-spare = length-encodeArea pages (x .stable .spare) (ok .spare)
+
+  -- the test that a reader of the block makes
+  pub selector-read : eqb (byteAt (encodeBoard x) selectorAt) (selectorByte true) ≡ x .stable .second
+  selector-read = rw (read-selector pages x ok) (eqb-selectorByte (x .stable .second))
+
+  -- either of the two areas, and what stands in its place
+  module _ (second : Bool) (a s : Area) (wide : length (encodeArea a) ≡ areaSize pages) (wide′ : length (encodeArea s) ≡ areaSize pages)
+      (e : encodeStable (x .stable) ≡ encodeStable (record { second = second; selected = a; spare = s })) where
+    area-read : part (encodeBoard x) (areaAt pages (selectorByte second)) (areaSize pages) ≡ encodeArea a
+    area-read =
+        rw (before-areas x, e)
+        (part-append-right (before x) _ (areaAt pages (selectorByte second)) (selectorByte second * areaSize pages) (areaSize pages) (rw length-before)
+        ∙ selected-in pages a s wide wide′ second)
+
+    area-spliced : (b : Area) → length (encodeArea b) ≡ areaSize pages
+        → splice (encodeBoard x) (areaAt pages (selectorByte second)) (encodeArea b)
+        ≡ before x ++ encodeStable (record { second = second; selected = b; spare = s })
+    area-spliced b w =
+        rw (before-areas x, e)
+        (splice-append-right (before x) _ (areaAt pages (selectorByte second)) (selectorByte second * areaSize pages) (encodeArea b) (rw length-before)
+        ∙ ap (λ (r : List ℕ). before x ++ r) (selected-spliced pages a s wide wide′ second b w))
+
+  abbrev t : Stable
+  t = x .stable
+
+  pub selected-part : part (encodeBoard x) (areaAt pages (selectorByte (x .stable .second))) (areaSize pages) ≡ encodeArea (x .stable .selected)
+  selected-part = area-read (t .second) (t .selected) (t .spare) wide-selected wide-spare refl
+
+  pub spare-part : part (encodeBoard x) (areaAt pages (selectorByte (not (x .stable .second)))) (areaSize pages) ≡ encodeArea (x .stable .spare)
+  spare-part = area-read (not (t .second)) (t .spare) (t .selected) wide-spare wide-selected (sym (swapped-areas (t .second) (t .selected) (t .spare)))
+
+  -- an area changed is one splice
+  pub write-selected : (f : Area → Area) → length (encodeArea (f (x .stable .selected))) ≡ areaSize pages
+      → splice (encodeBoard x) (areaAt pages (selectorByte (x .stable .second))) (encodeArea (f (x .stable .selected)))
+      ≡ encodeBoard (onSelected f x)
+  unfolding onSelected encodeFixed
+  write-selected f w =
+      rw (before-areas (onSelected f x)) (area-spliced (t .second) (t .selected) (t .spare) wide-selected wide-spare refl (f (t .selected)) w)
+
+  pub write-spare : (f : Area → Area) → length (encodeArea (f (x .stable .spare))) ≡ areaSize pages
+      → splice (encodeBoard x) (areaAt pages (selectorByte (not (x .stable .second)))) (encodeArea (f (x .stable .spare)))
+      ≡ encodeBoard (onSpare f x)
+  unfolding onSpare encodeFixed
+  write-spare f w =
+      let e : encodeStable t ≡ encodeStable (record { second = not (t .second); selected = t .spare; spare = t .selected }) =
+      sym (swapped-areas (t .second) (t .selected) (t .spare)) in
+      rw (before-areas (onSpare f x), ← swapped-areas (t .second) (t .selected) (f (t .spare)))
+      (area-spliced (not (t .second)) (t .spare) (t .selected) wide-spare wide-selected e (f (t .spare)) w)
+
+  -- the same where the area is taken as its own part of the block and changed there
+  pub write-selected-part : (f : Area → Area) (g : List ℕ → List ℕ) → g (encodeArea (x .stable .selected)) ≡ encodeArea (f (x .stable .selected))
+      → length (encodeArea (f (x .stable .selected))) ≡ areaSize pages
+      → splice (encodeBoard x) (areaAt pages (selectorByte (x .stable .second)))
+      (g (part (encodeBoard x) (areaAt pages (selectorByte (x .stable .second))) (areaSize pages)))
+      ≡ encodeBoard (onSelected f x)
+  write-selected-part f g e w = rw (selected-part, e) (write-selected f w)
+
+  pub write-spare-part : (f : Area → Area) (g : List ℕ → List ℕ) → g (encodeArea (x .stable .spare)) ≡ encodeArea (f (x .stable .spare))
+      → length (encodeArea (f (x .stable .spare))) ≡ areaSize pages
+      → splice (encodeBoard x) (areaAt pages (selectorByte (not (x .stable .second))))
+      (g (part (encodeBoard x) (areaAt pages (selectorByte (not (x .stable .second)))) (areaSize pages)))
+      ≡ encodeBoard (onSpare f x)
+  write-spare-part f g e w = rw (spare-part, e) (write-spare f w)
+
+  -- ---- the selected area read off the block
+
+  fits-in : (second : Bool) → areaAt pages (selectorByte second) + areaSize pages ≤ length (encodeBoard x)
+  fits-in second = rw (length-encodeBoard pages x ok) (area-in pages second)
+
+  -- a field of the selected area
+  pub selected-field : (b n : ℕ) → b + n ≤ areaSize pages
+      → part (encodeBoard x) (areaAt pages (selectorByte (x .stable .second)) + b) n ≡ part (encodeArea (x .stable .selected)) b n
+  selected-field b n h = sym (part-part l selectedPlace (areaSize pages) b n h) ∙ rw selected-part
+
+  pub selected-number : numberOf (part (encodeBoard x) (areaAt pages (selectorByte (x .stable .second)) + areaNumberAt) numberSize) ≡ x .stable .selected .number
+  selected-number = rw (selected-field areaNumberAt numberSize (omega arith)) (area-number-read pages (t .selected) (ok .selected))
+
+  pub selected-count : byteAt (encodeBoard x) (areaAt pages (selectorByte (x .stable .second)) + areaCountAt) ≡ length (x .stable .selected .log .records)
+  selected-count =
+      sym (byteAt-part l selectedPlace (areaSize pages) areaCountAt (omega arith)) ∙ rw selected-part (area-count pages (t .selected) (ok .selected))
+
+  pub selected-frame : (p : ℕ) → p < pages
+      → decodeFrame (part (encodeBoard x) (areaAt pages (selectorByte (x .stable .second)) + (areaFramesAt + p * frameSize)) frameSize)
+      ≡ frameAt (x .stable .selected .frames) p
+  selected-frame p h =
+      let m : p * frameSize + frameSize ≤ pages * frameSize = index-in frameSize pages p h in
+      rw (selected-field (areaFramesAt + p * frameSize) frameSize (omega arith)) (area-frame-read pages (t .selected) (ok .selected) p h)
+
+  pub selected-record : (i : ℕ) (d : Record) → i < length (x .stable .selected .log .records)
+      → decodeRecord (part (encodeBoard x) (areaAt pages (selectorByte (x .stable .second)) + (areaSlotsAt pages + i * slotSize)) slotSize)
+      ≡ getD (x .stable .selected .log .records) i d
+  selected-record i d h =
+      let m : i * slotSize + slotSize ≤ slotsSize = slot-in (length (t .selected .log .records)) i (log-count pages (t .selected .log) (ok .selected .log)) h in
+      rw (selected-field (areaSlotsAt pages + i * slotSize) slotSize (omega arith)) (area-record-read pages (t .selected) (ok .selected) i d h)
+
+  -- ---- the stores: each through the area's own part of the block, and as splices of the block
+
+  -- a write into either area leaves the selector
+  pub selector-kept : (second : Bool) (b : ℕ) (v : List ℕ) → b ≤ areaSize pages
+      → byteAt (splice (encodeBoard x) (areaAt pages (selectorByte second) + b) v) selectorAt ≡ selectorByte (x .stable .second)
+  selector-kept second b v h =
+      byteAt-splice-before l (areaAt pages (selectorByte second) + b) v selectorAt (omega arith) (omega (arith, fits-in second)) ∙ read-selector pages x ok
+
+  -- one splice inside the spare area
+  module _ (f : Area → Area) (b : ℕ) (v : List ℕ) (h : b + length v ≤ areaSize pages)
+      (e : splice (encodeArea (x .stable .spare)) b v ≡ encodeArea (f (x .stable .spare))) where
+    in-spare-part : splice l sparePlace (splice (part l sparePlace (areaSize pages)) b v) ≡ encodeBoard (onSpare f x)
+    in-spare-part =
+        write-spare-part f (λ r. splice r b v) e
+        (ap length (sym e) ∙ length-splice (encodeArea (t .spare)) b v (omega (arith, wide-spare)) ∙ wide-spare)
+
+    in-spare : splice l (sparePlace + b) v ≡ encodeBoard (onSpare f x)
+    in-spare = sym (splice-within l sparePlace (areaSize pages) b v h (fits-in (not (t .second)))) ∙ in-spare-part
+
+  -- "one area frame": page p's frame goes to the spare area
+  module _ (p : ℕ) (h : p < pages) where
+    abbrev frame : Frame
+    frame = frameAt (x .working .frames) p
+
+    frame-ok : FrameOk frame
+    frame-ok = frameOk-at (x .working .frames) p (ok .frames)
+
+    frame-in : areaFramesAt + p * frameSize + length (encodeFrame frame) ≤ areaSize pages
+    frame-in =
+        let m : p * frameSize + frameSize ≤ pages * frameSize = index-in frameSize pages p h in
+        let w : length (encodeFrame frame) ≡ frameSize = length-encodeFrame frame (frame-ok .size) in
+        omega arith
+
+    frame-written : splice (encodeArea (t .spare)) (areaFramesAt + p * frameSize) (encodeFrame frame) ≡ encodeArea (withAreaFrame p frame (t .spare))
+    frame-written = write-areaFrame pages (t .spare) (ok .spare) p frame frame-ok h
+
+    pub storedFrame-part : splice (encodeBoard x) (areaAt pages (selectorByte (not (x .stable .second))))
+        (splice (part (encodeBoard x) (areaAt pages (selectorByte (not (x .stable .second)))) (areaSize pages)) (areaFramesAt + p * frameSize)
+        (encodeFrame (frameAt (x .working .frames) p)))
+        ≡ encodeBoard (storedFrame p x)
+    unfolding storedFrame withAreaFrame
+    storedFrame-part = in-spare-part (withAreaFrame p frame) (areaFramesAt + p * frameSize) (encodeFrame frame) frame-in frame-written
+
+    pub storedFrame-bytes : splice (encodeBoard x) (areaAt pages (selectorByte (not (x .stable .second))) + (areaFramesAt + p * frameSize))
+        (encodeFrame (frameAt (x .working .frames) p))
+        ≡ encodeBoard (storedFrame p x)
+    unfolding storedFrame withAreaFrame
+    storedFrame-bytes = in-spare (withAreaFrame p frame) (areaFramesAt + p * frameSize) (encodeFrame frame) frame-in frame-written
+
+  -- "one area head (number and stored count 0)"
+  abbrev head : Area
+  head = withHead (x .working .number) (t .spare)
+
+  head-in : areaNumberAt + length (areaHead head) ≤ areaSize pages
+  head-in = omega (arith, length-areaHead head)
+
+  pub storedHead-part : splice (encodeBoard x) (areaAt pages (selectorByte (not (x .stable .second))))
+      (splice (part (encodeBoard x) (areaAt pages (selectorByte (not (x .stable .second)))) (areaSize pages)) areaNumberAt
+      (bytesOf numberSize (x .working .number) ++ (0 ∷ [])))
+      ≡ encodeBoard (storedHead x)
+  unfolding storedHead withHead
+  storedHead-part =
+      in-spare-part (withHead (x .working .number)) areaNumberAt (areaHead head) head-in (write-areaHead pages (t .spare) (ok .spare) (x .working .number))
+
+  pub storedHead-bytes : splice (encodeBoard x) (areaAt pages (selectorByte (not (x .stable .second))) + areaNumberAt)
+      (bytesOf numberSize (x .working .number) ++ (0 ∷ []))
+      ≡ encodeBoard (storedHead x)
+  unfolding storedHead withHead
+  storedHead-bytes =
+      in-spare (withHead (x .working .number)) areaNumberAt (areaHead head) head-in (write-areaHead pages (t .spare) (ok .spare) (x .working .number))
+
+  -- "one selector": the areas stay where they are
+  pub storedSelector-bytes : splice (encodeBoard x) selectorAt (selectorByte (not (x .stable .second)) ∷ []) ≡ encodeBoard (storedSelector x)
+  unfolding storedSelector encodeBoard encodeFixed
+  storedSelector-bytes =
+      rw (swapped-areas (t .second) (t .selected) (t .spare))
+      (splice-at (stateByte (x .state) ∷ []) (selectorByte (t .second) ∷ []) (selectorByte (not (t .second)) ∷ []) _ selectorAt refl refl)
+
+  -- "one record appended to the selected area": the record in the slot at the stored count, and the count one more
+  module _ (r : Record) (v : RecordOk pages r) (h : length (x .stable .selected .log .records) < slotCount) where
+    abbrev stored : ℕ
+    stored = length (t .selected .log .records)
+
+    pub withRecord-part : splice (encodeBoard x) (areaAt pages (selectorByte (x .stable .second)))
+        (splice
+        (splice (part (encodeBoard x) (areaAt pages (selectorByte (x .stable .second))) (areaSize pages))
+        (areaSlotsAt pages + length (x .stable .selected .log .records) * slotSize) (encodeRecord r))
+        areaCountAt ((length (x .stable .selected .log .records) + 1) ∷ []))
+        ≡ encodeBoard (onSelected (withRecord r) x)
+    withRecord-part =
+        write-selected-part (withRecord r) (λ s. splice (splice s (areaSlotsAt pages + stored * slotSize) (encodeRecord r)) areaCountAt ((stored + 1) ∷ []))
+        (write-areaRecord pages (t .selected) (ok .selected) r v)
+        (length-encodeArea pages (withRecord r (t .selected)) (areaOk-record pages (t .selected) (ok .selected) r v h))
+
+    pub withRecord-bytes : splice
+        (splice (encodeBoard x) (areaAt pages (selectorByte (x .stable .second)) + (areaSlotsAt pages + length (x .stable .selected .log .records) * slotSize))
+        (encodeRecord r))
+        (areaAt pages (selectorByte (x .stable .second)) + areaCountAt) ((length (x .stable .selected .log .records) + 1) ∷ [])
+        ≡ encodeBoard (onSelected (withRecord r) x)
+    withRecord-bytes =
+        let w : length (encodeRecord r) ≡ slotSize = length-encodeRecord r (v .size) in
+        let m : stored * slotSize + slotSize ≤ slotsSize = index-in slotSize slotCount stored h in
+        sym
+        (splice-within-twice l selectedPlace (areaSize pages) (areaSlotsAt pages + stored * slotSize) (encodeRecord r) areaCountAt ((stored + 1) ∷ [])
+        (omega arith) (omega arith) (fits-in (t .second)))
+        ∙ withRecord-part
+
+  -- ---- every field stays in range
+
+  pub onSelected-fields : (f : Area → Area) → AreaOk pages (f (x .stable .selected)) → FieldsOk pages (onSelected f x)
+  unfolding onSelected
+  onSelected-fields f a =
+      record {
+        fuse = ok .fuse;
+        number = ok .number;
+        since = ok .since;
+        frames = ok .frames;
+        log = ok .log;
+        selected = a;
+        spare = ok .spare;
+      }
+
+  pub onSpare-fields : (f : Area → Area) → AreaOk pages (f (x .stable .spare)) → FieldsOk pages (onSpare f x)
+  unfolding onSpare
+  onSpare-fields f a =
+      record {
+        fuse = ok .fuse;
+        number = ok .number;
+        since = ok .since;
+        frames = ok .frames;
+        log = ok .log;
+        selected = ok .selected;
+        spare = a;
+      }
+
+  pub withRecord-fields : (r : Record) → RecordOk pages r → length (x .stable .selected .log .records) < slotCount
+      → FieldsOk pages (onSelected (withRecord r) x)
+  withRecord-fields r v h = onSelected-fields (withRecord r) (areaOk-record pages (t .selected) (ok .selected) r v h)
+
+  pub storedFrame-fields : (p : ℕ) → FieldsOk pages (storedFrame p x)
+  unfolding storedFrame withAreaFrame
+  storedFrame-fields p =
+      let f : Frame = frameAt (x .working .frames) p in
+      onSpare-fields (withAreaFrame p f) (areaOk-frame pages (t .spare) (ok .spare) p f (frameOk-at (x .working .frames) p (ok .frames)))
+
+  pub storedHead-fields : pages ≤ mostPages → FieldsOk pages (storedHead x)
+  unfolding storedHead withHead
+  storedHead-fields few =
+      onSpare-fields (withHead (x .working .number)) (areaOk-head pages (t .spare) (ok .spare) (x .working .number) (ok .number) few)
+
+  pub storedSelector-fields : FieldsOk pages (storedSelector x)
+  unfolding storedSelector
+  storedSelector-fields =
+      record {
+        fuse = ok .fuse;
+        number = ok .number;
+        since = ok .since;
+        frames = ok .frames;
+        log = ok .log;
+        selected = ok .spare;
+        spare = ok .selected;
+      }

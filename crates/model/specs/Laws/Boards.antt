@@ -1,0 +1,331 @@
+-- What stands at a board, at an entry and at a frame after each operation on a bank, and that the lists of boards and entries keep their lengths.
+-- Assumes nothing.
+use mathlib.Core.Path.{_≡_, refl, ap, _∙_, fun-ext}
+use mathlib.Core.Logic.{_≢_}
+use Prim.Native.Nat.{ℕ, zero, suc, _≤_, _<_}
+use native.Mathlib.Nat.{le-of-suc-le-suc, not-suc-le-zero}
+use mathlib.Core.Bool.{Bool, true, false, _&&_, _||_, not}
+use mathlib.Core.List.{List, [], _∷_, map}
+use lib.ListN.{length, getD, set, length-map, List·getD-eq-default}
+use lib.Seq.{getD-set-same, getD-set-other}
+use lib.Dec.{eqb}
+use borrow.Author.Tests.{eq-eqb, ne-eqb}
+use Rattle.types.specs.declared.Right.the-variants.{None, Copy, Own}
+use Rattle.types.specs.declared.Frame.{Frame}
+use Rattle.types.specs.declared.CopyOrOwn.the-variants.{GotCopy}
+use Rattle.types.specs.declared.Record.{Record}
+use Rattle.types.specs.declared.Kind.the-variants.{Got}
+use Rattle.model.specs.Definitions.Parts.{update, each, member, withMember}
+use Rattle.model.specs.Definitions.Bank.{Entry, Board, Bank, emptyFrame, noBoard, boardAt, entryAt, frameAt, onBoard, onEntry, onWorking}
+use Rattle.model.specs.Definitions.Steps.{poweredOff, forgotten, powerOff, recorded, note, movedRecord, storedRecord, withFrame, frameOf, giveCopy, dropped, dropAt, dropCopies, passOwnership}
+use Rattle.model.specs.Definitions.Replay.{settled}
+use Rattle.words.specs.Bytes.{Each, each-nil, each-cons}
+use Rattle.model.specs.Definitions.WellFormed.{rightIn}
+use Rattle.model.specs.Laws.Lists.{each-head, each-tail, length-update, getD-update-same, getD-update-other, length-each, getD-each}
+
+-- ---- lists: what the laws of Lists leave out
+
+module _ {A : Type 0} where
+  pub update-out : (i : ℕ) (f : A → A) (xs : List A) → length xs ≤ i → update i f xs ≡ xs
+  unfolding update
+  update-out i f [] h = refl
+  update-out zero f (x ∷ xs) h = absurd (not-suc-le-zero h)
+  update-out (suc i) f (x ∷ xs) h = ap (λ (l : List A). x ∷ l) (update-out i f xs (le-of-suc-le-suc h))
+
+  pub update-update : (i : ℕ) (f g : A → A) (xs : List A) → update i g (update i f xs) ≡ update i (λ x. g (f x)) xs
+  unfolding update
+  update-update i f g [] = refl
+  update-update zero f g (x ∷ xs) = refl
+  update-update (suc i) f g (x ∷ xs) = ap (λ (l : List A). x ∷ l) (update-update i f g xs)
+
+  -- the default is free where the index is in range
+  pub getD-map-below : {B : Type 0} (f : B → A) (xs : List B) (i : ℕ) (d : A) (e : B) → i < length xs → getD (map f xs) i d ≡ f (getD xs i e)
+  getD-map-below f [] i d e h = absurd (not-suc-le-zero h)
+  getD-map-below f (x ∷ xs) zero d e h = refl
+  getD-map-below f (x ∷ xs) (suc i) d e h = getD-map-below f xs i d e (le-of-suc-le-suc h)
+
+  pub each-map-of : {B : Type 0} {P : A → Type 0} {Q : B → Type 0} (f : B → A) (xs : List B) → ((x : B) → Q x → P (f x)) → Each Q xs → Each P (map f xs)
+  each-map-of f [] h e = each-nil
+  each-map-of f (x ∷ xs) h e = each-cons (h x (each-head e)) (each-map-of f xs h (each-tail e))
+
+-- ---- the right that an entry gives
+
+pub rightIn-owner : (e : Entry) (b : ℕ) → e .owner ≡ b → rightIn e b ≡ Own
+unfolding rightIn
+rightIn-owner e b h = cc (eq-eqb (e .owner) b h)
+
+pub rightIn-copy : (e : Entry) (b : ℕ) → e .owner ≢ b → member b (e .copies) ≡ true → rightIn e b ≡ Copy
+unfolding rightIn
+rightIn-copy e b h m = cc (ne-eqb (e .owner) b h)
+
+pub rightIn-none : (e : Entry) (b : ℕ) → e .owner ≢ b → member b (e .copies) ≡ false → rightIn e b ≡ None
+unfolding rightIn
+rightIn-none e b h m = cc (ne-eqb (e .owner) b h)
+
+pub rightIn-same : (e e′ : Entry) (b : ℕ) → e′ .owner ≡ e .owner → member b (e′ .copies) ≡ member b (e .copies) → rightIn e′ b ≡ rightIn e b
+unfolding rightIn
+rightIn-same e e′ b o m = cc
+
+-- ---- a frame
+
+pub frameAt-same : (fs : List Frame) (p : ℕ) (f : Frame) → p < length fs → frameAt (set fs p f) p ≡ f
+unfolding frameAt
+frameAt-same fs p f h = getD-set-same fs p f emptyFrame h
+
+pub frameAt-other : (fs : List Frame) (p q : ℕ) (f : Frame) → q ≢ p → frameAt (set fs p f) q ≡ frameAt fs q
+unfolding frameAt
+frameAt-other fs p q f h = getD-set-other fs p q f emptyFrame h
+
+pub frameAt-each : (p : ℕ) (g : ℕ → Frame → Frame) (fs : List Frame) → p < length fs → frameAt (each g fs) p ≡ g p (frameAt fs p)
+unfolding frameAt
+frameAt-each p g fs h = getD-each p g fs emptyFrame h
+
+-- ---- the first volatile record, if there is one
+
+pub storedRecord-cases : (P : Board → Type 0) (x : Board) → (x .working .log .records ≡ [] → P x)
+    → ((r : Record) (rs : List Record) → x .working .log .records ≡ r ∷ rs → P (movedRecord r rs x)) → P (storedRecord x)
+unfolding storedRecord
+storedRecord-cases P x f g = go (x .working .log .records) refl
+  where
+    go : (l : List Record) → x .working .log .records ≡ l → P (elim l [ [] ↦ x | r ∷ rs ↦ movedRecord r rs x ])
+    go [] e = f e
+    go (r ∷ rs) e = g r rs e
+
+-- ---- one board changed
+
+pub boardAt-out : (k : Bank) (b : ℕ) → length (k .boards) ≤ b → boardAt k b ≡ noBoard
+unfolding boardAt
+boardAt-out k b h = List·getD-eq-default (k .boards) noBoard {n = b} h
+
+module _ (b : ℕ) (f : Board → Board) (k : Bank) where
+  pub boards-onBoard : length (onBoard b f k .boards) ≡ length (k .boards)
+  unfolding onBoard
+  boards-onBoard = length-update b f (k .boards)
+
+  pub directory-onBoard : onBoard b f k .directory ≡ k .directory
+  unfolding onBoard
+  directory-onBoard = refl
+
+  pub entryAt-onBoard : (p : ℕ) → entryAt (onBoard b f k) p ≡ entryAt k p
+  unfolding entryAt onBoard
+  entryAt-onBoard p = refl
+
+  pub boardAt-same : b < length (k .boards) → boardAt (onBoard b f k) b ≡ f (boardAt k b)
+  unfolding boardAt onBoard
+  boardAt-same h = getD-update-same b f (k .boards) noBoard h
+
+  pub boardAt-other : (c : ℕ) → c ≢ b → boardAt (onBoard b f k) c ≡ boardAt k c
+  unfolding boardAt onBoard
+  boardAt-other c h = getD-update-other b c f (k .boards) noBoard h
+
+  -- a board that isn't there can't be changed
+  pub onBoard-out : length (k .boards) ≤ b → onBoard b f k ≡ k
+  unfolding onBoard
+  onBoard-out h = ap (λ (xs : List Board). record { directory = k .directory; boards = xs }) (update-out b f (k .boards) h)
+
+pub onBoard-onBoard : (b : ℕ) (f g : Board → Board) (k : Bank) → onBoard b g (onBoard b f k) ≡ onBoard b (λ x. g (f x)) k
+unfolding onBoard
+onBoard-onBoard b f g k =
+    ap (λ (xs : List Board). record { directory = k .directory; boards = xs }) (update-update b f g (k .boards))
+
+-- ---- one entry changed
+
+module _ (p : ℕ) (f : Entry → Entry) (k : Bank) where
+  pub directory-onEntry : length (onEntry p f k .directory) ≡ length (k .directory)
+  unfolding onEntry
+  directory-onEntry = length-update p f (k .directory)
+
+  pub boardAt-onEntry : (b : ℕ) → boardAt (onEntry p f k) b ≡ boardAt k b
+  unfolding boardAt onEntry
+  boardAt-onEntry b = refl
+
+  pub entryAt-same : p < length (k .directory) → entryAt (onEntry p f k) p ≡ f (entryAt k p)
+  unfolding entryAt onEntry
+  entryAt-same h = getD-update-same p f (k .directory) (record { owner = 0; copies = 0 }) h
+
+  pub entryAt-other : (q : ℕ) → q ≢ p → entryAt (onEntry p f k) q ≡ entryAt k q
+  unfolding entryAt onEntry
+  entryAt-other q h = getD-update-other p q f (k .directory) (record { owner = 0; copies = 0 }) h
+
+-- ---- a power loss
+
+module _ (b : ℕ) (k : Bank) where
+  pub boards-powerOff : length (powerOff b k .boards) ≡ length (k .boards)
+  unfolding powerOff onBoard
+  boards-powerOff = length-update b poweredOff (k .boards)
+
+  pub directory-powerOff : length (powerOff b k .directory) ≡ length (k .directory)
+  unfolding powerOff onBoard
+  directory-powerOff = length-map (k .directory) (forgotten b)
+
+  pub boardAt-powerOff-same : b < length (k .boards) → boardAt (powerOff b k) b ≡ poweredOff (boardAt k b)
+  unfolding powerOff onBoard boardAt
+  boardAt-powerOff-same h = getD-update-same b poweredOff (k .boards) noBoard h
+
+  pub boardAt-powerOff-other : (c : ℕ) → c ≢ b → boardAt (powerOff b k) c ≡ boardAt k c
+  unfolding powerOff onBoard boardAt
+  boardAt-powerOff-other c h = getD-update-other b c poweredOff (k .boards) noBoard h
+
+  pub entryAt-powerOff : (p : ℕ) → p < length (k .directory) → entryAt (powerOff b k) p ≡ forgotten b (entryAt k p)
+  unfolding powerOff onBoard entryAt
+  entryAt-powerOff p h =
+      getD-map-below (forgotten b) (k .directory) p (record { owner = 0; copies = 0 }) (record { owner = 0; copies = 0 }) h
+
+  -- what a change left of the board's working memory and of its fuse is gone
+  pub powerOff-onBoard : (f : Board → Board) → ((x : Board) → poweredOff (f x) ≡ poweredOff x) → powerOff b (onBoard b f k) ≡ powerOff b k
+  unfolding powerOff onBoard
+  powerOff-onBoard f h =
+      ap (λ (xs : List Board). record { directory = map (forgotten b) (k .directory); boards = xs })
+      (update-update b f poweredOff (k .boards) ∙ ap (λ (g : Board → Board). update b g (k .boards)) (fun-ext h))
+
+-- ---- a copy given
+
+-- the board that takes a copy with these bytes
+unfoldable pub tookCopy : ℕ → List ℕ → Board → Board
+tookCopy p bytes x = withFrame p (record { right = Copy; bytes = bytes }) (onWorking (recorded (Got GotCopy p) bytes) x)
+
+unfoldable pub withCopy : ℕ → Entry → Entry
+withCopy b e = record { owner = e .owner; copies = withMember b (e .copies) }
+
+module _ (o b p : ℕ) (k : Bank) where
+  abbrev copied : Board → Board
+  copied = tookCopy p (frameOf k o p .bytes)
+
+  pub giveCopy-parts : giveCopy o b p k ≡ onEntry p (withCopy b) (onBoard b (tookCopy p (frameOf k o p .bytes)) k)
+  unfolding giveCopy note tookCopy withCopy
+  giveCopy-parts =
+      let bytes : List ℕ = frameOf k o p .bytes in
+      rw (onBoard-onBoard b (onWorking (recorded (Got GotCopy p) bytes)) (withFrame p (record { right = Copy; bytes = bytes })) k)
+
+  pub boards-giveCopy : length (giveCopy o b p k .boards) ≡ length (k .boards)
+  unfolding onEntry
+  boards-giveCopy = rw giveCopy-parts (boards-onBoard b copied k)
+
+  pub directory-giveCopy : length (giveCopy o b p k .directory) ≡ length (k .directory)
+  unfolding onBoard
+  directory-giveCopy = rw giveCopy-parts (directory-onEntry p (withCopy b) (onBoard b copied k))
+
+  pub boardAt-giveCopy-same : b < length (k .boards) → boardAt (giveCopy o b p k) b ≡ tookCopy p (frameOf k o p .bytes) (boardAt k b)
+  boardAt-giveCopy-same h = rw (giveCopy-parts, boardAt-onEntry) (boardAt-same b copied k h)
+
+  pub boardAt-giveCopy-other : (c : ℕ) → c ≢ b → boardAt (giveCopy o b p k) c ≡ boardAt k c
+  boardAt-giveCopy-other c h = rw (giveCopy-parts, boardAt-onEntry) (boardAt-other b copied k c h)
+
+  pub entryAt-giveCopy-same : p < length (k .directory) → entryAt (giveCopy o b p k) p ≡ withCopy b (entryAt k p)
+  unfolding onBoard entryAt
+  entryAt-giveCopy-same h = rw giveCopy-parts (entryAt-same p (withCopy b) (onBoard b copied k) h)
+
+  pub entryAt-giveCopy-other : (q : ℕ) → q ≢ p → entryAt (giveCopy o b p k) q ≡ entryAt k q
+  unfolding onBoard entryAt
+  entryAt-giveCopy-other q h = rw giveCopy-parts (entryAt-other p (withCopy b) (onBoard b copied k) q h)
+
+-- ---- boards that lose a right
+
+-- a board that loses its right, if the test says so
+unfoldable pub droppedIf : Bool → ℕ → Board → Board
+droppedIf t p x = elim t [ true ↦ dropped p x | false ↦ x ]
+
+module _ (loses : ℕ → Bool) (p : ℕ) (k : Bank) where
+  pub boards-dropAt : length (dropAt loses p k .boards) ≡ length (k .boards)
+  unfolding dropAt
+  boards-dropAt = length-each (λ c x. elim (loses c) [ true ↦ dropped p x | false ↦ x ]) (k .boards)
+
+  pub directory-dropAt : dropAt loses p k .directory ≡ k .directory
+  unfolding dropAt
+  directory-dropAt = refl
+
+  pub entryAt-dropAt : (q : ℕ) → entryAt (dropAt loses p k) q ≡ entryAt k q
+  unfolding dropAt entryAt
+  entryAt-dropAt q = refl
+
+  pub boardAt-dropAt : (c : ℕ) → c < length (k .boards) → boardAt (dropAt loses p k) c ≡ droppedIf (loses c) p (boardAt k c)
+  unfolding dropAt boardAt droppedIf
+  boardAt-dropAt c h = getD-each c (λ c x. elim (loses c) [ true ↦ dropped p x | false ↦ x ]) (k .boards) noBoard h
+
+-- ---- the copies of a page dropped
+
+unfoldable pub withoutCopies : Entry → Entry
+withoutCopies e = record { owner = e .owner; copies = 0 }
+
+module _ (p : ℕ) (k : Bank) where
+  abbrev pub holds : ℕ → Bool
+  holds c = member c (entryAt k p .copies)
+
+  pub dropCopies-parts : dropCopies p k ≡ onEntry p withoutCopies (dropAt holds p k)
+  unfolding dropCopies withoutCopies
+  dropCopies-parts = refl
+
+  pub boards-dropCopies : length (dropCopies p k .boards) ≡ length (k .boards)
+  unfolding dropCopies onEntry
+  boards-dropCopies = boards-dropAt holds p k
+
+  pub directory-dropCopies : length (dropCopies p k .directory) ≡ length (k .directory)
+  unfolding dropAt
+  directory-dropCopies = rw dropCopies-parts (directory-onEntry p withoutCopies (dropAt holds p k))
+
+  pub boardAt-dropCopies : (c : ℕ) → c < length (k .boards) → boardAt (dropCopies p k) c ≡ droppedIf (holds c) p (boardAt k c)
+  boardAt-dropCopies c h = rw (dropCopies-parts, boardAt-onEntry) (boardAt-dropAt holds p k c h)
+
+  pub entryAt-dropCopies-same : p < length (k .directory) → entryAt (dropCopies p k) p ≡ withoutCopies (entryAt k p)
+  unfolding dropAt entryAt
+  entryAt-dropCopies-same h = rw dropCopies-parts (entryAt-same p withoutCopies (dropAt holds p k) h)
+
+  pub entryAt-dropCopies-other : (q : ℕ) → q ≢ p → entryAt (dropCopies p k) q ≡ entryAt k q
+  unfolding dropAt entryAt
+  entryAt-dropCopies-other q h = rw dropCopies-parts (entryAt-other p withoutCopies (dropAt holds p k) q h)
+
+-- ---- a page passed on
+
+unfoldable pub ownedBy : ℕ → Entry → Entry
+ownedBy w e = record { owner = w; copies = 0 }
+
+-- the board that takes a page with these bytes
+unfoldable pub tookOwn : ℕ → List ℕ → Board → Board
+tookOwn p bytes x = withFrame p (record { right = Own; bytes = bytes }) x
+
+module _ (o w p : ℕ) (k : Bank) where
+  -- all but the taker: the old owner and the holders lose their right
+  abbrev pub gives : ℕ → Bool
+  gives c = not (eqb c w) && (eqb c o || member c (entryAt k p .copies))
+
+  abbrev taken : Board → Board
+  taken = tookOwn p (frameOf k o p .bytes)
+
+  pub passOwnership-parts : passOwnership o w p k ≡ onEntry p (ownedBy w) (onBoard w (tookOwn p (frameOf k o p .bytes)) (dropAt gives p k))
+  unfolding passOwnership ownedBy tookOwn
+  passOwnership-parts = refl
+
+  pub boards-passOwnership : length (passOwnership o w p k .boards) ≡ length (k .boards)
+  unfolding onEntry
+  boards-passOwnership = rw passOwnership-parts (boards-onBoard w taken (dropAt gives p k) ∙ boards-dropAt gives p k)
+
+  pub directory-passOwnership : length (passOwnership o w p k .directory) ≡ length (k .directory)
+  unfolding onBoard dropAt
+  directory-passOwnership = rw passOwnership-parts (directory-onEntry p (ownedBy w) (onBoard w taken (dropAt gives p k)))
+
+  pub boardAt-passOwnership-same : w < length (k .boards) → boardAt (passOwnership o w p k) w ≡ tookOwn p (frameOf k o p .bytes) (boardAt k w)
+  unfolding droppedIf
+  boardAt-passOwnership-same h =
+      let l : w < length (dropAt gives p k .boards) = rw (boards-dropAt gives p k) h in
+      let e : boardAt (dropAt gives p k) w ≡ boardAt k w = cc (boardAt-dropAt gives p k w h, eq-eqb w w refl) in
+      rw (passOwnership-parts, boardAt-onEntry) (boardAt-same w taken (dropAt gives p k) l ∙ ap taken e)
+
+  pub boardAt-passOwnership-other : (c : ℕ) → c < length (k .boards) → c ≢ w
+      → boardAt (passOwnership o w p k) c ≡ droppedIf (eqb c o || member c (entryAt k p .copies)) p (boardAt k c)
+  boardAt-passOwnership-other c h n =
+      let e : gives c ≡ (eqb c o || member c (entryAt k p .copies)) = cc (ne-eqb c w n) in
+      rw (passOwnership-parts, boardAt-onEntry, ← e) (boardAt-other w taken (dropAt gives p k) c n ∙ boardAt-dropAt gives p k c h)
+
+  pub entryAt-passOwnership-same : p < length (k .directory) → entryAt (passOwnership o w p k) p ≡ record { owner = w; copies = 0 }
+  unfolding onBoard dropAt ownedBy
+  entryAt-passOwnership-same h = rw passOwnership-parts (entryAt-same p (ownedBy w) (onBoard w taken (dropAt gives p k)) h)
+
+  pub entryAt-passOwnership-other : (q : ℕ) → q ≢ p → entryAt (passOwnership o w p k) q ≡ entryAt k q
+  unfolding onBoard dropAt entryAt
+  entryAt-passOwnership-other q h = rw passOwnership-parts (entryAt-other p (ownedBy w) (onBoard w taken (dropAt gives p k)) q h)
+
+-- ---- the end of a replay, before its checkpoint
+
+-- "pages the directory gives to others lose their right; those it gives this board are own; place 0; state up"
+unfoldable pub settle : ℕ → Bank → Bank
+settle b k = onBoard b (settled (λ p. eqb (entryAt k p .owner) b)) k

@@ -1,0 +1,170 @@
+-- What was written reads back, part by part: the length of a part's bytes, where each field stands in them, and that reading gives
+-- the part again. An entry, a frame, a record, a log, an area. Assumes nothing.
+use mathlib.Core.Path.{_≡_, refl, ap, _∙_}
+use Prim.Native.Nat.{ℕ, suc, _*_}
+use native.Mathlib.Omega.{arith}
+use mathlib.Core.List.{List, [], _∷_, _++_, append-assoc}
+use lib.ListN.{length, length-append}
+use lib.Seq.{drop-at}
+use Rattle.words.specs.Bytes.{Each}
+use Rattle.words.specs.LittleEndian.{bytesOf}
+use Rattle.words.specs.LittleEndianLaws.{length-bytesOf, numberOf-bytesOf}
+use Rattle.types.specs.declared.Right.{Right}
+use Rattle.types.specs.declared.Right.the-variants.{None, Copy, Own}
+use Rattle.types.specs.declared.Frame.{Frame}
+use Rattle.types.specs.declared.CopyOrOwn.the-variants.{GotCopy, GotOwn}
+use Rattle.types.specs.declared.Kind.{Kind}
+use Rattle.types.specs.declared.Kind.the-variants.{Got, Shown, Dropped}
+use Rattle.types.specs.declared.Record.{Record}
+use Rattle.model.specs.Definitions.Parts.{part, byteAt, encodeAll}
+use Rattle.model.specs.Definitions.Layout.{frameBytesAt, areaNumberAt, pageSize, entrySize, frameSize, slotSize, slotsSize, recordCountAt, slotBytesAt, numberSize, sinceSize, areaSize, areaCountAt, areaFramesAt, areaSlotsAt}
+use Rattle.model.specs.Definitions.Bank.{Entry, Log, Area}
+use Rattle.model.specs.Definitions.Codec.{encodeEntry, decodeEntry, rightByte, rightOf, encodeFrame, decodeFrame, mark0, mark1, pageOf, kindOf, encodeRecord, decodeRecord, encodeLog, decodeLog, encodeArea, decodeFrames, decodeArea}
+use Rattle.model.specs.Definitions.WellFormed.{FrameOk, RecordOk, LogOk, FramesOk, AreaOk}
+use Rattle.model.specs.Laws.Lists.{each-imp}
+use Rattle.model.specs.Laws.Parts.{part-append-right, part-front, part-at, part-end, byteAt-append-right, length-encodeAll, decodeAll-encodeAll, decodeAll-encodeAll-all, ReadsBack}
+
+-- ---- an entry of the directory
+
+pub length-encodeEntry : (e : Entry) → length (encodeEntry e) ≡ entrySize
+unfolding encodeEntry
+length-encodeEntry e = refl
+
+pub decode-encodeEntry : (e : Entry) → decodeEntry (encodeEntry e) ≡ e
+unfolding decodeEntry encodeEntry byteAt
+decode-encodeEntry e = refl
+
+-- ---- a frame
+
+pub rightOf-rightByte : (r : Right) → rightOf (rightByte r) ≡ r
+unfolding rightOf rightByte
+rightOf-rightByte None = refl
+rightOf-rightByte Copy = refl
+rightOf-rightByte Own = refl
+
+pub length-encodeFrame : (f : Frame) → length (f .bytes) ≡ pageSize → length (encodeFrame f) ≡ frameSize
+unfolding encodeFrame
+length-encodeFrame f e = ap suc e
+
+pub decode-encodeFrame : (f : Frame) → FrameOk f → decodeFrame (encodeFrame f) ≡ f
+unfolding decodeFrame encodeFrame byteAt
+decode-encodeFrame f ok =
+    let p : decodeFrame (encodeFrame f) .bytes ≡ f .bytes
+    = part-end (rightByte (f .right) ∷ []) (f .bytes) frameBytesAt pageSize refl (ok .size) in
+    λ i. record { right = rightOf-rightByte (f .right) i; bytes = p i }
+
+-- ---- a record
+
+pub kindOf-marks : (k : Kind) → kindOf (mark0 k) (mark1 k) (pageOf k) ≡ k
+unfolding kindOf mark0 mark1 pageOf
+kindOf-marks (Got GotCopy p) = refl
+kindOf-marks (Got GotOwn p) = refl
+kindOf-marks (Shown p) = refl
+kindOf-marks (Dropped p) = refl
+
+pub length-encodeRecord : (r : Record) → length (r .bytes) ≡ pageSize → length (encodeRecord r) ≡ slotSize
+unfolding encodeRecord
+length-encodeRecord r e = rw (length-append (bytesOf sinceSize (r .count)) (r .bytes), length-bytesOf, e)
+
+pub decode-encodeRecord : (pages : ℕ) (r : Record) → RecordOk pages r → decodeRecord (encodeRecord r) ≡ r
+unfolding decodeRecord encodeRecord byteAt
+decode-encodeRecord pages r ok =
+    let head : List ℕ = mark0 (r .kind) ∷ mark1 (r .kind) ∷ pageOf (r .kind) ∷ 0 ∷ [] in
+    let count : List ℕ = bytesOf sinceSize (r .count) in
+    let width : length count ≡ sinceSize = length-bytesOf sinceSize (r .count) in
+    let c : part (encodeRecord r) recordCountAt sinceSize ≡ count = part-at head count (r .bytes) recordCountAt sinceSize refl width in
+    let n : decodeRecord (encodeRecord r) .count ≡ r .count = rw c (numberOf-bytesOf sinceSize (r .count) (omega (arith, ok .count))) in
+    let b : decodeRecord (encodeRecord r) .bytes ≡ r .bytes
+    = part-append-right head (count ++ r .bytes) slotBytesAt sinceSize pageSize refl ∙ part-end count (r .bytes) sinceSize pageSize width (ok .size) in
+    λ i. record { count = n i; kind = kindOf-marks (r .kind) i; bytes = b i }
+
+-- ---- frames side by side
+
+frame-back : (f : Frame) → FrameOk f → ReadsBack encodeFrame decodeFrame frameSize f
+frame-back f ok = (length-encodeFrame f (ok .size), decode-encodeFrame f ok)
+
+pub length-encodeFrames : (pages : ℕ) (fs : List Frame) → FramesOk pages fs → length (encodeAll encodeFrame fs) ≡ pages * frameSize
+length-encodeFrames pages fs ok =
+    length-encodeAll encodeFrame frameSize fs (each-imp fs (λ f h. length-encodeFrame f (h .size)) (ok .frames))
+    ∙ ap (λ (n : ℕ). n * frameSize) (ok .count)
+
+pub decode-encodeFrames : (pages : ℕ) (fs : List Frame) → FramesOk pages fs → decodeFrames pages (encodeAll encodeFrame fs) ≡ fs
+unfolding decodeFrames
+decode-encodeFrames pages fs ok = decodeAll-encodeAll-all encodeFrame decodeFrame frameSize pages fs (each-imp fs frame-back (ok .frames)) (ok .count)
+
+-- ---- a log
+
+record-back : (pages : ℕ) (r : Record) → RecordOk pages r → ReadsBack encodeRecord decodeRecord slotSize r
+record-back pages r ok = (length-encodeRecord r (ok .size), decode-encodeRecord pages r ok)
+
+pub length-encodeRecords : (pages : ℕ) (rs : List Record) → Each (RecordOk pages) rs → length (encodeAll encodeRecord rs) ≡ length rs * slotSize
+length-encodeRecords pages rs ok = length-encodeAll encodeRecord slotSize rs (each-imp rs (λ r h. length-encodeRecord r (h .size)) ok)
+
+pub length-encodeLog : (pages : ℕ) (l : Log) → LogOk pages l → length (encodeLog l) ≡ slotsSize
+unfolding encodeLog
+length-encodeLog pages l ok =
+    rw (length-append (encodeAll encodeRecord (l .records)) (l .rest), length-encodeRecords pages (l .records) (ok .records)) (ok .slots)
+
+pub decode-encodeLog : (pages : ℕ) (l : Log) → LogOk pages l → decodeLog (length (l .records)) (encodeLog l) ≡ l
+unfolding decodeLog encodeLog
+decode-encodeLog pages l ok =
+    let n : ℕ = length (l .records) in
+    let bytes : List ℕ = encodeAll encodeRecord (l .records) in
+    let a : decodeLog n (encodeLog l) .records ≡ l .records
+    = decodeAll-encodeAll encodeRecord decodeRecord slotSize n (l .records) (l .rest) (each-imp (l .records) (record-back pages) (ok .records)) refl in
+    let b : decodeLog n (encodeLog l) .rest ≡ l .rest
+    = drop-at bytes (l .rest) (n * slotSize) (length-encodeRecords pages (l .records) (ok .records)) in
+    λ i. record { records = a i; rest = b i }
+
+-- ---- an area: where its fields stand
+
+-- an area's number and count
+abbrev pub areaHead : Area → List ℕ
+areaHead a = bytesOf numberSize (a .number) ++ (length (a .log .records) ∷ [])
+
+pub length-areaHead : (a : Area) → length (areaHead a) ≡ areaFramesAt
+length-areaHead a = rw (length-append (bytesOf numberSize (a .number)) (length (a .log .records) ∷ []), length-bytesOf)
+
+pub encodeArea-split : (a : Area) → encodeArea a ≡ areaHead a ++ (encodeAll encodeFrame (a .frames) ++ encodeLog (a .log))
+unfolding encodeArea
+encodeArea-split a = rw append-assoc
+
+module _ (pages : ℕ) (a : Area) (ok : AreaOk pages a) where
+  pub length-encodeArea : length (encodeArea a) ≡ areaSize pages
+  unfolding encodeArea
+  length-encodeArea =
+      simp (length-append, length-bytesOf, length-encodeFrames pages (a .frames) (ok .frames), length-encodeLog pages (a .log) (ok .log)) (omega arith)
+
+  pub area-number : part (encodeArea a) areaNumberAt numberSize ≡ bytesOf numberSize (a .number)
+  unfolding encodeArea
+  area-number = part-front (bytesOf numberSize (a .number)) _ numberSize (length-bytesOf numberSize (a .number))
+
+  pub area-count : byteAt (encodeArea a) areaCountAt ≡ length (a .log .records)
+  unfolding encodeArea byteAt
+  area-count =
+      byteAt-append-right (bytesOf numberSize (a .number))
+      (length (a .log .records) ∷ (encodeAll encodeFrame (a .frames) ++ encodeLog (a .log)))
+      areaCountAt 0 (rw length-bytesOf)
+
+  pub area-frames : part (encodeArea a) areaFramesAt (pages * frameSize) ≡ encodeAll encodeFrame (a .frames)
+  area-frames =
+      rw (encodeArea-split a)
+      (part-at (areaHead a) (encodeAll encodeFrame (a .frames)) (encodeLog (a .log)) areaFramesAt (pages * frameSize)
+      (length-areaHead a) (length-encodeFrames pages (a .frames) (ok .frames)))
+
+  pub area-slots : part (encodeArea a) (areaSlotsAt pages) slotsSize ≡ encodeLog (a .log)
+  area-slots =
+      let frames : List ℕ = encodeAll encodeFrame (a .frames) in
+      rw (encodeArea-split a)
+      (part-append-right (areaHead a) (frames ++ encodeLog (a .log)) (areaSlotsAt pages) (pages * frameSize) slotsSize (rw (length-areaHead a))
+      ∙ part-end frames (encodeLog (a .log)) (pages * frameSize) slotsSize
+      (length-encodeFrames pages (a .frames) (ok .frames)) (length-encodeLog pages (a .log) (ok .log)))
+
+  pub decode-encodeArea : decodeArea pages (encodeArea a) ≡ a
+  unfolding decodeArea
+  decode-encodeArea =
+      let n : decodeArea pages (encodeArea a) .number ≡ a .number
+      = rw area-number (numberOf-bytesOf numberSize (a .number) (omega (arith, ok .number))) in
+      let f : decodeArea pages (encodeArea a) .frames ≡ a .frames = rw area-frames (decode-encodeFrames pages (a .frames) (ok .frames)) in
+      let l : decodeArea pages (encodeArea a) .log ≡ a .log = rw (area-count, area-slots) (decode-encodeLog pages (a .log) (ok .log)) in
+      λ i. record { number = n i; frames = f i; log = l i }

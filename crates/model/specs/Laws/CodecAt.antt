@@ -1,0 +1,182 @@
+-- Records, frames, entries and blocks at a general index: what is written at any index reads back, the others are as they were, and one
+-- changed element is one splice of the bytes. Instances of the laws of Parts. Assumes nothing.
+use mathlib.Core.Path.{_≡_, refl, sym, ap, _∙_}
+use Prim.Native.Nat.{ℕ, _+_, _*_, _≤_, _<_}
+use native.Mathlib.Omega.{arith}
+use mathlib.Core.Bool.{true}
+use mathlib.Core.List.{List, [], _∷_, _++_, append-assoc}
+use lib.ListN.{length, getD, set, drop}
+use lib.Seq.{drop-drop}
+use Rattle.words.specs.Bytes.{Each}
+use Rattle.types.specs.declared.Frame.{Frame}
+use Rattle.types.specs.declared.Record.{Record}
+use Rattle.model.specs.Definitions.Parts.{part, splice, byteAt, encodeAll}
+use Rattle.model.specs.Definitions.Layout.{slotCount, slotsSize, frameSize, slotSize, entrySize, blockSize, headSize, boardsAt, pagesAt, blocksAt}
+use Rattle.model.specs.Definitions.Bank.{Entry, Log, Board, Bank, emptyFrame, noBoard, boardAt, entryAt, frameAt, onBoard, onEntry}
+use Rattle.model.specs.Definitions.Codec.{encodeEntry, decodeEntry, encodeFrame, decodeFrame, encodeRecord, decodeRecord, encodeLog, decodeLog, decodeFrames, encodeBoard, encode, decode}
+use Rattle.model.specs.Definitions.WellFormed.{FrameOk, RecordOk, FramesOk, wellFormed}
+use Rattle.model.specs.Definitions.Steps.{appended}
+use Rattle.model.specs.Laws.Lists.{each-imp, update-set, length-update}
+use Rattle.model.specs.Laws.Parts.{Wide, length-part, part-part, part-splice-within, index-in, each-all, getD-decodeAll, getD-decodeAll-part, decodeAll-snoc, decodeAll-write, decodeAll-part-splice, encodeAll-set, encodeAll-snoc, drop-splice-after, splice-zero, splice-append-right, splice-amid, splice-behind}
+use Rattle.model.specs.Laws.CodecBank.{bankHead, length-encodeEntries}
+use Rattle.model.specs.Laws.CodecBack.{slot-in}
+use Rattle.model.specs.Laws.CodecBankBack.{bytes-ok, decode-boards, decode-pages, wide-boards, encode-decode}
+use Rattle.model.specs.Laws.Codec.{length-encodeEntry, length-encodeFrame, decode-encodeFrame, length-encodeRecord, decode-encodeRecord, length-encodeRecords}
+
+-- ---- frames: any page, in the bytes of the frames, or of frames that start at place a of a longer list
+
+pub frame-read : (pages : ℕ) (l : List ℕ) (p : ℕ) → p < pages → frameAt (decodeFrames pages l) p ≡ decodeFrame (part l (p * frameSize) frameSize)
+unfolding frameAt decodeFrames
+frame-read pages l p h = getD-decodeAll decodeFrame frameSize pages l p emptyFrame h
+
+pub frame-read-at : (pages : ℕ) (l : List ℕ) (a p : ℕ) → p < pages
+    → frameAt (decodeFrames pages (part l a (pages * frameSize))) p ≡ decodeFrame (part l (a + p * frameSize) frameSize)
+unfolding frameAt decodeFrames
+frame-read-at pages l a p h = getD-decodeAll-part decodeFrame frameSize pages l a p emptyFrame h
+
+-- "of a frame at any page": a frame written at any page reads back, the other pages are as they were
+pub frame-back : (pages : ℕ) (l : List ℕ) (p : ℕ) (f : Frame) → FrameOk f → p < pages → pages * frameSize ≤ length l
+    → decodeFrames pages (splice l (p * frameSize) (encodeFrame f)) ≡ set (decodeFrames pages l) p f
+unfolding decodeFrames
+frame-back pages l p f ok h k =
+    decodeAll-write encodeFrame decodeFrame frameSize pages l p f (length-encodeFrame f (ok .size), decode-encodeFrame f ok) h k
+
+pub frame-back-at : (pages : ℕ) (l : List ℕ) (a p : ℕ) (f : Frame) → FrameOk f → p < pages → a + pages * frameSize ≤ length l
+    → decodeFrames pages (part (splice l (a + p * frameSize) (encodeFrame f)) a (pages * frameSize))
+    ≡ set (decodeFrames pages (part l a (pages * frameSize))) p f
+unfolding decodeFrames
+frame-back-at pages l a p f ok h k =
+    rw (decodeAll-part-splice decodeFrame frameSize pages l a p (encodeFrame f) (length-encodeFrame f (ok .size)) h k, decode-encodeFrame f ok)
+
+-- one frame changed is one splice
+pub encode-setFrame : (pages : ℕ) (fs : List Frame) (p : ℕ) (f : Frame) → FramesOk pages fs → FrameOk f → p < pages
+    → encodeAll encodeFrame (set fs p f) ≡ splice (encodeAll encodeFrame fs) (p * frameSize) (encodeFrame f)
+encode-setFrame pages fs p f all ok h =
+    encodeAll-set encodeFrame frameSize fs p f (each-imp fs (λ g o. length-encodeFrame g (o .size)) (all .frames)) (length-encodeFrame f (ok .size))
+    (omega (arith, all .count))
+
+-- ---- records: any slot, in the bytes of a log, or of a log that starts at place a of a longer list
+
+pub record-read : (count : ℕ) (l : List ℕ) (i : ℕ) (d : Record) → i < count
+    → getD (decodeLog count l .records) i d ≡ decodeRecord (part l (i * slotSize) slotSize)
+unfolding decodeLog
+record-read count l i d h = getD-decodeAll decodeRecord slotSize count l i d h
+
+pub record-read-at : (count : ℕ) (l : List ℕ) (a i : ℕ) (d : Record) → count ≤ slotCount → i < count
+    → getD (decodeLog count (part l a slotsSize) .records) i d ≡ decodeRecord (part l (a + i * slotSize) slotSize)
+record-read-at count l a i d n h =
+    record-read count (part l a slotsSize) i d h ∙ ap decodeRecord (part-part l a slotsSize (i * slotSize) slotSize (slot-in count i n h))
+
+-- "of a record at any slot": a record written into any slot below the count reads back, the other slots are as they were
+pub record-back : (pages count : ℕ) (l : List ℕ) (i : ℕ) (r : Record) → RecordOk pages r → i < count → count * slotSize ≤ length l
+    → decodeLog count (splice l (i * slotSize) (encodeRecord r))
+    ≡ record { records = set (decodeLog count l .records) i r; rest = decodeLog count l .rest }
+unfolding decodeLog
+record-back pages count l i r ok h k =
+    let v : List ℕ = encodeRecord r in
+    let e : length v ≡ slotSize = length-encodeRecord r (ok .size) in
+    let m : i * slotSize + slotSize ≤ count * slotSize = index-in slotSize count i h in
+    let a : decodeLog count (splice l (i * slotSize) v) .records ≡ set (decodeLog count l .records) i r
+    = decodeAll-write encodeRecord decodeRecord slotSize count l i r (e, decode-encodeRecord pages r ok) h k in
+    let b : decodeLog count (splice l (i * slotSize) v) .rest ≡ decodeLog count l .rest
+    = drop-splice-after l (i * slotSize) v (count * slotSize) (omega arith) (omega arith) in
+    λ j. record { records = a j; rest = b j }
+
+-- a record written into the slot at the count, and the count raised: it is the last one
+pub decode-appended : (pages count : ℕ) (l : List ℕ) (r : Record) → RecordOk pages r → count * slotSize ≤ length l
+    → decodeLog (count + 1) (splice l (count * slotSize) (encodeRecord r)) ≡ appended r (decodeLog count l)
+unfolding decodeLog appended
+decode-appended pages count l r ok k =
+    let v : List ℕ = encodeRecord r in
+    let e : length v ≡ slotSize = length-encodeRecord r (ok .size) in
+    let m : (count + 1) * slotSize ≡ count * slotSize + slotSize = omega arith in
+    let a : decodeLog (count + 1) (splice l (count * slotSize) v) .records ≡ decodeLog count l .records ++ (r ∷ [])
+    = rw (decodeAll-snoc decodeRecord slotSize count l v e k, decode-encodeRecord pages r ok) in
+    let b : decodeLog (count + 1) (splice l (count * slotSize) v) .rest ≡ drop slotSize (decodeLog count l .rest)
+    = rw (drop-drop slotSize (count * slotSize) l, m) (drop-splice-after l (count * slotSize) v (count * slotSize + slotSize) (omega arith) k) in
+    λ j. record { records = a j; rest = b j }
+
+-- both, of a log that starts at place a
+log-splice : (pages : ℕ) (l : List ℕ) (a i : ℕ) (r : Record) → RecordOk pages r → i < slotCount → a + slotsSize ≤ length l
+    → part (splice l (a + i * slotSize) (encodeRecord r)) a slotsSize ≡ splice (part l a slotsSize) (i * slotSize) (encodeRecord r)
+log-splice pages l a i r ok h k =
+    let m : i * slotSize + slotSize ≤ slotsSize = index-in slotSize slotCount i h in
+    part-splice-within l a slotsSize (i * slotSize) (encodeRecord r) (rw (length-encodeRecord r (ok .size)) m) k
+
+pub record-back-at : (pages count : ℕ) (l : List ℕ) (a i : ℕ) (r : Record) → RecordOk pages r → count ≤ slotCount → i < count → a + slotsSize ≤ length l
+    → decodeLog count (part (splice l (a + i * slotSize) (encodeRecord r)) a slotsSize)
+    ≡ record { records = set (decodeLog count (part l a slotsSize) .records) i r; rest = decodeLog count (part l a slotsSize) .rest }
+record-back-at pages count l a i r ok n h k =
+    let e : length (part l a slotsSize) ≡ slotsSize = length-part l a slotsSize k in
+    rw (log-splice pages l a i r ok (omega arith) k) (record-back pages count (part l a slotsSize) i r ok h (omega arith))
+
+pub decode-appended-at : (pages count : ℕ) (l : List ℕ) (a : ℕ) (r : Record) → RecordOk pages r → count < slotCount → a + slotsSize ≤ length l
+    → decodeLog (count + 1) (part (splice l (a + count * slotSize) (encodeRecord r)) a slotsSize) ≡ appended r (decodeLog count (part l a slotsSize))
+decode-appended-at pages count l a r ok h k =
+    let e : length (part l a slotsSize) ≡ slotsSize = length-part l a slotsSize k in
+    rw (log-splice pages l a count r ok h k) (decode-appended pages count (part l a slotsSize) r ok (omega arith))
+
+-- a record appended is one splice, at the count
+pub encode-appended : (pages : ℕ) (r : Record) (l : Log) → RecordOk pages r → Each (RecordOk pages) (l .records)
+    → encodeLog (appended r l) ≡ splice (encodeLog l) (length (l .records) * slotSize) (encodeRecord r)
+unfolding encodeLog appended
+encode-appended pages r l ok all =
+    let rs : List ℕ = encodeAll encodeRecord (l .records) in
+    let v : List ℕ = encodeRecord r in
+    let e : length rs ≡ length (l .records) * slotSize = length-encodeRecords pages (l .records) all in
+    rw (
+      encodeAll-snoc encodeRecord slotSize (l .records) r,
+      append-assoc rs v (drop slotSize (l .rest)),
+      splice-append-right rs (l .rest) (length (l .records) * slotSize) 0 v (omega arith),
+      splice-zero (l .rest) v slotSize (length-encodeRecord r (ok .size)),
+    )
+
+-- ---- entries and blocks: any page, any board
+
+pub entry-read : (s : List ℕ) (p : ℕ) → p < byteAt s pagesAt → entryAt (decode s) p ≡ decodeEntry (part s (headSize + p * entrySize) entrySize)
+unfolding entryAt decode
+entry-read s p h = getD-decodeAll-part decodeEntry entrySize (byteAt s pagesAt) s headSize p (record { owner = 0; copies = 0 }) h
+
+-- one entry changed is one splice
+pub encode-onEntry : (k : Bank) (p : ℕ) (f : Entry → Entry) → p < length (k .directory)
+    → encode (onEntry p f k) ≡ splice (encode k) (headSize + p * entrySize) (encodeEntry (f (entryAt k p)))
+unfolding encode onEntry entryAt
+encode-onEntry k p f h =
+    let d : Entry = record { owner = 0; copies = 0 } in
+    let es : List Entry = k .directory in
+    let v : List ℕ = encodeEntry (f (getD es p d)) in
+    let n : length v ≡ entrySize = length-encodeEntry (f (getD es p d)) in
+    let m : p * entrySize + entrySize ≤ length es * entrySize = index-in entrySize (length es) p h in
+    let z : length (encodeAll encodeEntry es) ≡ length es * entrySize = length-encodeEntries es in
+    rw (
+      length-update p f es,
+      update-set p f es d h,
+      encodeAll-set encodeEntry entrySize es p (f (getD es p d)) (each-all es length-encodeEntry) n h,
+    )
+    (sym (splice-amid (bankHead k) (encodeAll encodeEntry es) (encodeAll encodeBoard (k .boards)) (headSize + p * entrySize) (p * entrySize) v refl (omega arith)))
+
+-- one board changed is one splice
+pub encode-onBoard : (k : Bank) (b : ℕ) (f : Board → Board) → b < length (k .boards)
+    → Each (Wide encodeBoard (blockSize (length (k .directory)))) (k .boards)
+    → length (encodeBoard (f (boardAt k b))) ≡ blockSize (length (k .directory))
+    → encode (onBoard b f k) ≡ splice (encode k) (blocksAt (length (k .directory)) + b * blockSize (length (k .directory))) (encodeBoard (f (boardAt k b)))
+unfolding encode onBoard boardAt
+encode-onBoard k b f h all e =
+    let pages : ℕ = length (k .directory) in
+    let x : Board = f (getD (k .boards) b noBoard) in
+    let z : length (encodeAll encodeEntry (k .directory)) ≡ pages * entrySize = length-encodeEntries (k .directory) in
+    rw (length-update b f (k .boards), update-set b f (k .boards) noBoard h, encodeAll-set encodeBoard (blockSize pages) (k .boards) b x all e h)
+    (sym (splice-behind (bankHead k) (encodeAll encodeEntry (k .directory)) (encodeAll encodeBoard (k .boards))
+    (blocksAt pages + b * blockSize pages) (b * blockSize pages) (encodeBoard x) (omega arith)))
+
+-- the same of bytes that are well formed: the block of board b is spliced, all else stays
+pub encode-onBoard-bytes : (s : List ℕ) (b : ℕ) (f : Board → Board) → wellFormed s ≡ true → b < byteAt s boardsAt
+    → length (encodeBoard (f (boardAt (decode s) b))) ≡ blockSize (byteAt s pagesAt)
+    → encode (onBoard b f (decode s)) ≡ splice s (blocksAt (byteAt s pagesAt) + b * blockSize (byteAt s pagesAt)) (encodeBoard (f (boardAt (decode s) b)))
+encode-onBoard-bytes s b f v h e =
+    rw (decode-pages s, encode-decode s v)
+    at (encode-onBoard (decode s) b f (rw (decode-boards s) h) (rw (decode-pages s) (wide-boards s (bytes-ok s v))) (rw (decode-pages s) e))
+
+pub encode-onEntry-bytes : (s : List ℕ) (p : ℕ) (f : Entry → Entry) → wellFormed s ≡ true → p < byteAt s pagesAt
+    → encode (onEntry p f (decode s)) ≡ splice s (headSize + p * entrySize) (encodeEntry (f (entryAt (decode s) p)))
+encode-onEntry-bytes s p f v h = rw (encode-decode s v) at (encode-onEntry (decode s) p f (rw (decode-pages s) h))

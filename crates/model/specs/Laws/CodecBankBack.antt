@@ -1,0 +1,177 @@
+-- What was read writes back, of the bank: what the executable test says of the bytes, and that bytes which pass it are the bytes of what
+-- they are read as. Assumes nothing.
+use mathlib.Core.Path.{_≡_, refl, ap, _∙_}
+use Prim.Native.Nat.{ℕ, _+_, _*_, _≤_, _<_}
+use native.Mathlib.Omega.{arith}
+use mathlib.Core.Bool.{true, _&&_}
+use mathlib.Core.List.{List, [], _∷_}
+use lib.ListN.{length, drop, length-drop, drop-of-length-le}
+use lib.Dec.{ltb}
+use borrow.Author.Tests.{leb-true, ltb-true, eqb-true}
+use Rattle.words.specs.Bytes.{Each, Bytes}
+use Rattle.model.specs.Definitions.Parts.{part, byteAt, encodeAll, decodeAll, every, everyBelow}
+use Rattle.model.specs.Definitions.Layout.{byteValues, ownerAt, copiesAt, mostBoards, mostPages, entrySize, blockSize, headMark0, headMark1, headSize, boardsAt, pagesAt, blocksAt, bankSize}
+use Rattle.model.specs.Definitions.Bank.{boardAt, noBoard}
+use Rattle.model.specs.Definitions.Codec.{encodeEntry, decodeEntry, encodeBoard, decodeBoard, encode, decode}
+use Rattle.model.specs.Definitions.WellFormed.{blockReadable, entryValid, headValid, blockOf, blockValid, wellFormed}
+use Rattle.model.specs.Laws.Logic.{clash, byBool, and-left, and-right}
+use Rattle.model.specs.Laws.Lists.{each-of-getD, everyBelow-at, every-each}
+use Rattle.model.specs.Laws.Parts.{Wide, getD-decodeAll, each-part, length-part, part-rest, part-drop, byte-rest, index-in, encodeAll-decodeAll-all, length-decodeAll}
+use Rattle.model.specs.Laws.CodecBack.{encode-decodeBoard}
+
+-- ---- what the test says
+
+-- what the test of a head says
+pub record HeadOk (s : List ℕ) : Type 0 where
+  pub first : byteAt s 0 ≡ headMark0
+  pub second : byteAt s 1 ≡ headMark1
+  pub someBoard : 0 < byteAt s boardsAt
+  pub boards : byteAt s boardsAt ≤ mostBoards
+  pub somePage : 0 < byteAt s pagesAt
+  pub pages : byteAt s pagesAt ≤ mostPages
+  pub size : length s ≡ bankSize (byteAt s boardsAt) (byteAt s pagesAt)
+
+pub head-ok : (s : List ℕ) → headValid s ≡ true → HeadOk s
+unfolding headValid
+head-ok s v =
+    record {
+      first = eqb-true (byteAt s 0) headMark0 (and-left _ _ v);
+      second = eqb-true (byteAt s 1) headMark1 (search (and-left, and-right));
+      someBoard = ltb-true 0 (byteAt s boardsAt) (search (and-left, and-right));
+      boards = leb-true (byteAt s boardsAt) mostBoards (search (and-left, and-right));
+      somePage = ltb-true 0 (byteAt s pagesAt) (search (and-left, and-right));
+      pages = leb-true (byteAt s pagesAt) mostPages (search (and-left, and-right));
+      size = eqb-true (length s) (bankSize (byteAt s boardsAt) (byteAt s pagesAt)) (search (and-left, and-right));
+    }
+
+-- what the test of the bytes says: of the head, of all bytes, of each entry and of each block
+pub record BytesOk (s : List ℕ) : Type 0 where
+  pub head : HeadOk s
+  pub bytes : Bytes s
+  pub entries : every (entryValid (byteAt s boardsAt)) (decode s .directory) ≡ true
+  pub blocks : (b : ℕ) → b < byteAt s boardsAt → blockValid s b ≡ true
+
+pub bytes-ok : (s : List ℕ) → wellFormed s ≡ true → BytesOk s
+unfolding wellFormed
+bytes-ok s v =
+    byBool (headValid s)
+    (λ t.
+    let n : ℕ = byteAt s boardsAt in
+    let r : (every (λ b. ltb b byteValues) s && (every (entryValid n) (decode s .directory) && everyBelow n (blockValid s))) ≡ true = cc in
+    let q : everyBelow (byteAt s boardsAt) (blockValid s) ≡ true = search (and-left, and-right) in
+    record {
+      head = head-ok s t;
+      bytes = every-each (λ b. ltb b byteValues) s (λ b h. ltb-true b byteValues h) (and-left _ _ r);
+      entries = search (and-left, and-right);
+      blocks = λ b h. everyBelow-at (byteAt s boardsAt) b (blockValid s) q h;
+    })
+    (λ t. clash v (cc))
+
+-- ---- the directory
+
+pub encode-decodeEntry : (l : List ℕ) → length l ≡ entrySize → encodeEntry (decodeEntry l) ≡ l
+unfolding encodeEntry decodeEntry
+encode-decodeEntry l e =
+    let d : drop entrySize l ≡ [] = drop-of-length-le l {i = entrySize} (omega arith) in
+    rw d at (ap (λ (r : List ℕ). byteAt l ownerAt ∷ r) (byte-rest l copiesAt (omega arith)) ∙ byte-rest l ownerAt (omega arith))
+
+pub encode-decodeEntries : (pages : ℕ) (l : List ℕ) → length l ≡ pages * entrySize
+    → encodeAll encodeEntry (decodeAll decodeEntry entrySize pages l) ≡ l
+encode-decodeEntries pages l e =
+    encodeAll-decodeAll-all encodeEntry decodeEntry entrySize pages l
+    (λ p h.
+    let m : p * entrySize + entrySize ≤ pages * entrySize = index-in entrySize pages p h in
+    encode-decodeEntry (part l (p * entrySize) entrySize) (length-part l (p * entrySize) entrySize (omega arith)))
+    e
+
+-- ---- the blocks
+
+-- element i of n that start at place a is inside
+inside : (a w n i size : ℕ) → size ≡ a + n * w → i < n → a + i * w + w ≤ size
+inside a w n i size e h = let m : i * w + w ≤ n * w = index-in w n i h in omega arith
+
+length-behind : (l : List ℕ) (a n : ℕ) → length l ≡ a + n → length (drop a l) ≡ n
+length-behind l a n e = rw (length-drop a l) (omega arith)
+
+pub decode-boards : (s : List ℕ) → length (decode s .boards) ≡ byteAt s boardsAt
+unfolding decode
+decode-boards s =
+    length-decodeAll (decodeBoard (byteAt s pagesAt)) (blockSize (byteAt s pagesAt)) (byteAt s boardsAt) (drop (blocksAt (byteAt s pagesAt)) s)
+
+pub decode-pages : (s : List ℕ) → length (decode s .directory) ≡ byteAt s pagesAt
+unfolding decode
+decode-pages s = length-decodeAll decodeEntry entrySize (byteAt s pagesAt) (part s headSize (byteAt s pagesAt * entrySize))
+
+-- the block of any board is what its reader is given
+pub part-blockOf : (s : List ℕ) (b : ℕ)
+    → part (drop (blocksAt (byteAt s pagesAt)) s) (b * blockSize (byteAt s pagesAt)) (blockSize (byteAt s pagesAt)) ≡ blockOf s b
+unfolding blockOf
+part-blockOf s b = part-drop s (blocksAt (byteAt s pagesAt)) (b * blockSize (byteAt s pagesAt)) (blockSize (byteAt s pagesAt))
+
+pub board-read : (s : List ℕ) (b : ℕ) → b < byteAt s boardsAt → boardAt (decode s) b ≡ decodeBoard (byteAt s pagesAt) (blockOf s b)
+unfolding boardAt decode
+board-read s b h =
+    getD-decodeAll (decodeBoard (byteAt s pagesAt)) (blockSize (byteAt s pagesAt)) (byteAt s boardsAt) (drop (blocksAt (byteAt s pagesAt)) s) b noBoard h
+    ∙ rw (part-blockOf s b)
+
+pub blockValid-readable : (s : List ℕ) (b : ℕ) → blockValid s b ≡ true → blockReadable (byteAt s pagesAt) (blockOf s b) ≡ true
+unfolding blockValid
+blockValid-readable s b v = and-left _ _ v
+
+module _ (s : List ℕ) (ok : BytesOk s) where
+  pub length-blockOf : (b : ℕ) → b < byteAt s boardsAt → length (blockOf s b) ≡ blockSize (byteAt s pagesAt)
+  unfolding blockOf
+  length-blockOf b h =
+      let pages : ℕ = byteAt s pagesAt in
+      length-part s (blocksAt pages + b * blockSize pages) (blockSize pages)
+      (inside (blocksAt pages) (blockSize pages) (byteAt s boardsAt) b (length s) (ok .head .size) h)
+
+  pub bytes-blockOf : (b : ℕ) → Bytes (blockOf s b)
+  unfolding blockOf
+  bytes-blockOf b = each-part s (blocksAt (byteAt s pagesAt) + b * blockSize (byteAt s pagesAt)) (blockSize (byteAt s pagesAt)) (ok .bytes)
+
+  -- each block writes back
+  pub block-back : (b : ℕ) → b < byteAt s boardsAt → encodeBoard (decodeBoard (byteAt s pagesAt) (blockOf s b)) ≡ blockOf s b
+  block-back b h =
+      encode-decodeBoard (byteAt s pagesAt) (blockOf s b) (blockValid-readable s b (ok .blocks b h)) (bytes-blockOf b) (length-blockOf b h)
+
+  pub wide-boards : Each (Wide encodeBoard (blockSize (byteAt s pagesAt))) (decode s .boards)
+  unfolding boardAt
+  wide-boards =
+      each-of-getD (decode s .boards) noBoard
+      (λ b h.
+      let i : b < byteAt s boardsAt = rw (decode-boards s) at h in
+      let e : length (encodeBoard (boardAt (decode s) b)) ≡ blockSize (byteAt s pagesAt)
+      = rw (board-read s b i, block-back b i) (length-blockOf b i) in
+      e)
+
+  pub encode-decodeBoards : encodeAll encodeBoard (decode s .boards) ≡ drop (blocksAt (byteAt s pagesAt)) s
+  unfolding decode
+  encode-decodeBoards =
+      let pages : ℕ = byteAt s pagesAt in
+      encodeAll-decodeAll-all encodeBoard (decodeBoard pages) (blockSize pages) (byteAt s boardsAt) (drop (blocksAt pages) s)
+      (λ b h. rw (part-blockOf s b) (block-back b h))
+      (length-behind s (blocksAt pages) (byteAt s boardsAt * blockSize pages) (ok .head .size))
+
+-- ---- the bank
+
+pub encode-decode : (s : List ℕ) → wellFormed s ≡ true → encode (decode s) ≡ s
+unfolding encode decode
+encode-decode s v =
+    let ok : BytesOk s = bytes-ok s v in
+    let n : ℕ = byteAt s boardsAt in
+    let pages : ℕ = byteAt s pagesAt in
+    let z : length s ≡ bankSize n pages = ok .head .size in
+    let first : headMark0 ∷ drop 1 s ≡ s = rw (ok .head .first) at (byte-rest s 0 (omega arith)) in
+    let second : headMark1 ∷ drop boardsAt s ≡ drop 1 s = rw (ok .head .second) at (byte-rest s 1 (omega arith)) in
+    rw (
+      decode-boards s,
+      decode-pages s,
+      encode-decodeEntries pages (part s headSize (pages * entrySize)) (length-part s headSize (pages * entrySize) (omega arith)),
+      encode-decodeBoards s ok,
+      part-rest s headSize (pages * entrySize) (blocksAt pages) refl,
+      byte-rest s pagesAt (omega arith),
+      byte-rest s boardsAt (omega arith),
+      second,
+    )
+    first

@@ -1,0 +1,89 @@
+-- The cases of a call on a bank, for anything that holds of its result: each refusal with its code, then each way to go on. Assumes nothing.
+use mathlib.Core.Path.{_≡_}
+use Prim.Native.Nat.{ℕ, _≤_}
+use native.Mathlib.Omega.{arith}
+use mathlib.Core.Bool.{Bool, true, false, _&&_, not}
+use mathlib.Core.Option.{none, some}
+use mathlib.Core.List.{[], _∷_}
+use Rattle.types.specs.declared.Answer.{Answer}
+use Rattle.types.specs.declared.Answer.the-variants.{OutOfRange, WrongState, CountersFull, ReplayDiffers, OwnerNotUp, LogFull, PowerLost}
+use Rattle.model.specs.Definitions.Bank.{Board, Bank, boardAt, onBoard}
+use Rattle.model.specs.Definitions.WellFormed.{isUp, isDown, isReplaying}
+use Rattle.model.specs.Definitions.Answers.{code}
+use Rattle.model.specs.Definitions.Steps.{Run, start, Access, pageNamed, valueOf, giver}
+use Rattle.model.specs.Definitions.Replay.{differs, tookDue, replayOver, endIfOver, replayed}
+use Rattle.model.specs.Definitions.Calls.{Result, unless, finished, lackingOf, shortBoard, isSome, numberIn, liveRefusals, prepared, performed, live, liveAfterEnd, replaying, accessInRange, countersFull, accessRefusals, accessBank}
+use Rattle.model.specs.Laws.Logic.{cases, casesOption}
+use Rattle.model.specs.Laws.Table.{afterReplay}
+use Rattle.model.specs.Laws.Codes.Order.{unless-test, unless-go}
+
+module _ (P : Result → Type 0) where
+  -- the two tests that every call but an access makes, and then it runs
+  pub plain-cases : (k : Bank) (b : ℕ) (out wrong : Bool) (go : Result)
+      → ((x : Answer) → 2 ≤ code x → code x ≤ 3 → P (record { answer = x; run = start k }))
+      → (out ≡ false → wrong ≡ false → P go)
+      → P (unless ((out, OutOfRange) ∷ (wrong, WrongState b) ∷ []) (start k) go)
+  unfolding code
+  plain-cases k b out wrong go refusal on =
+      unless-test P out OutOfRange ((wrong, WrongState b) ∷ []) (start k) go
+      (λ t. refusal OutOfRange (omega arith) (omega arith))
+      (λ t.
+      unless-test P wrong (WrongState b) [] (start k) go
+      (λ u. refusal (WrongState b) (omega arith) (omega arith))
+      (λ u. unless-go P (start k) go (on t u)))
+
+  module _ (b : ℕ) (a : Access) where
+    pub live-cases : (r : Run) → ((x : Answer) → 6 ≤ code x → code x ≤ 7 → P (record { answer = x; run = r }))
+        → ((lackingOf b a (r .bank) && not (isUp (boardAt (r .bank) (giver (r .bank) (pageNamed a)) .state))) ≡ false
+        → P (performed b a (prepared b a r)))
+        → P (live b a r)
+    unfolding live liveRefusals code
+    live-cases r refusal on =
+        let j : Bank = r .bank in
+        let o : ℕ = giver j (pageNamed a) in
+        let full : Answer = LogFull (numberIn (shortBoard b a j)) in
+        let go : Result = performed b a (prepared b a r) in
+        unless-test P (lackingOf b a j && not (isUp (boardAt j o .state))) (OwnerNotUp o) ((isSome (shortBoard b a j), full) ∷ []) r go
+        (λ t. refusal (OwnerNotUp o) (omega arith) (omega arith))
+        (λ t.
+        unless-test P (isSome (shortBoard b a j)) full [] r go
+        (λ u. refusal full (omega arith) (omega arith))
+        (λ u. unless-go P r go (on t)))
+
+    pub replaying-cases : (k : Bank)
+        → (afterReplay b a k .lost ≡ none → P (live b a (afterReplay b a k)))
+        → ((c : ℕ) → afterReplay b a k .lost ≡ some c → P (record { answer = PowerLost c; run = afterReplay b a k }))
+        → P
+        (finished
+        (valueOf a (boardAt (onBoard b (tookDue a) k) b .working .frames))
+        (endIfOver b (start (onBoard b (replayed a) (onBoard b (tookDue a) k)))))
+        → P (replaying b a k)
+    unfolding replaying liveAfterEnd afterReplay
+    replaying-cases k on lost not-over =
+        cases P (replayOver (boardAt (onBoard b (tookDue a) k) b))
+        (λ t. casesOption P (afterReplay b a k .lost) on lost)
+        (λ t. not-over)
+
+    pub access-cases : (k : Bank) → ((x : Answer) → 2 ≤ code x → code x ≤ 5 → P (record { answer = x; run = start k }))
+        → (isDown (boardAt k b .state) ≡ false → isReplaying (boardAt k b .state) ≡ true → P (replaying b a k))
+        → (isDown (boardAt k b .state) ≡ false → isReplaying (boardAt k b .state) ≡ false → P (live b a (start k)))
+        → P (accessBank b a k)
+    unfolding accessBank accessRefusals code
+    access-cases k refusal replay on =
+        let x : Board = boardAt k b in
+        let go : Result = elim (isReplaying (x .state)) [ true ↦ replaying b a k | false ↦ live b a (start k) ] in
+        let t5 : Bool × Answer = (isReplaying (x .state) && differs a x, ReplayDiffers b) in
+        let t4 : Bool × Answer = (countersFull x, CountersFull b) in
+        let t3 : Bool × Answer = (isDown (x .state), WrongState b) in
+        unless-test P (not (accessInRange b a k)) OutOfRange (t3 ∷ t4 ∷ t5 ∷ []) (start k) go
+        (λ t. refusal OutOfRange (omega arith) (omega arith))
+        (λ t.
+        unless-test P (t3 .0) (t3 .1) (t4 ∷ t5 ∷ []) (start k) go
+        (λ t. refusal (t3 .1) (omega arith) (omega arith))
+        (λ d.
+        unless-test P (t4 .0) (t4 .1) (t5 ∷ []) (start k) go
+        (λ t. refusal (t4 .1) (omega arith) (omega arith))
+        (λ t.
+        unless-test P (t5 .0) (t5 .1) [] (start k) go
+        (λ t. refusal (t5 .1) (omega arith) (omega arith))
+        (λ t. unless-go P (start k) go (cases P (isReplaying (x .state)) (replay d) (on d))))))

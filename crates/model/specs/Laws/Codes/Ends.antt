@@ -1,0 +1,130 @@
+-- How a call on a bank ends: refused with the bank as it was, refused after the end of a replay, or run to its end or to a power loss. Of any
+-- bank, well formed or not. Assumes nothing.
+use mathlib.Core.Path.{_≡_, refl, ap}
+use mathlib.Core.Logic.{_≢_, _↔_}
+use Prim.Native.Nat.{ℕ, _≤_}
+use native.Mathlib.Omega.{arith}
+use mathlib.Core.Bool.{Bool, _&&_, not}
+use mathlib.Core.Option.{none, some}
+use mathlib.Core.List.{[], _∷_}
+use lib.ListN.{length}
+use lib.Dec.{ltb}
+use Rattle.types.specs.declared.State.the-variants.{Replaying}
+use Rattle.types.specs.declared.Answer.{Answer}
+use Rattle.types.specs.declared.Answer.the-variants.{OutOfRange, WrongState, PowerLost}
+use Rattle.model.specs.Definitions.Layout.{noFuse}
+use Rattle.model.specs.Definitions.Bank.{Bank, boardAt, onBoard}
+use Rattle.model.specs.Definitions.WellFormed.{isUp, isDown}
+use Rattle.model.specs.Definitions.Answers.{code}
+use Rattle.model.specs.Definitions.Steps.{Run, start, step, powerOff, withFuse, checkpoint, Access, Read, Write, valueOf, access}
+use Rattle.model.specs.Definitions.Replay.{loaded, usedUp, tookDue, endIfOver, replayed}
+use Rattle.model.specs.Definitions.Calls.{Result, unless, finished, prepared, performed, live, replaying, accessBank, checkpointBank, cutBank, fuseBank, restartBank, Call, Reading, Writing, Checkpointing, Cutting, Fusing, Restarting, callBank}
+use Rattle.model.specs.Laws.Logic.{casesOption}
+use Rattle.model.specs.Laws.Table.{OfAccess, boardOf, afterReplay}
+use Rattle.model.specs.Laws.Tests.{says-replaying}
+use Rattle.model.specs.Laws.Codes.Order.{never, fails}
+use Rattle.model.specs.Laws.Codes.Cases.{plain-cases, live-cases, replaying-cases, access-cases}
+
+-- `Late` says on which run, besides the one that the call of board b began with, it may have been refused
+pub data Ends (b : ℕ) (k : Bank) (Late : Run → Type 0) : Result → Type 0 where
+  refusedFirst : (x : Answer) → 2 ≤ code x → code x ≤ 7 → (6 ≤ code x → boardAt k b .state ≢ Replaying)
+      → Ends b k Late (record { answer = x; run = start k })
+  refusedLate : (x : Answer) (r : Run) → 6 ≤ code x → code x ≤ 7 → Late r → Ends b k Late (record { answer = x; run = r })
+  ran : (v : ℕ) (r : Run) → Ends b k Late (finished v r)
+
+-- the end of a replay, after which the access went on live
+pub record ReplayEnd (b : ℕ) (a : Access) (k : Bank) (r : Run) : Type 0 where
+  pub state : boardAt k b .state ≡ Replaying
+  pub lost : r .lost ≡ none
+  pub run : r ≡ afterReplay b a k
+
+module _ (b : ℕ) (a : Access) (k : Bank) where
+  live-ended : (r : Run) → ((x : Answer) → 6 ≤ code x → code x ≤ 7 → Ends b k (ReplayEnd b a k) (record { answer = x; run = r }))
+      → Ends b k (ReplayEnd b a k) (live b a r)
+  unfolding performed
+  live-ended r refusal =
+      live-cases (Ends b k (ReplayEnd b a k)) b a r refusal
+      (λ t. ran (valueOf a (boardAt (prepared b a r .bank) b .working .frames)) (step (access b a) (prepared b a r)))
+
+  replaying-ended : boardAt k b .state ≡ Replaying → Ends b k (ReplayEnd b a k) (replaying b a k)
+  unfolding finished
+  replaying-ended s =
+      let P : Result → Type 0 = Ends b k (ReplayEnd b a k) in
+      let r : Run = afterReplay b a k in
+      let taken : Bank = onBoard b (tookDue a) k in
+      replaying-cases P b a k
+      (λ l. live-ended r (λ x h i. refusedLate x r h i (record { state = s; lost = l; run = refl })))
+      (λ c l. let e : finished 0 r ≡ record { answer = PowerLost c; run = r } = cc in let f : P (finished 0 r) = ran 0 r in rw e at f)
+      (ran (valueOf a (boardAt taken b .working .frames)) (endIfOver b (start (onBoard b (replayed a) taken))))
+
+  access-ended : Ends b k (ReplayEnd b a k) (accessBank b a k)
+  access-ended =
+      access-cases (Ends b k (ReplayEnd b a k)) b a k
+      (λ x h i. refusedFirst x h (omega arith) (λ g. absurd (omega arith)))
+      (λ d t. replaying-ended (says-replaying (boardAt k b .state) .0 t))
+      (λ d t. live-ended (start k) (λ x h i. refusedFirst x (omega arith) i (λ g. fails (says-replaying (boardAt k b .state)) t)))
+
+plain-ended : (k : Bank) (Late : Run → Type 0) (b : ℕ) (out wrong : Bool) (v : ℕ) (r : Run)
+    → Ends b k Late (unless ((out, OutOfRange) ∷ (wrong, WrongState b) ∷ []) (start k) (finished v r))
+plain-ended k Late b out wrong v r =
+    plain-cases (Ends b k Late) k b out wrong (finished v r)
+    (λ x h i. refusedFirst x h (omega arith) (λ g. absurd (omega arith)))
+    (λ t u. ran v r)
+
+-- the runs after which a call may be refused late: an access whose board was replaying
+abbrev pub LateIn : Call → Bank → Run → Type 0
+LateIn c k r = OfAccess (λ b a. ReplayEnd b a k r) c
+
+pub call-ended : (c : Call) (k : Bank) → Ends (boardOf c) k (LateIn c k) (callBank c k)
+unfolding callBank OfAccess boardOf checkpointBank cutBank fuseBank restartBank
+call-ended (Reading b p o) k = access-ended b (Read p o) k
+call-ended (Writing b p o v) k = access-ended b (Write p o v) k
+call-ended (Checkpointing b) k =
+    plain-ended k (λ r. ⊥) b (not (ltb b (length (k .boards)))) (not (isUp (boardAt k b .state))) 0 (checkpoint b (start k))
+call-ended (Cutting b) k =
+    plain-ended k (λ r. ⊥) b (not (ltb b (length (k .boards)))) (isDown (boardAt k b .state)) 0 (step (powerOff b) (start k))
+call-ended (Fusing b n) k =
+    plain-ended k (λ r. ⊥) b
+    (not (ltb b (length (k .boards)) && (ltb 0 n && ltb n noFuse))) (isDown (boardAt k b .state)) 0
+    (step (onBoard b (withFuse n)) (start k))
+call-ended (Restarting b) k =
+    plain-ended k (λ r. ⊥) b
+    (not (ltb b (length (k .boards)))) (not (isDown (boardAt k b .state)))
+    (boardAt k b .stable .selected .number)
+    (endIfOver b (start (onBoard b (λ x. usedUp (loaded x)) k)))
+
+-- ---- "8: a fuse blew in this call; who: that board"
+
+-- the answer says what the run says
+abbrev pub AnswersLoss : Result → Type 0
+AnswersLoss t = (b : ℕ) → (t .answer ≡ PowerLost b) ↔ (t .run .lost ≡ some b)
+
+loss-finished : (v : ℕ) (r : Run) → AnswersLoss (finished v r)
+unfolding finished
+loss-finished v r b =
+    casesOption (λ (t : Result). (t .answer ≡ PowerLost b) ↔ (t .run .lost ≡ some b)) (r .lost)
+    (λ n. (λ e. never (cc), λ e. never (cc)))
+    (λ c l. (λ e. let f : c ≡ b = cc in cc, λ e. let f : c ≡ b = cc in cc))
+
+loss-refused : (x : Answer) (r : Run) → code x ≤ 7 → r .lost ≡ none → AnswersLoss (record { answer = x; run = r })
+unfolding code
+loss-refused x r h n b =
+    (λ e. let f : code x ≡ 8 = ap code e in absurd (omega arith), λ e. never (cc))
+
+ended-loss : (d : ℕ) (k : Bank) (Late : Run → Type 0) (t : Result) → ((r : Run) → Late r → r .lost ≡ none) → Ends d k Late t → AnswersLoss t
+unfolding start
+ended-loss d k Late t f (refusedFirst x h i n) = loss-refused x (start k) i refl
+ended-loss d k Late t f (refusedLate x r h i l) = loss-refused x r i (f r l)
+ended-loss d k Late t f (ran v r) = loss-finished v r
+
+late-not-lost : (c : Call) (k : Bank) (r : Run) → LateIn c k r → r .lost ≡ none
+unfolding OfAccess
+late-not-lost (Reading b p o) k r l = l .lost
+late-not-lost (Writing b p o v) k r l = l .lost
+late-not-lost (Checkpointing b) k r l = absurd l
+late-not-lost (Cutting b) k r l = absurd l
+late-not-lost (Fusing b n) k r l = absurd l
+late-not-lost (Restarting b) k r l = absurd l
+
+pub power-lost : (c : Call) (k : Bank) (b : ℕ) → (callBank c k .answer ≡ PowerLost b) ↔ (callBank c k .run .lost ≡ some b)
+power-lost c k b = ended-loss (boardOf c) k (LateIn c k) (callBank c k) (late-not-lost c k) (call-ended c k) b

@@ -1,0 +1,148 @@
+-- A fresh bank is well formed and its bytes have the length that document 01 states; so a make answered Done leaves well-formed bytes.
+-- Assumes nothing.
+use mathlib.Core.Path.{_≡_, refl}
+use Prim.Native.Nat.{ℕ, _+_, _*_, _%_, _≤_, _<_}
+use native.Mathlib.Nat.{mod-lt, one-le-pow}
+use native.Mathlib.Omega.{arith}
+use mathlib.Core.Bool.{true, _&&_}
+use mathlib.Core.List.{List}
+use lib.ListN.{length, length-replicate}
+use lib.Dec.{eqb, ltb, leb, lit<, lit≤}
+use Rattle.words.specs.Bytes.{Each, each-nil, Bytes}
+use Rattle.types.specs.declared.Right.{Right}
+use Rattle.types.specs.declared.Right.the-variants.{None, Own}
+use Rattle.types.specs.declared.Answer.the-variants.{Done}
+use Rattle.model.specs.Definitions.Parts.{zeros}
+use Rattle.model.specs.Definitions.Layout.{mostBoards, mostPages, pageSize, slotsSize, bankSize}
+use Rattle.model.specs.Definitions.Bank.{boardAt, entryAt, frameAt, emptyFrame, emptyLog, noBoard, freshFrames, freshBoard, fresh}
+use Rattle.model.specs.Definitions.WellFormed.{FrameOk, LogOk, FramesOk, AreaOk, FieldsOk, PlaceOk, rightIn, BoardOk, EntryOk, WellFormed, wellFormed}
+use Rattle.model.specs.Definitions.Codec.{encode}
+use Rattle.model.specs.Definitions.Calls.{Reply, refused, make}
+use Rattle.model.specs.Laws.Logic.{cases, byBool}
+use Rattle.model.specs.Laws.Lists.{length-tabulate, getD-tabulate, each-tabulate, each-replicate}
+use Rattle.model.specs.Laws.Sets.{member-none}
+use Rattle.model.specs.Laws.CodecBank.{length-encode}
+use Rattle.model.specs.Laws.Tests.{says-and, says-lt, says-le}
+use Rattle.model.specs.Laws.WellFormedTest.{fields-of, wellFormed-complete}
+
+-- ---- the parts of a fresh board
+
+pub zeros-bytes : (n : ℕ) → Bytes (zeros n)
+unfolding zeros
+zeros-bytes n = each-replicate n 0 (lit< tt)
+
+pub zeros-length : (n : ℕ) → length (zeros n) ≡ n
+unfolding zeros
+zeros-length n = length-replicate n 0
+
+-- under any right: the bytes are zero
+zeroFrame-ok : (r : Right) → FrameOk (record { right = r; bytes = zeros pageSize })
+zeroFrame-ok r = record { size = zeros-length pageSize; bytes = zeros-bytes pageSize; empty = λ _. refl }
+
+pub emptyLog-ok : (pages : ℕ) → LogOk pages emptyLog
+unfolding emptyLog
+emptyLog-ok pages = record { records = each-nil; bytes = zeros-bytes slotsSize; slots = rw (zeros-length slotsSize) }
+
+freshFrames-ok : (boards pages b : ℕ) → FramesOk pages (freshFrames boards pages b)
+unfolding freshFrames emptyFrame
+freshFrames-ok boards pages b =
+    record {
+      count = length-tabulate pages _;
+      frames = each-tabulate pages _ (λ p. cases FrameOk (eqb (p % boards) b) (λ _. zeroFrame-ok Own) (λ _. zeroFrame-ok None));
+    }
+
+freshArea-ok : (boards pages b : ℕ) → AreaOk pages (record { number = 0; frames = freshFrames boards pages b; log = emptyLog })
+freshArea-ok boards pages b =
+    record { number = lit≤ tt; frames = freshFrames-ok boards pages b; log = emptyLog-ok pages }
+
+freshBoard-fields : (boards pages b : ℕ) → FieldsOk pages (freshBoard boards pages b)
+unfolding freshBoard
+freshBoard-fields boards pages b =
+    record {
+      fuse = lit≤ tt;
+      number = lit≤ tt;
+      since = lit≤ tt;
+      frames = freshFrames-ok boards pages b;
+      log = emptyLog-ok pages;
+      selected = freshArea-ok boards pages b;
+      spare = freshArea-ok boards pages b;
+    }
+
+-- ---- the bank: what stands at a page and at a board
+
+pub fresh-boards : (n p : ℕ) → length (fresh n p .boards) ≡ n
+unfolding fresh
+fresh-boards n p = length-tabulate n (λ b. freshBoard n p b)
+
+pub fresh-pages : (n p : ℕ) → length (fresh n p .directory) ≡ p
+unfolding fresh
+fresh-pages n p = length-tabulate p _
+
+pub fresh-board : (n p b : ℕ) → b < n → boardAt (fresh n p) b ≡ freshBoard n p b
+unfolding fresh boardAt
+fresh-board n p b h = getD-tabulate n b (λ c. freshBoard n p c) noBoard h
+
+pub fresh-entry : (n p q : ℕ) → q < p → entryAt (fresh n p) q ≡ record { owner = q % n; copies = 0 }
+unfolding fresh entryAt
+fresh-entry n p q h = getD-tabulate p q _ _ h
+
+-- "page p owned by board p mod N", and no copy out
+fresh-right : (n p b q : ℕ) → q < p → frameAt (freshFrames n p b) q .right ≡ rightIn (record { owner = q % n; copies = 0 }) b
+unfolding freshFrames emptyFrame frameAt rightIn
+fresh-right n p b q h =
+    rw getD-tabulate (byBool (eqb (q % n) b) (λ t. cc) (λ t. cc (member-none b)))
+
+fresh-ok : (n p b : ℕ) → b < n → BoardOk (fresh n p) b
+unfolding PlaceOk freshBoard emptyLog
+fresh-ok n p b h =
+    let e : boardAt (fresh n p) b ≡ freshBoard n p b = fresh-board n p b h in
+    record {
+      fields = rw (e, fresh-pages n p) (freshBoard-fields n p b);
+      fuse = rw e (lit< tt);
+      room = rw e (lit≤ tt);
+      place = rw e;
+      replaying = λ _. rw e;
+      down = λ d. let z : _≡_ {A = ℕ} 0 1 = cc in absurd (omega arith);
+      rights = λ u q l. let m : q < p = rw (fresh-pages n p) at l in rw (e, fresh-entry n p q m) (fresh-right n p b q m);
+      copies = λ u q l. absurd (u (rw e));
+    }
+
+fresh-directory : (n p : ℕ) → 0 < n → Each (EntryOk n) (fresh n p .directory)
+unfolding fresh
+fresh-directory n p h =
+    each-tabulate p _ (λ q. record { owner = mod-lt q h; copies = one-le-pow n 2 (lit< tt); ownerBit = member-none (q % n) })
+
+pub fresh-wellFormed : (n p : ℕ) → 0 < n → n ≤ mostBoards → 0 < p → p ≤ mostPages → WellFormed (fresh n p)
+fresh-wellFormed n p h₀ h₁ h₂ h₃ =
+    record {
+      sizes = rw (fresh-boards n p, fresh-pages n p) (record { someBoard = h₀; boards = h₁; somePage = h₂; pages = h₃ });
+      directory = rw (fresh-boards n p) (fresh-directory n p h₀);
+      boards = λ b l. fresh-ok n p b (rw (fresh-boards n p) at l);
+    }
+
+-- "Length 4 + 2P + N(2134 + 51P)."
+pub bankSize-closed : (n p : ℕ) → bankSize n p ≡ 4 + 2 * p + n * (2134 + 51 * p)
+bankSize-closed n p = omega arith
+
+-- ---- its bytes
+
+pub fresh-length : (n p : ℕ) → 0 < n → n ≤ mostBoards → 0 < p → p ≤ mostPages → length (encode (fresh n p)) ≡ bankSize n p
+fresh-length n p h₀ h₁ h₂ h₃ =
+    rw (length-encode (fresh n p) (fields-of (fresh n p) (fresh-wellFormed n p h₀ h₁ h₂ h₃)), fresh-boards n p, fresh-pages n p)
+
+pub fresh-bytes : (n p : ℕ) → 0 < n → n ≤ mostBoards → 0 < p → p ≤ mostPages → wellFormed (encode (fresh n p)) ≡ true
+fresh-bytes n p h₀ h₁ h₂ h₃ = wellFormed-complete (fresh n p) (fresh-wellFormed n p h₀ h₁ h₂ h₃)
+
+-- a make that is not refused leaves a bank that every call takes
+pub make-wellFormed : (n p : ℕ) (s : List ℕ) (v : ℕ) → make n p s .outcome .answer ≡ Done v → wellFormed (make n p s .bytes) ≡ true
+unfolding make refused
+make-wellFormed n p s v h =
+    let P : Reply → Type 0 = λ r. r .outcome .answer ≡ Done v → wellFormed (r .bytes) ≡ true in
+    let sizes = says-and (says-lt 0 n) (says-and (says-le n mostBoards) (says-and (says-lt 0 p) (says-le p mostPages))) in
+    cases P (ltb 0 n && (leb n mostBoards && (ltb 0 p && leb p mostPages)))
+    (λ t.
+    cases P (eqb (length s) (bankSize n p))
+    (λ _ _. let ok = sizes .0 t in fresh-bytes n p (ok .0) (ok .1 .0) (ok .1 .1 .0) (ok .1 .1 .1))
+    (λ _ e. let z : _≡_ {A = ℕ} 0 1 = cc in absurd (omega arith)))
+    (λ _ e. let z : _≡_ {A = ℕ} 0 1 = cc in absurd (omega arith))
+    h

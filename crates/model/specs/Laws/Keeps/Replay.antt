@@ -1,0 +1,348 @@
+-- Restart, replay and its end: while a replay goes on its board may have used its last record, and the end makes the bank well formed again.
+-- Assumes nothing.
+use mathlib.Core.Path.{_≡_, refl, sym, ap, _∙_}
+use mathlib.Core.Logic.{_≢_}
+use Prim.Native.Nat.{ℕ, suc, _+_, _-_, _≤_, _<_}
+use native.Mathlib.Nat.{le-of-lt}
+use native.Mathlib.Omega.{arith}
+use mathlib.Core.Bool.{Bool, true, false, not}
+use mathlib.Core.Option.{Option, none, some}
+use mathlib.Core.List.{List, [], _∷_}
+use lib.ListN.{length, drop, set, length-drop}
+use lib.Dec.{eqb}
+use borrow.Author.Tests.{eqb-true, eqb-false, leb-false, not-false}
+use Rattle.types.specs.declared.Right.the-variants.{None, Own}
+use Rattle.types.specs.declared.Frame.{Frame}
+use Rattle.types.specs.declared.CopyOrOwn.{CopyOrOwn}
+use Rattle.types.specs.declared.CopyOrOwn.the-variants.{GotCopy, GotOwn}
+use Rattle.types.specs.declared.Kind.{Kind}
+use Rattle.types.specs.declared.Kind.the-variants.{Got, Shown, Dropped}
+use Rattle.types.specs.declared.Record.{Record}
+use Rattle.types.specs.declared.State.the-variants.{Up, Down, Replaying}
+use Rattle.words.specs.Bytes.{Each}
+use Rattle.model.specs.Definitions.Parts.{each, member}
+use Rattle.model.specs.Definitions.Layout.{lastSince, lastNumber}
+use Rattle.model.specs.Definitions.Bank.{Entry, Log, Working, Board, Bank, emptyFrame, boardAt, entryAt, frameAt, onWorking}
+use Rattle.model.specs.Definitions.WellFormed.{FrameOk, isGot, RecordOk, FramesOk, PlaceOk, rightIn, WellFormed}
+use Rattle.model.specs.Definitions.Steps.{Run, step, Access, pageNamed, cellsWritten, lacks, takes, accessed}
+use Rattle.model.specs.Definitions.Replay.{loaded, recordsLeft, used, useUp, usedUp, gotDue, due, sameGot, lacking, needsGot, differs, rightGot, tookGot, tookDue, replayOver, settledFrame, settled, endReplay, endIfOver, replayed}
+use Rattle.model.specs.Laws.Logic.{cases, casesOption, byBool, clash, and-left, and-right}
+use Rattle.model.specs.Laws.Lists.{each-head, each-drop, each-each, length-each}
+use Rattle.model.specs.Laws.Boards.{rightIn-owner, rightIn-none, frameAt-same, frameAt-each, boardAt-same, settle}
+use Rattle.model.specs.Laws.Runs.{lost-not, step-cases}
+use Rattle.model.specs.Laws.Keeps.Clauses.{up-not-down, up-not-replaying, down-not-replaying, Fits, InReplay, WellFormedBut, entryIn, place-replaying, replaying-place, whole, onBoard-but}
+use Rattle.model.specs.Laws.Keeps.Stores.{copy-some, own-some, frameOk-empty, frameOk-right}
+use Rattle.model.specs.Laws.Keeps.Checkpoint.{checkpoint-keeps}
+use Rattle.model.specs.Laws.Keeps.Accesses.{framesOk-set, Writable, takes-enough, accessed-alone, accessed-agreed}
+
+-- ---- restart
+
+-- a board without power reads its selected area
+pub loaded-inReplay : (d : List Entry) (b : ℕ) (x : Board) → Fits d b x → x .state ≡ Down → InReplay d b (loaded x)
+unfolding loaded
+loaded-inReplay d b x h u =
+    record {
+      alone =
+          record {
+            fields =
+                record {
+                  fuse = h .alone .fields .fuse;
+                  number = h .alone .fields .selected .number;
+                  since = omega arith;
+                  frames = h .alone .fields .selected .frames;
+                  log = h .alone .fields .log;
+                  selected = h .alone .fields .selected;
+                  spare = h .alone .fields .spare;
+                };
+            fuse = h .alone .fuse;
+            room = h .alone .room;
+            replaying = λ e. h .alone .down u .volatile;
+            down = λ e. down-not-replaying e refl;
+          };
+      state = refl;
+      place = omega arith;
+      agreed = record { rights = λ e. up-not-replaying e refl; copies = λ e. h .agreed .copies (λ i. up-not-down i u) };
+    }
+
+-- a replaying board of a well-formed bank
+pub fits-inReplay : (d : List Entry) (b : ℕ) (x : Board) → Fits d b x → x .state ≡ Replaying → InReplay d b x
+fits-inReplay d b x h u =
+    record { alone = h .alone; state = u; place = le-of-lt (replaying-place (x .state) x u (h .place)); agreed = h .agreed }
+
+-- ---- records used
+
+casesKind : {A : Type 0} (P : A → Type 0) (k : Kind) {f : CopyOrOwn → ℕ → A} {g h : ℕ → A} → ((c : CopyOrOwn) (p : ℕ) → k ≡ Got c p → P (f c p))
+    → ((p : ℕ) → k ≡ Shown p → P (g p)) → ((p : ℕ) → k ≡ Dropped p → P (h p)) → P (elim k [ Got c p ↦ f c p | Shown p ↦ g p | Dropped p ↦ h p ])
+casesKind P (Got c p) f g h = f c p refl
+casesKind P (Shown p) f g h = g p refl
+casesKind P (Dropped p) f g h = h p refl
+
+-- working memory v is w after at most n records were used
+pub record Used (pages n : ℕ) (w v : Working) : Type 0 where
+  pub number : v .number ≡ w .number
+  pub log : v .log ≡ w .log
+  pub since : v .since ≤ lastSince
+  pub frames : FramesOk pages (v .frames)
+  pub place : v .place ≤ w .place + n
+
+-- one record used, then others
+used-then : {pages n : ℕ} (fs : List Frame) (w v : Working) → Used pages n (used fs w) v → Used pages (suc n) w v
+unfolding used
+used-then fs w v h =
+    record { number = h .number; log = h .log; since = h .since; frames = h .frames; place = omega (arith, h .place) }
+
+pub useUp-used : {pages : ℕ} (rs : List Record) (w : Working) → FramesOk pages (w .frames) → w .since ≤ lastSince → Used pages (length rs) w (useUp rs w)
+unfolding useUp used
+useUp-used [] w f s = record { number = refl; log = refl; since = s; frames = f; place = omega arith }
+useUp-used {pages} (r ∷ rs) w f s =
+    let idle : Used pages (length (r ∷ rs)) w w = record { number = refl; log = refl; since = s; frames = f; place = omega arith } in
+    cases (Used pages (length (r ∷ rs)) w) (eqb (r .count) (w .since))
+    (λ t.
+    casesKind (Used pages (length (r ∷ rs)) w) (r .kind)
+    (λ c p e. idle)
+    (λ p e. used-then (w .frames) w (useUp rs (used (w .frames) w)) (useUp-used rs (used (w .frames) w) f (omega arith)))
+    (λ p e.
+    let fs : List Frame = set (w .frames) p emptyFrame in
+    used-then fs w (useUp rs (used fs w)) (useUp-used rs (used fs w) (framesOk-set (w .frames) p emptyFrame f frameOk-empty) (omega arith))))
+    (λ t. idle)
+
+-- the working memory of a replaying board replaced: fewer records are left, and no right is looked at before the end
+inReplay-used : (d : List Entry) (b : ℕ) (x : Board) (v : Working) → InReplay d b x
+    → Used (length d) (length (x .stable .selected .log .records) - x .working .place) (x .working) v → InReplay d b (onWorking (λ w. v) x)
+unfolding onWorking
+inReplay-used d b x v h u =
+    record {
+      alone =
+          record {
+            fields =
+                record {
+                  fuse = h .alone .fields .fuse;
+                  number = rw (u .number) (h .alone .fields .number);
+                  since = u .since;
+                  frames = u .frames;
+                  log = rw (u .log) (h .alone .fields .log);
+                  selected = h .alone .fields .selected;
+                  spare = h .alone .fields .spare;
+                };
+            fuse = h .alone .fuse;
+            room = rw (u .log) (h .alone .room);
+            replaying = λ e. ap (λ (l : Log). l .records) (u .log) ∙ h .alone .replaying e;
+            down = λ e. down-not-replaying e (h .state);
+          };
+      state = h .state;
+      place = omega (arith, u .place, h .place);
+      agreed = record { rights = λ e. up-not-replaying e (h .state); copies = h .agreed .copies };
+    }
+
+-- "use up every shown or dropped record whose count equals since"
+pub usedUp-inReplay : (d : List Entry) (b : ℕ) (x : Board) → InReplay d b x → InReplay d b (usedUp x)
+unfolding usedUp recordsLeft onWorking
+usedUp-inReplay d b x h =
+    let rs : List Record = x .stable .selected .log .records in
+    let n : length (drop (x .working .place) rs) ≡ length rs - x .working .place = length-drop (x .working .place) rs in
+    inReplay-used d b x (useUp (recordsLeft x) (x .working)) h
+    (rw n at (useUp-used (recordsLeft x) (x .working) (h .alone .fields .frames) (h .alone .fields .since)))
+
+-- ---- a got record used
+
+-- the next record of a list, if it is a got
+record DueIn (P : Record → Type 0) (l : List Record) (r : Record) : Type 0 where
+  valid : P r
+  left : 0 < length l
+  got : isGot (r .kind) ≡ true
+
+gotDue-some : {P : Record → Type 0} (l : List Record) (since : ℕ) (r : Record) → gotDue l since ≡ some r → Each P l → DueIn P l r
+unfolding gotDue isGot
+gotDue-some [] since r h e = lost-not refl h
+gotDue-some {P} (q ∷ qs) since r h e =
+    cases (λ (o : Option Record). o ≡ some r → DueIn P (q ∷ qs) r) (eqb (q .count) since)
+    (λ t.
+    casesKind (λ (o : Option Record). o ≡ some r → DueIn P (q ∷ qs) r) (q .kind)
+    (λ c p k m.
+    let i : q ≡ r = cc in
+    record { valid = rw i at (each-head e); left = omega arith; got = rw (← i, k) })
+    (λ p k m. lost-not refl m)
+    (λ p k m. lost-not refl m))
+    (λ t m. lost-not refl m)
+    h
+
+right-got : (k : Kind) → isGot k ≡ true → rightGot k ≢ None
+unfolding isGot rightGot
+right-got (Got GotCopy p) h = copy-some
+right-got (Got GotOwn p) h = own-some
+right-got (Shown p) h = clash h refl
+right-got (Dropped p) h = clash h refl
+
+-- "The frame then takes its right and bytes, and since becomes 0."
+pub tookDue-inReplay : (d : List Entry) (b : ℕ) (a : Access) (x : Board) → InReplay d b x → InReplay d b (tookDue a x)
+unfolding tookDue tookGot used due recordsLeft onWorking
+tookDue-inReplay d b a x h =
+    casesOption (InReplay d b) (due x)
+    (λ e. h)
+    (λ r e.
+    let rs : List Record = x .stable .selected .log .records in
+    let g : DueIn (RecordOk (length d)) (drop (x .working .place) rs) r =
+    gotDue-some (drop (x .working .place) rs) (x .working .since) r e (each-drop (x .working .place) rs (h .alone .fields .selected .log .records)) in
+    inReplay-used d b x (tookGot (pageNamed a) r (x .working)) h
+    (record {
+      number = refl;
+      log = refl;
+      since = omega arith;
+      frames =
+          framesOk-set (x .working .frames) (pageNamed a) (record { right = rightGot (r .kind); bytes = r .bytes }) (h .alone .fields .frames)
+          (record { size = g .valid .size; bytes = g .valid .bytes; empty = λ z. absurd (right-got (r .kind) (g .got) z) });
+      place = omega (arith, g .left, length-drop (x .working .place) rs);
+    }))
+
+-- ---- an access in replay
+
+-- a due got that the access needs gives it its right; without one the access has it
+pub sameGot-true : (g h : CopyOrOwn) → sameGot g h ≡ true → g ≡ h
+unfolding sameGot
+sameGot-true GotCopy GotCopy e = refl
+sameGot-true GotCopy GotOwn e = clash e refl
+sameGot-true GotOwn GotCopy e = clash e refl
+sameGot-true GotOwn GotOwn e = refl
+
+needsGot-right : (a : Access) (fs : List Frame) (k : Kind) → needsGot a fs k ≡ true → lacks a (rightGot k) ≡ false
+unfolding needsGot
+needsGot-right a fs (Got g p) h =
+    let e : g ≡ takes a = sameGot-true g (takes a) (and-left (sameGot g (takes a)) (lacking a fs) (and-right (eqb p (pageNamed a)) _ h)) in
+    rw e (takes-enough a p)
+needsGot-right a fs (Shown p) h = clash h refl
+needsGot-right a fs (Dropped p) h = clash h refl
+
+-- what a due got leaves: the counters, and the right that code 5 asks for
+pub record TookDue (a : Access) (x y : Board) : Type 0 where
+  pub number : y .working .number ≡ x .working .number
+  pub since : y .working .since ≤ x .working .since
+  pub right : differs a x ≡ false → pageNamed a < length (x .working .frames) → lacking a (y .working .frames) ≡ false
+
+pub tookDue-took : (a : Access) (x : Board) → TookDue a x (tookDue a x)
+unfolding tookDue tookGot used onWorking differs lacking
+tookDue-took a x =
+    casesOption (TookDue a x) (due x)
+    (λ e. record { number = refl; since = omega arith; right = λ t l. cc })
+    (λ r e.
+    record {
+      number = refl;
+      since = omega arith;
+      right =
+          λ t l.
+          let n : not (needsGot a (x .working .frames) (r .kind)) ≡ false = cc in
+          ap (λ (f : Frame). lacks a (f .right))
+          (frameAt-same (x .working .frames) (pageNamed a) (record { right = rightGot (r .kind); bytes = r .bytes }) l)
+          ∙ needsGot-right a (x .working .frames) (r .kind) (not-false _ n);
+    })
+
+pub accessed-inReplay : (d : List Entry) (b : ℕ) (a : Access) (x : Board) → InReplay d b x → x .working .since < lastSince
+    → x .working .number < lastNumber → Writable (x .working .frames) (cellsWritten a) → InReplay d b (onWorking (accessed a) x)
+unfolding onWorking accessed
+accessed-inReplay d b a x h s n w =
+    record {
+      alone = accessed-alone a x (h .alone) (λ e. down-not-replaying e (h .state)) s n w;
+      state = h .state;
+      place = h .place;
+      agreed = accessed-agreed a x d b (h .agreed);
+    }
+
+-- a replayed access: local, then the records that it makes due are used up
+pub replayed-inReplay : (d : List Entry) (b : ℕ) (a : Access) (x : Board) → InReplay d b x → x .working .since < lastSince
+    → x .working .number < lastNumber → Writable (x .working .frames) (cellsWritten a) → InReplay d b (replayed a x)
+unfolding replayed
+replayed-inReplay d b a x h s n w = usedUp-inReplay d b (onWorking (accessed a) x) (accessed-inReplay d b a x h s n w)
+
+-- ---- the end of replay
+
+pub frameOk-settled : (t : Bool) (f : Frame) → FrameOk f → FrameOk (settledFrame t f)
+unfolding settledFrame
+frameOk-settled true f h = frameOk-right Own own-some h
+frameOk-settled false f h = frameOk-empty
+
+right-settled : (e : Entry) (b : ℕ) (f : Frame) → member b (e .copies) ≡ false → settledFrame (eqb (e .owner) b) f .right ≡ rightIn e b
+unfolding settledFrame emptyFrame
+right-settled e b f m =
+    byBool (eqb (e .owner) b)
+    (λ t. rw t (sym (rightIn-owner e b (eqb-true (e .owner) b t))))
+    (λ t. rw t (sym (rightIn-none e b (eqb-false (e .owner) b t) m)))
+
+-- "pages the directory gives to others lose their right; those it gives this board are own; place 0; state up": by a board in no copy-set
+pub settled-fits : (d : List Entry) (b : ℕ) (x : Board) → InReplay d b x → Fits d b (settled (λ p. eqb (entryIn d p .owner) b) x)
+unfolding settled PlaceOk
+settled-fits d b x h =
+    let settle : ℕ → Frame → Frame = λ p f. settledFrame (eqb (entryIn d p .owner) b) f in
+    let n : length (each settle (x .working .frames)) ≡ length (x .working .frames) = length-each settle (x .working .frames) in
+    let count : length (x .working .frames) ≡ length d = h .alone .fields .frames .count in
+    record {
+      alone =
+          record {
+            fields =
+                record {
+                  fuse = h .alone .fields .fuse;
+                  number = h .alone .fields .number;
+                  since = h .alone .fields .since;
+                  frames =
+                      record {
+                        count = n ∙ count;
+                        frames =
+                            each-each settle (x .working .frames) (h .alone .fields .frames .frames)
+                            (λ p f v. frameOk-settled (eqb (entryIn d p .owner) b) f v);
+                      };
+                  log = h .alone .fields .log;
+                  selected = h .alone .fields .selected;
+                  spare = h .alone .fields .spare;
+                };
+            fuse = h .alone .fuse;
+            room = h .alone .room;
+            replaying = λ e. up-not-replaying refl e;
+            down = λ e. up-not-down refl e;
+          };
+      place = refl;
+      agreed =
+          record {
+            rights =
+                λ e p l.
+                ap (λ (f : Frame). f .right) (frameAt-each p settle (x .working .frames) (rw count l))
+                ∙ right-settled (entryIn d p) b (frameAt (x .working .frames) p) (h .agreed .copies (λ i. up-not-replaying i (h .state)) p l);
+            copies = λ e. absurd (e refl);
+          };
+    }
+
+pub settle-restores : (b : ℕ) (k : Bank) → WellFormedBut b InReplay k → WellFormed (settle b k)
+unfolding settle entryAt
+settle-restores b k w =
+    whole {Kept = Fits}
+    (onBoard-but b (settled (λ p. eqb (entryAt k p .owner) b)) k w (λ l h. settled-fits (k .directory) b (boardAt k b) h))
+    (λ h. h)
+
+module _ (b : ℕ) (r : Run) (n : r .lost ≡ none) (l : b < length (r .bank .boards)) (w : WellFormedBut b InReplay (r .bank)) where
+  settled-wellFormed : WellFormed (step (settle b) r .bank)
+  settled-wellFormed = step-cases (λ s. WellFormed (s .bank)) (settle b) r (λ c e. lost-not n e) (λ e. settle-restores b (r .bank) w)
+
+  settled-up : boardAt (step (settle b) r .bank) b .state ≡ Up
+  unfolding settle settled
+  settled-up =
+      step-cases (λ s. boardAt (s .bank) b .state ≡ Up) (settle b) r
+      (λ c e. lost-not n e)
+      (λ e. ap (λ (x : Board). x .state) (boardAt-same b (settled (λ p. eqb (entryAt (r .bank) p .owner) b)) (r .bank) l))
+
+  -- "End of replay ..: ..; checkpoint."
+  pub endReplay-keeps : WellFormed (endReplay b r .bank)
+  unfolding endReplay settle
+  endReplay-keeps = checkpoint-keeps b (step (settle b) r) settled-wellFormed (λ e i. up-not-replaying settled-up i)
+
+  -- the end of replay, if no record is left; else the place is in range
+  pub endIfOver-keeps : WellFormed (endIfOver b r .bank)
+  unfolding endIfOver replayOver
+  endIfOver-keeps =
+      let x : Board = boardAt (r .bank) b in
+      cases (λ (s : Run). WellFormed (s .bank)) (replayOver x)
+      (λ t. endReplay-keeps)
+      (λ t.
+      whole w
+      (λ h.
+      record {
+        alone = h .alone;
+        place = place-replaying (x .state) x (h .state) (leb-false (length (x .stable .selected .log .records)) (x .working .place) t);
+        agreed = h .agreed;
+      }))

@@ -1,0 +1,244 @@
+-- A copy given, copies dropped and a page passed on keep a bank well formed: directory and rights change together. Assumes nothing.
+use mathlib.Core.Path.{_≡_, refl, sym, _∙_}
+use mathlib.Core.Logic.{_≢_}
+use Prim.Native.Nat.{ℕ, _<_}
+use native.Mathlib.Nat.{one-le-pow}
+use native.Mathlib.Omega.{arith}
+use native.Mathlib.Decide.{decLt}
+use mathlib.Core.Bool.{Bool, true, false, _||_}
+use mathlib.Core.List.{List}
+use lib.ListN.{length}
+use lib.Dec.{eqb}
+use borrow.Author.Tests.{eqb-true, eqb-false}
+use Rattle.types.specs.declared.Right.the-variants.{None, Copy, Own}
+use Rattle.types.specs.declared.Frame.{Frame}
+use Rattle.types.specs.declared.CopyOrOwn.the-variants.{GotCopy}
+use Rattle.types.specs.declared.Kind.the-variants.{Got, Dropped}
+use Rattle.types.specs.declared.State.the-variants.{Up}
+use Rattle.model.specs.Definitions.Parts.{zeros, update, member, withMember}
+use Rattle.model.specs.Definitions.Layout.{pageSize}
+use Rattle.model.specs.Definitions.Bank.{Entry, Board, Bank, emptyFrame, noBoard, boardAt, entryAt, frameAt, onBoard, onEntry, onWorking, onFrames}
+use Rattle.model.specs.Definitions.Codec.{pageOf}
+use Rattle.model.specs.Definitions.WellFormed.{FrameOk, isGot, rightIn, EntryOk, WellFormed}
+use Rattle.model.specs.Definitions.Steps.{recorded, note, withFrame, frameOf, giveCopy, dropped, dropAt, dropCopies, passOwnership}
+use Rattle.model.specs.Laws.Logic.{cases, byEq, byState, clash}
+use Rattle.model.specs.Laws.Lists.{length-update, getD-update-same, getD-update-other, update-set, each-getD, each-set}
+use Rattle.model.specs.Laws.Sets.{member-with-same, member-with-other, with-below, member-none}
+use Rattle.model.specs.Laws.Boards.{boardAt-out, rightIn-owner, rightIn-copy, rightIn-none, rightIn-same, frameAt-same, frameAt-other, tookCopy, withCopy, droppedIf, withoutCopies, ownedBy, tookOwn, boardAt-giveCopy-same, boardAt-giveCopy-other, boardAt-dropCopies, boardAt-passOwnership-same, boardAt-passOwnership-other}
+use Rattle.model.specs.Laws.Runs.{SameSizes, sizes-giveCopy, sizes-dropCopies, sizes-passOwnership}
+use Rattle.model.specs.Laws.Keeps.Clauses.{up-not-down, up-not-replaying, Fits, RoomFor, SameFor, entryIn, place-kept, fits, wellFormed-fits, fits-directory, up-below}
+use Rattle.model.specs.Laws.Keeps.Records.{recordable-plain, recordable-got, recorded-fits}
+use Rattle.model.specs.Laws.Keeps.Stores.{copy-some, own-some, frameOk-empty, frameOk-right}
+use Rattle.model.specs.Laws.Keeps.Accesses.{frameOk-at, framesOk-set}
+
+-- ---- one entry changed
+
+-- the entry is valid, and every board fits in the changed directory
+entry-keeps : (p : ℕ) (f : Entry → Entry) (k j : Bank) → WellFormed k → p < length (k .directory) → SameSizes k j
+    → j .directory ≡ update p f (k .directory) → EntryOk (length (k .boards)) (f (entryAt k p))
+    → ((c : ℕ) → c < length (k .boards) → Fits (update p f (k .directory)) c (boardAt j c)) → WellFormed j
+unfolding entryAt boardAt
+entry-keeps p f k j w l s d e g =
+    wellFormed-fits j
+    (rw (s .boards, s .pages) (w .sizes))
+    (rw (s .boards, d, update-set p f (k .directory) (record { owner = 0; copies = 0 }) l)
+    (each-set (k .directory) p (f (entryIn (k .directory) p)) (w .directory) e))
+    (λ c h. rw d (g c (rw (s .boards) at h)))
+
+module _ (d : List Entry) (p : ℕ) (f : Entry → Entry) (l : p < length d) (b : ℕ) (x : Board) (h : Fits d b x) where
+  entryIn-same : entryIn (update p f d) p ≡ f (entryIn d p)
+  entryIn-same = getD-update-same p f d (record { owner = 0; copies = 0 }) l
+
+  entryIn-other : (q : ℕ) → q ≢ p → entryIn (update p f d) q ≡ entryIn d q
+  entryIn-other q n = getD-update-other p q f d (record { owner = 0; copies = 0 }) n
+
+  -- a board of which the changed entry says what the old one said
+  unaffected-fits : SameFor b (entryIn d p) (f (entryIn d p)) → Fits (update p f d) b x
+  unaffected-fits s =
+      fits-directory d (update p f d) b x (length-update p f d)
+      (λ q m. byEq q p (λ e. rw (e, entryIn-same) s) (λ n. rw (entryIn-other q n) (record { right = refl; copies = refl })))
+      h
+
+  -- an up board whose frame of page p gets the right that the changed entry gives it
+  exchanged-fits : (g : Frame) → x .state ≡ Up → FrameOk g → g .right ≡ rightIn (f (entryIn d p)) b → Fits (update p f d) b (withFrame p g x)
+  unfolding withFrame onWorking onFrames
+  exchanged-fits g u v r =
+      record {
+        alone =
+            rw (length-update p f d)
+            (record {
+              fields =
+                  record {
+                    fuse = h .alone .fields .fuse;
+                    number = h .alone .fields .number;
+                    since = h .alone .fields .since;
+                    frames = framesOk-set (x .working .frames) p g (h .alone .fields .frames) v;
+                    log = h .alone .fields .log;
+                    selected = h .alone .fields .selected;
+                    spare = h .alone .fields .spare;
+                  };
+              fuse = h .alone .fuse;
+              room = h .alone .room;
+              replaying = h .alone .replaying;
+              down = λ e. up-not-down u e;
+            });
+        place = place-kept (x .state) x (withFrame p g x) (h .place) refl (omega arith);
+        agreed =
+            record {
+              rights =
+                  λ e q m.
+                  byEq q p
+                  (λ i. rw (i, entryIn-same, frameAt-same (x .working .frames) p g (rw (h .alone .fields .frames .count) l)) r)
+                  (λ n. rw (entryIn-other q n, frameAt-other (x .working .frames) p q g n) (h .agreed .rights e q (rw (length-update p f d) at m)));
+              copies = λ n. absurd (n u);
+            };
+      }
+
+-- an up board that gives page p up: it has room for the record, and the changed entry gives it no right
+dropped-fits : (d : List Entry) (p : ℕ) (f : Entry → Entry) → p < length d → (b : ℕ) (x : Board) → Fits d b x → x .state ≡ Up → RoomFor 1 x
+    → rightIn (f (entryIn d p)) b ≡ None → Fits (update p f d) b (dropped p x)
+unfolding dropped emptyFrame onWorking recorded pageOf isGot
+dropped-fits d p f l b x h u m r =
+    exchanged-fits d p f l b (onWorking (recorded (Dropped p) (zeros pageSize)) x)
+    (recorded-fits d b (Dropped p) (zeros pageSize) x h u m (recordable-plain (Dropped p) refl l))
+    emptyFrame u frameOk-empty (sym r)
+
+-- ---- entries
+
+entryOk-withCopy : (n b : ℕ) (e : Entry) → EntryOk n e → b < n → e .owner ≢ b → EntryOk n (withCopy b e)
+unfolding withCopy
+entryOk-withCopy n b e h l o =
+    record {
+      owner = h .owner;
+      copies = with-below n b (e .copies) (h .copies) l;
+      ownerBit = member-with-other b (e .owner) (e .copies) o ∙ h .ownerBit;
+    }
+
+-- an owner and no copies
+entryOk-alone : (n w : ℕ) → w < n → EntryOk n (record { owner = w; copies = 0 })
+entryOk-alone n w l = record { owner = l; copies = one-le-pow n 2 (omega arith); ownerBit = member-none w }
+
+pub entry-at : {k : Bank} → WellFormed k → (p : ℕ) → p < length (k .directory) → EntryOk (length (k .boards)) (entryAt k p)
+unfolding entryAt
+entry-at {k} w p l = each-getD (k .directory) p (record { owner = 0; copies = 0 }) (w .directory) l
+
+-- the frame of any board at any page
+pub frameOk-of : {k : Bank} → WellFormed k → (o p : ℕ) → FrameOk (frameOf k o p)
+unfolding frameOf noBoard frameAt
+frameOk-of {k} w o p =
+    elim (decLt o (length (k .boards))) [
+      | yes l ↦ frameOk-at (boardAt k o .working .frames) p (fits w o l .alone .fields .frames)
+      | no n ↦
+          let e : boardAt k o ≡ noBoard = boardAt-out k o (omega arith) in
+          rw e frameOk-empty
+    ]
+
+-- ---- a copy given
+
+module _ (o b p : ℕ) (k : Bank) where
+  -- "reader records got copy, gains the copy and its bit": the reader is up, has room for one record and isn't the owner
+  pub giveCopy-keeps : WellFormed k → boardAt k b .state ≡ Up → RoomFor 1 (boardAt k b) → p < length (k .directory) → entryAt k p .owner ≢ b
+      → WellFormed (giveCopy o b p k)
+  unfolding giveCopy note onBoard onEntry withCopy tookCopy onWorking recorded entryAt
+  giveCopy-keeps w u m l n =
+      let d : List Entry = k .directory in
+      let bytes : List ℕ = frameOf k o p .bytes in
+      let x : Board = boardAt k b in
+      let i : b < length (k .boards) = up-below k b u in
+      let v : FrameOk (frameOf k o p) = frameOk-of w o p in
+      entry-keeps p (withCopy b) k (giveCopy o b p k) w l (sizes-giveCopy o b p k) refl
+      (entryOk-withCopy (length (k .boards)) b (entryAt k p) (entry-at w p l) i n)
+      (λ c j.
+      byEq c b
+      (λ e.
+      rw (e, boardAt-giveCopy-same o b p k i)
+      (exchanged-fits d p (withCopy b) l b (onWorking (recorded (Got GotCopy p) bytes) x)
+      (recorded-fits d b (Got GotCopy p) bytes x (fits w b i) u m (recordable-got GotCopy v l))
+      (record { right = Copy; bytes = bytes }) u
+      (frameOk-right Copy copy-some v)
+      (sym (rightIn-copy (withCopy b (entryAt k p)) b n (member-with-same b (entryAt k p .copies))))))
+      (λ e.
+      let s : member c (withMember b (entryAt k p .copies)) ≡ member c (entryAt k p .copies) = member-with-other b c (entryAt k p .copies) e in
+      rw (boardAt-giveCopy-other o b p k c e)
+      (unaffected-fits d p (withCopy b) l c (boardAt k c) (fits w c j)
+      (record { right = rightIn-same (entryAt k p) (withCopy b (entryAt k p)) c refl s; copies = s }))))
+
+-- ---- the copies of a page dropped
+
+-- a holder of a copy is up
+pub holder-up : {k : Bank} → WellFormed k → (c p : ℕ) → c < length (k .boards) → p < length (k .directory) → member c (entryAt k p .copies) ≡ true
+    → boardAt k c .state ≡ Up
+unfolding entryAt
+holder-up {k} w c p i l m =
+    byState (boardAt k c .state)
+    (λ e. e)
+    (λ e. clash m (fits w c i .agreed .copies (λ u. up-not-down u e) p l))
+    (λ e. clash m (fits w c i .agreed .copies (λ u. up-not-replaying u e) p l))
+
+module _ (p : ℕ) (k : Bank) where
+  -- "each holder records dropped and loses its copy, the copy-set empties": each holder has room for one record
+  pub dropCopies-keeps : WellFormed k → p < length (k .directory)
+      → ((c : ℕ) → c < length (k .boards) → member c (entryAt k p .copies) ≡ true → RoomFor 1 (boardAt k c)) → WellFormed (dropCopies p k)
+  unfolding dropCopies dropAt onEntry withoutCopies droppedIf entryAt
+  dropCopies-keeps w l m =
+      let d : List Entry = k .directory in
+      let e : Entry = entryAt k p in
+      let o : EntryOk (length (k .boards)) e = entry-at w p l in
+      entry-keeps p withoutCopies k (dropCopies p k) w l (sizes-dropCopies p k) refl
+      (entryOk-alone (length (k .boards)) (e .owner) (o .owner))
+      (λ c j.
+      rw (boardAt-dropCopies p k c j)
+      (cases (Fits (update p withoutCopies d) c) (member c (e .copies))
+      (λ t.
+      dropped-fits d p withoutCopies l c (boardAt k c) (fits w c j) (holder-up w c p j l t) (m c j t)
+      (rightIn-none (withoutCopies e) c (λ i. clash (rw i t) (o .ownerBit)) (member-none c)))
+      (λ t.
+      unaffected-fits d p withoutCopies l c (boardAt k c) (fits w c j)
+      (record { right = rightIn-same e (withoutCopies e) c refl (member-none c ∙ sym t); copies = member-none c ∙ sym t }))))
+
+-- ---- a page passed on
+
+pub or-cases : {X : Type 0} (a b : Bool) → (a || b) ≡ true → (a ≡ true → X) → (b ≡ true → X) → X
+or-cases true b h f g = f refl
+or-cases false b h f g = g h
+
+pub or-none : (a b : Bool) → (a || b) ≡ false → (a ≡ false) × (b ≡ false)
+or-none true b h = clash refl h
+or-none false b h = (refl, h)
+
+module _ (o w p : ℕ) (k : Bank) where
+  -- "then together owner and all copy holders but the writer ..": the owner and the writer are up, and whoever loses its right has room for one record
+  pub passOwnership-keeps : WellFormed k → p < length (k .directory) → entryAt k p .owner ≡ o → boardAt k o .state ≡ Up → boardAt k w .state ≡ Up
+      → ((c : ℕ) → c < length (k .boards) → c ≢ w → (eqb c o || member c (entryAt k p .copies)) ≡ true → RoomFor 1 (boardAt k c))
+      → WellFormed (passOwnership o w p k)
+  unfolding passOwnership dropAt onBoard onEntry ownedBy tookOwn droppedIf entryAt
+  passOwnership-keeps wf l own up u m =
+      let d : List Entry = k .directory in
+      let e : Entry = entryAt k p in
+      let i : w < length (k .boards) = up-below k w u in
+      entry-keeps p (ownedBy w) k (passOwnership o w p k) wf l (sizes-passOwnership o w p k) refl
+      (entryOk-alone (length (k .boards)) w i)
+      (λ c j.
+      byEq c w
+      (λ q.
+      rw (q, boardAt-passOwnership-same o w p k i)
+      (exchanged-fits d p (ownedBy w) l w (boardAt k w) (fits wf w i) (record { right = Own; bytes = frameOf k o p .bytes }) u
+      (frameOk-right Own own-some (frameOk-of wf o p))
+      (sym (rightIn-owner (ownedBy w e) w refl))))
+      (λ n.
+      rw (boardAt-passOwnership-other o w p k c j n)
+      (cases (Fits (update p (ownedBy w) d) c) (eqb c o || member c (e .copies))
+      (λ t.
+      dropped-fits d p (ownedBy w) l c (boardAt k c) (fits wf c j)
+      (or-cases (eqb c o) (member c (e .copies)) t (λ s. rw (eqb-true c o s) up) (holder-up wf c p j l))
+      (m c j n t)
+      (rightIn-none (ownedBy w e) c (λ s. n (sym s)) (member-none c)))
+      (λ t.
+      let f : (eqb c o ≡ false) × (member c (e .copies) ≡ false) = or-none (eqb c o) (member c (e .copies)) t in
+      unaffected-fits d p (ownedBy w) l c (boardAt k c) (fits wf c j)
+      (record {
+        right =
+            rightIn-none (ownedBy w e) c (λ s. n (sym s)) (member-none c)
+            ∙ sym (rightIn-none e c (λ s. eqb-false c o (f .0) (sym s ∙ own)) (f .1));
+        copies = member-none c ∙ sym (f .1);
+      })))))

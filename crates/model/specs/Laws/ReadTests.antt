@@ -1,0 +1,170 @@
+-- Bytes that pass a test of Definitions.WellFormed are read as what is well formed: frames, slots, logs, areas and blocks.
+-- WrittenTests has the other way. Assumes nothing.
+use mathlib.Core.Path.{_≡_, refl}
+use Prim.Native.Nat.{ℕ, zero, suc, _+_, _*_, _^_, _≤_, _<_}
+use native.Mathlib.Omega.{arith}
+use mathlib.Core.Bool.{Bool, true, false}
+use mathlib.Core.List.{List, []}
+use lib.ListN.{length, length-drop}
+use lib.Dec.{eqb, lit≤}
+use borrow.Author.Tests.{ltb-true}
+use Rattle.words.specs.Bytes.{Each, Bytes}
+use Rattle.words.specs.LittleEndian.{numberOf}
+use Rattle.words.specs.LittleEndianLaws.{numberOf-below}
+use Rattle.types.specs.declared.Right.the-variants.{None}
+use Rattle.model.specs.Definitions.Parts.{part, byteAt, decodeAll}
+use Rattle.model.specs.Definitions.Layout.{byteValues, pageSize, slotCount, rightAt, frameBytesAt, frameSize, slotSize, slotsSize, recordCountAt, slotBytesAt, fuseSize, numberSize, sinceSize, noFuse, lastSince, lastNumber, areaNumberAt, areaCountAt, areaFramesAt, areaSlotsAt, areaAt, areaSize, selectorAt, fuseAt, numberAt, sinceAt, framesAt, slotsAt, volatileCountAt, blockSize}
+use Rattle.model.specs.Definitions.Bank.{Area}
+use Rattle.model.specs.Definitions.Codec.{rightByte, rightOf, selectorByte, decodeFrame, decodeFrames, pageOf, decodeRecord, decodeLog, decodeArea, decodeBoard, decodeStable}
+use Rattle.model.specs.Definitions.WellFormed.{FrameOk, isGot, RecordOk, LogOk, FramesOk, AreaOk, FieldsOk, frameValid, framesValid, slotValid, logValid, areaValid, blockReadable}
+use Rattle.model.specs.Laws.Logic.{and-left, and-right}
+use Rattle.model.specs.Laws.Lists.{each-drop, each-of-getD}
+use Rattle.model.specs.Laws.Parts.{each-part, length-part, length-decodeAll, getD-decodeAll, index-in}
+use Rattle.model.specs.Laws.CodecBack.{framesValid-at, logValid-count, logValid-at, slot-in, areaValid-frames, areaValid-log, Readable, block-readable}
+use Rattle.model.specs.Laws.Tests.{says-then, says-else, says-eq, says-zero}
+
+-- ---- what holds of bytes holds of the numbers and the elements read from them
+
+-- a number read from a part of its width is at most the last one of that width
+number-below : (l : List ℕ) (a w last : ℕ) → a + w ≤ length l → Bytes l → byteValues ^ w ≤ suc last → numberOf (part l a w) ≤ last
+number-below l a w last h b e =
+    let r : numberOf (part l a w) < byteValues ^ w = numberOf-below w (part l a w) (each-part l a w b) (length-part l a w h) in
+    omega arith
+
+since-width : byteValues ^ sinceSize ≤ suc lastSince
+since-width = lit≤ tt
+
+number-width : byteValues ^ numberSize ≤ suc lastNumber
+number-width = lit≤ tt
+
+fuse-width : byteValues ^ fuseSize ≤ suc noFuse
+fuse-width = lit≤ tt
+
+pub each-decodeAll : {A : Type 0} {P : A → Type 0} (dec : List ℕ → A) (w n : ℕ) (l : List ℕ)
+    → ((i : ℕ) → i < n → P (dec (part l (i * w) w))) → Each P (decodeAll dec w n l)
+each-decodeAll dec w n l f =
+    each-of-getD (decodeAll dec w n l) (dec [])
+    (λ i h. let m : i < n = rw (length-decodeAll dec w n l) at h in rw (getD-decodeAll dec w n l i (dec []) m) (f i m))
+
+-- ---- a frame
+
+right-none : (n : ℕ) → rightOf n ≡ None → n ≡ rightByte None
+unfolding rightOf rightByte
+right-none zero e = refl
+right-none (suc zero) e = cc
+right-none (suc (suc n)) e = cc
+
+pub frame-ok : (l : List ℕ) → length l ≡ frameSize → Bytes l → frameValid l ≡ true → FrameOk (decodeFrame l)
+unfolding frameValid decodeFrame
+frame-ok l e b v =
+    let size : length (part l frameBytesAt pageSize) ≡ pageSize = length-part l frameBytesAt pageSize (omega arith) in
+    record {
+      size = size;
+      bytes = each-part l frameBytesAt pageSize b;
+      empty = λ r.
+          says-then (says-eq (byteAt l rightAt) (rightByte None)) (λ _. says-zero (part l frameBytesAt pageSize) pageSize size) .0
+          (search (and-left, and-right))
+          (right-none (byteAt l rightAt) r);
+    }
+
+pub frames-ok : (pages : ℕ) (l : List ℕ) → length l ≡ pages * frameSize → Bytes l → framesValid pages l ≡ true → FramesOk pages (decodeFrames pages l)
+unfolding decodeFrames
+frames-ok pages l e b v =
+    record {
+      count = length-decodeAll decodeFrame frameSize pages l;
+      frames =
+          each-decodeAll decodeFrame frameSize pages l
+          (λ i h.
+          frame-ok (part l (i * frameSize) frameSize)
+          (length-part l (i * frameSize) frameSize (omega (arith, index-in frameSize pages i h)))
+          (each-part l (i * frameSize) frameSize b)
+          (framesValid-at pages l i v h));
+    }
+
+-- ---- a record
+
+pub slot-ok : (pages : ℕ) (l : List ℕ) → length l ≡ slotSize → Bytes l → slotValid pages l ≡ true → RecordOk pages (decodeRecord l)
+unfolding slotValid decodeRecord
+slot-ok pages l e b v =
+    let size : length (part l slotBytesAt pageSize) ≡ pageSize = length-part l slotBytesAt pageSize (omega arith) in
+    record {
+      count = number-below l recordCountAt sinceSize lastSince (omega arith) b since-width;
+      page = ltb-true (pageOf (decodeRecord l .kind)) pages (search (and-left, and-right));
+      size = size;
+      bytes = each-part l slotBytesAt pageSize b;
+      plain = says-else (isGot (decodeRecord l .kind)) (says-zero (part l slotBytesAt pageSize) pageSize size) .0 (search (and-left, and-right));
+    }
+
+-- ---- a log
+
+pub log-ok : (pages count : ℕ) (l : List ℕ) → length l ≡ slotsSize → Bytes l → logValid pages count l ≡ true → LogOk pages (decodeLog count l)
+unfolding decodeLog
+log-ok pages count l e b v =
+    let c : count ≤ slotCount = logValid-count pages count l v in
+    record {
+      records =
+          each-decodeAll decodeRecord slotSize count l
+          (λ i h.
+          slot-ok pages (part l (i * slotSize) slotSize)
+          (length-part l (i * slotSize) slotSize (omega (arith, slot-in count i c h)))
+          (each-part l (i * slotSize) slotSize b)
+          (logValid-at pages count l i v h));
+      bytes = each-drop (count * slotSize) l b;
+      slots = rw (length-decodeAll decodeRecord slotSize count l, length-drop (count * slotSize) l) (omega arith);
+    }
+
+-- ---- an area
+
+frames-part-ok : (pages : ℕ) (l : List ℕ) (a : ℕ) → a + pages * frameSize ≤ length l → Bytes l
+    → framesValid pages (part l a (pages * frameSize)) ≡ true → FramesOk pages (decodeFrames pages (part l a (pages * frameSize)))
+frames-part-ok pages l a h b =
+    frames-ok pages (part l a (pages * frameSize)) (length-part l a (pages * frameSize) h) (each-part l a (pages * frameSize) b)
+
+log-part-ok : (pages count : ℕ) (l : List ℕ) (a : ℕ) → a + slotsSize ≤ length l → Bytes l
+    → logValid pages count (part l a slotsSize) ≡ true → LogOk pages (decodeLog count (part l a slotsSize))
+log-part-ok pages count l a h b = log-ok pages count (part l a slotsSize) (length-part l a slotsSize h) (each-part l a slotsSize b)
+
+pub area-ok : (pages : ℕ) (l : List ℕ) → length l ≡ areaSize pages → Bytes l → areaValid pages l ≡ true → AreaOk pages (decodeArea pages l)
+unfolding decodeArea
+area-ok pages l e b v =
+    record {
+      number = number-below l areaNumberAt numberSize lastNumber (omega arith) b number-width;
+      frames = frames-part-ok pages l areaFramesAt (omega arith) b (areaValid-frames pages l v);
+      log = log-part-ok pages (byteAt l areaCountAt) l (areaSlotsAt pages) (omega arith) b (areaValid-log pages l v);
+    }
+
+area-part-ok : (pages : ℕ) (l : List ℕ) (a : ℕ) → a + areaSize pages ≤ length l → Bytes l
+    → areaValid pages (part l a (areaSize pages)) ≡ true → AreaOk pages (decodeArea pages (part l a (areaSize pages)))
+area-part-ok pages l a h b = area-ok pages (part l a (areaSize pages)) (length-part l a (areaSize pages) h) (each-part l a (areaSize pages) b)
+
+-- ---- a block
+
+-- either area may be the selected one
+selected-ok : (pages : ℕ) (second : Bool) (x y : Area) → AreaOk pages x → AreaOk pages y → AreaOk pages (decodeStable second x y .selected)
+unfolding decodeStable
+selected-ok pages false x y p q = p
+selected-ok pages true x y p q = q
+
+spare-ok : (pages : ℕ) (second : Bool) (x y : Area) → AreaOk pages x → AreaOk pages y → AreaOk pages (decodeStable second x y .spare)
+unfolding decodeStable
+spare-ok pages false x y p q = q
+spare-ok pages true x y p q = p
+
+pub fields-ok : (pages : ℕ) (l : List ℕ) → length l ≡ blockSize pages → Bytes l → blockReadable pages l ≡ true → FieldsOk pages (decodeBoard pages l)
+unfolding decodeBoard
+fields-ok pages l e b v =
+    let r : Readable pages l = block-readable pages l v in
+    let second : Bool = eqb (byteAt l selectorAt) (selectorByte true) in
+    let x : Area = decodeArea pages (part l (areaAt pages 0) (areaSize pages)) in
+    let y : Area = decodeArea pages (part l (areaAt pages 1) (areaSize pages)) in
+    let p : AreaOk pages x = area-part-ok pages l (areaAt pages 0) (omega arith) b (r .area0) in
+    let q : AreaOk pages y = area-part-ok pages l (areaAt pages 1) (omega arith) b (r .area1) in
+    record {
+      fuse = number-below l fuseAt fuseSize noFuse (omega arith) b fuse-width;
+      number = number-below l numberAt numberSize lastNumber (omega arith) b number-width;
+      since = number-below l sinceAt sinceSize lastSince (omega arith) b since-width;
+      frames = frames-part-ok pages l framesAt (omega arith) b (r .frames);
+      log = log-part-ok pages (byteAt l volatileCountAt) l (slotsAt pages) (omega arith) b (r .log);
+      selected = selected-ok pages second x y p q;
+      spare = spare-ok pages second x y p q;
+    }

@@ -1,0 +1,181 @@
+-- "Codes 1 to 7 change no byte, except that an access ending a replay keeps what the end did": of every call on any bytes, with the stores that
+-- are answered beside. Assumes nothing.
+use mathlib.Core.Path.{_≡_, refl, sym, ap, _∙_}
+use mathlib.Core.Logic.{_≢_, _⊎_, inl, inr}
+use Prim.Native.Nat.{ℕ, zero, suc, _+_, _≤_}
+use native.Mathlib.Omega.{arith}
+use mathlib.Core.Bool.{_&&_}
+use mathlib.Core.Option.{none}
+use mathlib.Core.List.{List}
+use lib.ListN.{length}
+use lib.Dec.{eqb, ltb, leb}
+use Rattle.types.specs.declared.State.the-variants.{Replaying}
+use Rattle.model.specs.Definitions.Layout.{mostBoards, mostPages, bankSize}
+use Rattle.model.specs.Definitions.Bank.{Board, Bank, boardAt, entryAt, onBoard, onWorking}
+use Rattle.model.specs.Definitions.Codec.{encode, decode}
+use Rattle.model.specs.Definitions.WellFormed.{wellFormed}
+use Rattle.model.specs.Definitions.Answers.{code}
+use Rattle.model.specs.Definitions.Steps.{Run, start, step, store, storedFrame, storedHead, storedSelector, restedWorking, storeFrames, checkpoint, Access, Read, Write}
+use Rattle.model.specs.Definitions.Replay.{tookDue, settled, endReplay}
+use Rattle.model.specs.Definitions.Calls.{Result, finished, refused, Call, Reading, Writing, Checkpointing, Cutting, Fusing, Restarting, callBank, Reply, replyOf, call, make}
+use Rattle.model.specs.Laws.Logic.{cases, casesOption}
+use Rattle.model.specs.Laws.CodecBankBack.{encode-decode}
+use Rattle.model.specs.Laws.Runs.{lost-not, step-cases, step-none, store-cases, follows-none, follows-storeFrames}
+use Rattle.model.specs.Laws.Table.{OfAccess, boardOf, afterReplay}
+use Rattle.model.specs.Laws.Codes.{answerTo}
+use Rattle.model.specs.Laws.Codes.Ends.{Ends, refusedFirst, refusedLate, ran, ReplayEnd, LateIn, call-ended}
+
+-- the bytes at entry, and no store made
+pub record Kept (s : List ℕ) (y : Reply) : Type 0 where
+  pub bytes : y .bytes ≡ s
+  pub stores : y .outcome .stores ≡ 0
+
+-- what the end of board b's replay left, and its stores
+pub record KeptEnd (b : ℕ) (a : Access) (k : Bank) (y : Reply) : Type 0 where
+  pub bytes : y .bytes ≡ encode (afterReplay b a k .bank)
+  pub stores : y .outcome .stores ≡ afterReplay b a k .stores
+  pub lost : afterReplay b a k .lost ≡ none
+
+-- ==== on a bank
+
+-- a call that ran answers 0 or 8
+ran-code : {X : Type 0} (v : ℕ) (r : Run) → 1 ≤ code (finished v r .answer) → code (finished v r .answer) ≤ 7 → X
+unfolding finished code
+ran-code {X} v r =
+    casesOption (λ (t : Result). 1 ≤ code (t .answer) → code (t .answer) ≤ 7 → X) (r .lost)
+    (λ n h i. absurd (omega arith))
+    (λ b e h i. absurd (omega arith))
+
+-- refused before a replay could end, or not by a replaying board: the call ends as it began
+kept-run : (b : ℕ) (k : Bank) (Late : Run → Type 0) (t : Result) → ((r : Run) → Late r → boardAt k b .state ≡ Replaying) → Ends b k Late t
+    → 1 ≤ code (t .answer) → code (t .answer) ≤ 7 → (code (t .answer) ≤ 5) ⊎ (boardAt k b .state ≢ Replaying) → t .run ≡ start k
+kept-run b k Late t f (refusedFirst x h i n) p q u = refl
+kept-run b k Late t f (refusedLate x r h i l) p q (inl m) = absurd (omega arith)
+kept-run b k Late t f (refusedLate x r h i l) p q (inr m) = absurd (m (f r l))
+kept-run b k Late t f (ran v r) p q u = ran-code v r p q
+
+-- refused live though the board was replaying: its replay has ended
+late-run : (b : ℕ) (k : Bank) (Late : Run → Type 0) (t : Result) → Ends b k Late t
+    → 6 ≤ code (t .answer) → code (t .answer) ≤ 7 → boardAt k b .state ≡ Replaying → Late (t .run)
+late-run b k Late t (refusedFirst x h i n) p q e = absurd (n p e)
+late-run b k Late t (refusedLate x r h i l) p q e = l
+late-run b k Late t (ran v r) p q e = ran-code v r (omega arith) q
+
+late-replaying : (c : Call) (k : Bank) (r : Run) → LateIn c k r → boardAt k (boardOf c) .state ≡ Replaying
+unfolding OfAccess boardOf
+late-replaying (Reading b p o) k r l = l .state
+late-replaying (Writing b p o v) k r l = l .state
+late-replaying (Checkpointing b) k r l = absurd l
+late-replaying (Cutting b) k r l = absurd l
+late-replaying (Fusing b n) k r l = absurd l
+late-replaying (Restarting b) k r l = absurd l
+
+-- ==== on bytes
+
+of-access : {P Q : ℕ → Access → Type 0} (c : Call) → ((b : ℕ) (a : Access) → P b a → Q b a) → OfAccess P c → OfAccess Q c
+unfolding OfAccess
+of-access (Reading b p o) f l = f b (Read p o) l
+of-access (Writing b p o v) f l = f b (Write p o v) l
+of-access (Checkpointing b) f l = l
+of-access (Cutting b) f l = l
+of-access (Fusing b n) f l = l
+of-access (Restarting b) f l = l
+
+end-left : (b : ℕ) (a : Access) (k : Bank) (t : Result) → ReplayEnd b a k (t .run) → KeptEnd b a k (replyOf t)
+unfolding replyOf
+end-left b a k t l =
+    record {
+      bytes = ap (λ (r : Run). encode (r .bank)) (l .run);
+      stores = ap (λ (r : Run). r .stores) (l .run);
+      lost = ap (λ (r : Run). r .lost) (sym (l .run)) ∙ l .lost;
+    }
+
+-- refused live after the end of its replay, which stays
+pub refusal-after-replay : (c : Call) (s : List ℕ) → 6 ≤ code (answerTo c s) → code (answerTo c s) ≤ 7
+    → boardAt (decode s) (boardOf c) .state ≡ Replaying → OfAccess (λ b a. KeptEnd b a (decode s) (call c s)) c
+unfolding call refused replyOf code
+refusal-after-replay c s =
+    let k : Bank = decode s in
+    cases
+    (λ (y : Reply).
+    6 ≤ code (y .outcome .answer) → code (y .outcome .answer) ≤ 7
+    → boardAt k (boardOf c) .state ≡ Replaying → OfAccess (λ b a. KeptEnd b a k y) c)
+    (wellFormed s)
+    (λ w p q e. of-access c (λ b a l. end-left b a k (callBank c k) l) (late-run (boardOf c) k (LateIn c k) (callBank c k) (call-ended c k) p q e))
+    (λ w p q e. absurd (omega arith))
+
+-- any other refusal
+pub refusal-keeps : (c : Call) (s : List ℕ) → 1 ≤ code (answerTo c s) → code (answerTo c s) ≤ 7
+    → (code (answerTo c s) ≤ 5) ⊎ (boardAt (decode s) (boardOf c) .state ≢ Replaying) → Kept s (call c s)
+unfolding call refused replyOf start
+refusal-keeps c s =
+    let k : Bank = decode s in
+    cases
+    (λ (y : Reply).
+    1 ≤ code (y .outcome .answer) → code (y .outcome .answer) ≤ 7
+    → (code (y .outcome .answer) ≤ 5) ⊎ (boardAt k (boardOf c) .state ≢ Replaying) → Kept s y)
+    (wellFormed s)
+    (λ w p q u.
+    let e : callBank c k .run ≡ start k = kept-run (boardOf c) k (LateIn c k) (callBank c k) (late-replaying c k) (call-ended c k) p q u in
+    record {
+      bytes = ap (λ (r : Run). encode (r .bank)) e ∙ encode-decode s w;
+      stores = ap (λ (r : Run). r .stores) e;
+    })
+    (λ w p q u. record { bytes = refl; stores = refl })
+
+-- a refused make leaves the buffer untouched
+pub make-refusal-keeps : (boards pages : ℕ) (s : List ℕ) → code (make boards pages s .outcome .answer) ≢ 0 → Kept s (make boards pages s)
+unfolding make refused code
+make-refusal-keeps boards pages s =
+    let P : Reply → Type 0 = λ (y : Reply). code (y .outcome .answer) ≢ 0 → Kept s y in
+    cases P (ltb 0 boards && (leb boards mostBoards && (ltb 0 pages && leb pages mostPages)))
+    (λ t.
+    cases P (eqb (length s) (bankSize boards pages))
+    (λ e n. absurd (n refl))
+    (λ e n. record { bytes = refl; stores = refl }))
+    (λ t n. record { bytes = refl; stores = refl })
+
+-- ==== how many stores the end of a replay makes: "(P + 2 stores)"
+
+store-count : (b : ℕ) (f : Board → Board) (r : Run) → store b f r .lost ≡ none → store b f r .stores ≡ r .stores + 1
+store-count b f r n =
+    store-cases (λ (q : Run). q .lost ≡ none → q .stores ≡ r .stores + 1) b f r
+    (λ c e m. lost-not m e)
+    (λ e z m. lost-not m refl)
+    (λ e z m. refl)
+    n
+
+step-count : (f : Bank → Bank) (r : Run) → step f r .stores ≡ r .stores
+step-count f r = step-cases (λ (q : Run). q .stores ≡ r .stores) f r (λ c e. refl) (λ n. refl)
+
+store-none : (b : ℕ) (f : Board → Board) (r : Run) → store b f r .lost ≡ none → r .lost ≡ none
+store-none b f r = store-cases (λ (q : Run). q .lost ≡ none → r .lost ≡ none) b f r (λ c e m. m) (λ e z m. e) (λ e z m. e)
+
+storeFrames-none : (p n b : ℕ) (r : Run) → storeFrames p n b r .lost ≡ none → r .lost ≡ none
+storeFrames-none p n b r e = follows-none (follows-storeFrames {By = λ c. c ≡ b} p n b r refl) e
+
+storeFrames-count : (p n b : ℕ) (r : Run) → storeFrames p n b r .lost ≡ none → storeFrames p n b r .stores ≡ r .stores + n
+unfolding storeFrames
+storeFrames-count p zero b r e = omega arith
+storeFrames-count p (suc n) b r e =
+    let q : Run = store b (storedFrame p) r in
+    omega (arith, storeFrames-count (suc p) n b q e, store-count b (storedFrame p) r (storeFrames-none (suc p) n b q e))
+
+checkpoint-count : (b : ℕ) (r : Run) → checkpoint b r .lost ≡ none → checkpoint b r .stores ≡ r .stores + (length (r .bank .directory) + 2)
+unfolding checkpoint
+checkpoint-count b r e =
+    let n : ℕ = length (r .bank .directory) in
+    let r₁ : Run = storeFrames 0 n b r in
+    let r₂ : Run = store b storedHead r₁ in
+    let r₃ : Run = store b storedSelector r₂ in
+    let e₃ : r₃ .lost ≡ none = step-none (onBoard b (onWorking restedWorking)) r₃ e in
+    let e₂ : r₂ .lost ≡ none = store-none b storedSelector r₂ e₃ in
+    let e₁ : r₁ .lost ≡ none = store-none b storedHead r₁ e₂ in
+    let n₁ : r₁ .stores ≡ r .stores + n = storeFrames-count 0 n b r e₁ in
+    omega (arith, step-count (onBoard b (onWorking restedWorking)) r₃, store-count b storedSelector r₂ e₃, store-count b storedHead r₁ e₂)
+
+pub end-stores : (b : ℕ) (a : Access) (k : Bank) → afterReplay b a k .lost ≡ none → afterReplay b a k .stores ≡ length (k .directory) + 2
+unfolding afterReplay endReplay step start onBoard
+end-stores b a k e =
+    let settle : Bank → Bank = λ j. onBoard b (settled (λ p. eqb (entryAt j p .owner) b)) j in
+    omega (arith, checkpoint-count b (step settle (start (onBoard b (tookDue a) k))) e)

@@ -1,0 +1,4 @@
+pub mod Definitions
+pub mod Laws
+pub mod Cases
+pub mod History
