@@ -1,0 +1,115 @@
+// Where things stand in a block, an area and a bank, as numbers of the code, each once; what depends on the number of pages is a function.
+use fields::widths::FRAME_SIZE;
+use fields::widths::FUSE_SIZE;
+use fields::widths::NUMBER_SIZE;
+use fields::widths::SINCE_SIZE;
+use fields::widths::SLOTS_SIZE;
+ghost use mathlib.Core.Path.{_≡_};
+ghost use Prim.Native.Nat.{_+_, _*_, _≤_};
+ghost use Rattle.model.specs.Definitions.Layout.{mostBoards, mostPages, areaSlotsAt, areaSize, slotsAt, areaAt, blockSize, blocksAt, bankSize};
+
+// The head: two letters, the numbers of boards and of pages; and their limits.
+pub const BOARDS_AT: usize = 2;
+
+pub const PAGES_AT: usize = BOARDS_AT + 1;
+
+pub const HEAD_SIZE: usize = PAGES_AT + 1;
+
+pub const MOST_BOARDS: usize = 8;
+
+pub const MOST_PAGES: usize = 16;
+
+// A directory entry: owner, copy-set.
+pub const OWNER_AT: usize = 0;
+
+pub const COPIES_AT: usize = 1;
+
+pub const ENTRY_SIZE: usize = 2;
+
+// An area: number, stored count, frames, slots.
+pub const AREA_NUMBER_AT: usize = 0;
+
+pub const AREA_COUNT_AT: usize = AREA_NUMBER_AT + NUMBER_SIZE;
+
+pub const AREA_FRAMES_AT: usize = AREA_COUNT_AT + 1;
+
+// A block: state, selector, fuse, number, since, place, volatile count, frames, volatile slots, two areas.
+pub const STATE_AT: usize = 0;
+
+pub const SELECTOR_AT: usize = STATE_AT + 1;
+
+pub const FUSE_AT: usize = SELECTOR_AT + 1;
+
+// "65,535 none"
+pub const NO_FUSE: u16 = 65535;
+
+pub const NUMBER_AT: usize = FUSE_AT + FUSE_SIZE;
+
+pub const SINCE_AT: usize = NUMBER_AT + NUMBER_SIZE;
+
+pub const PLACE_AT: usize = SINCE_AT + SINCE_SIZE;
+
+pub const VOLATILE_COUNT_AT: usize = PLACE_AT + 1;
+
+pub const FRAMES_AT: usize = VOLATILE_COUNT_AT + 1;
+
+// Where an area's slots stand in it.
+pub fn area_slots_at(pages: usize) -> usize
+    requires { ⌜ pages ≤ mostPages ⌝ }
+    ensures { λ r. ⌜ r ≡ areaSlotsAt pages ⌝ }
+{
+    AREA_FRAMES_AT + pages * FRAME_SIZE
+}
+
+pub fn area_size(pages: usize) -> usize
+    requires { ⌜ pages ≤ mostPages ⌝ }
+    ensures { λ r. ⌜ r ≡ areaSize pages ⌝ }
+{
+    area_slots_at(pages) + SLOTS_SIZE
+}
+
+// Where a block's volatile slots stand in it.
+pub fn slots_at(pages: usize) -> usize
+    requires { ⌜ pages ≤ mostPages ⌝ }
+    ensures { λ r. ⌜ r ≡ slotsAt pages ⌝ }
+{
+    FRAMES_AT + pages * FRAME_SIZE
+}
+
+// Where area 0 or 1 stands in a block; 2 gives the block's end.
+pub fn area_at(pages: usize, area: usize) -> usize
+    requires { ⌜ (pages ≤ mostPages) × (area ≤ 2) ⌝ }
+    ensures { λ r. ⌜ r ≡ areaAt pages area ⌝ }
+{
+    slots_at(pages) + SLOTS_SIZE + area * area_size(pages)
+}
+
+pub fn block_size(pages: usize) -> usize
+    requires { ⌜ pages ≤ mostPages ⌝ }
+    ensures { λ r. ⌜ r ≡ blockSize pages ⌝ }
+{
+    area_at(pages, 2)
+}
+
+// Where the blocks begin in a bank.
+pub fn blocks_at(pages: usize) -> usize
+    requires { ⌜ pages ≤ mostPages ⌝ }
+    ensures { λ r. ⌜ r ≡ blocksAt pages ⌝ }
+{
+    HEAD_SIZE + pages * ENTRY_SIZE
+}
+
+// Where a board's block stands in a bank; the number of boards gives the bank's end.
+pub fn block_at(pages: usize, board: usize) -> usize
+    requires { ⌜ (pages ≤ mostPages) × (board ≤ mostBoards) ⌝ }
+    ensures { λ r. ⌜ r ≡ blocksAt pages + board * blockSize pages ⌝ }
+{
+    blocks_at(pages) + board * block_size(pages)
+}
+
+pub fn bank_size(boards: usize, pages: usize) -> usize
+    requires { ⌜ (pages ≤ mostPages) × (boards ≤ mostBoards) ⌝ }
+    ensures { λ r. ⌜ r ≡ bankSize boards pages ⌝ }
+{
+    block_at(pages, boards)
+}

@@ -1,0 +1,125 @@
+-- `validity::bank::head_valid` meets its contract: each return follows the tests in turn. Assumes nothing.
+use borrow.Author.Needs.{needs}
+use borrow.Author.Tests.{ne-eqb}
+use Rattle.model.specs.Definitions.Parts.{byteAt}
+use Rattle.validity.specs.Search.{failed, passed}
+use Rattle.validity.specs.BankChecks.{inRange, in-range-says, head-test, no-head}
+use mathlib.Core.Path.{_≡_}
+use mathlib.Core.Bool.{_&&_}
+use Prim.Native.Nat.{ℕ}
+use mathlib.Core.List.{List}
+use lib.ListN.{length}
+use lib.Dec.{eqb}
+use Rattle.model.specs.Definitions.Layout.{mostPages, pagesAt, bankSize}
+use Rattle.model.specs.Definitions.WellFormed.{headValid}
+use Rattle.validity.proofs.bank.head_valid.Statement.{statement}
+use Rattle.validity.proofs.bank.head_valid.Tie as tie
+
+-- what is left to test once the number of boards is known
+abbrev bytes : tie.Else4 → List ℕ
+bytes c = c .before .before .before .before .before .before .before .before .before .before .args .bank .now
+
+boards-known : (c : tie.Else4)
+    → headValid (bytes c)
+    ≡ (inRange (byteAt (bytes c) pagesAt) mostPages && eqb (length (bytes c)) (bankSize (c .before .before .wide .result) (byteAt (bytes c) pagesAt)))
+unfolding byteAt
+boards-known c =
+    let read = c .before .before in
+    let second = read .before .before in
+    rw (
+      head-test,
+      second .before .before .if2 .left,
+      second .if3 .left,
+      ← read .wide .ensures .0,
+      passed (c .before .in-range .ensures) (c .if4 .left),
+    )
+
+returns : tie.Need-returns
+returns c = no-head (c .before .before .args .bank .now) (c .if1 .taken)
+
+shared-slice-read-if2 : tie.Need-shared-slice-read-if2
+shared-slice-read-if2 c = search needs
+
+returns-2 : tie.Need-returns-2
+unfolding byteAt
+returns-2 c = rw (head-test, ne-eqb _ _ (c .if2 .taken))
+
+shared-slice-read-if3 : tie.Need-shared-slice-read-if3
+shared-slice-read-if3 c = search needs
+
+returns-3 : tie.Need-returns-3
+unfolding byteAt
+returns-3 c = rw (head-test, c .before .before .if2 .left, ne-eqb _ _ (c .if3 .taken))
+
+shared-slice-read-wide : tie.Need-shared-slice-read-wide
+shared-slice-read-wide c = search needs
+
+wide-requires : tie.Need-wide-requires
+wide-requires c κs = search needs
+
+in-range-requires : tie.Need-in-range-requires
+in-range-requires c κs = search needs
+
+returns-4 : tie.Need-returns-4
+unfolding byteAt
+returns-4 c =
+    let read = c .before .before in
+    let second = read .before .before in
+    rw (
+      head-test,
+      second .before .before .if2 .left,
+      second .if3 .left,
+      ← read .wide .ensures .0,
+      failed (c .before .in-range .ensures) (c .if4 .taken),
+    )
+
+shared-slice-read-wide-2 : tie.Need-shared-slice-read-wide-2
+shared-slice-read-wide-2 c = search needs
+
+wide-requires-2 : tie.Need-wide-requires-2
+wide-requires-2 c κs = search needs
+
+in-range-requires-2 : tie.Need-in-range-requires-2
+in-range-requires-2 c κs = search needs
+
+returns-5 : tie.Need-returns-5
+unfolding byteAt
+returns-5 c = rw (boards-known (c .before .before .before .before), ← c .before .before .wide2 .ensures .0, failed (c .before .in-range2 .ensures) (c .if5 .taken))
+
+bank-size-requires : tie.Need-bank-size-requires
+bank-size-requires c κs =
+    let boards = c .before .before .before .before in (
+      in-range-says _ _ (passed (c .before .in-range2 .ensures) (c .if5 .left)),
+      in-range-says _ _ (passed (boards .before .in-range .ensures) (boards .if4 .left)),
+    )
+
+returns-6 : tie.Need-returns-6
+unfolding byteAt
+returns-6 c =
+    let pages = c .before in
+    rw (
+      boards-known (pages .before .before .before .before),
+      ← pages .before .before .wide2 .ensures .0,
+      passed (pages .before .in-range2 .ensures) (pages .if5 .left),
+      c .bank-size .ensures,
+    )
+
+pub head-valid-spec : {M : Type 1} → statement M
+head-valid-spec =
+    tie.close
+    (tie.spec
+    returns
+    shared-slice-read-if2
+    returns-2
+    shared-slice-read-if3
+    returns-3
+    shared-slice-read-wide
+    wide-requires
+    in-range-requires
+    returns-4
+    shared-slice-read-wide-2
+    wide-requires-2
+    in-range-requires-2
+    returns-5
+    bank-size-requires
+    returns-6)

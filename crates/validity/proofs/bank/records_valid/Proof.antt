@@ -1,0 +1,168 @@
+-- `validity::bank::records_valid` meets its contract. The invariants: every record of the boards before `board` is valid, and of this board
+-- every record before `index`. The search is left at the first that is not, or at its end. Assumes nothing.
+use mathlib.Core.Path.{_≡_, sym, _∙_}
+use mathlib.Core.Logic.{⊎-elim}
+use Prim.Native.Nat.{ℕ, _+_, _-_, _*_, _≤_, _<_}
+use native.Mathlib.Omega.{arith}
+use mathlib.Core.Bool.{true, false}
+use mathlib.Core.List.{List}
+use lib.ListN.{length, take, drop, length-take, length-drop}
+use borrow.Author.Tests.{eq-eqb, ne-eqb}
+use Rattle.model.specs.Definitions.Layout.{slotSize, blockSize, blocksAt}
+use Rattle.model.specs.Definitions.Parts.{part, everyBelow}
+use Rattle.model.specs.Definitions.WellFormed.{slotValid}
+use Rattle.model.specs.Laws.Lists.{everyBelow-at}
+use Rattle.model.specs.Laws.Parts.{index-in}
+use Rattle.validity.specs.Search.{failed, passed, below-none, below-next, below-stop, below-end}
+use Rattle.validity.specs.BlockChecks.{countsValid, recordCount, recordAt, recordsValid}
+use Rattle.validity.specs.BankChecks.{blockOfPages}
+use Rattle.validity.proofs.bank.records_valid.Statement.{statement}
+use Rattle.validity.proofs.bank.records_valid.Tie as tie
+
+-- the block that is looked through
+lent : (s : List ℕ) (pages board a size : ℕ) → a ≡ blocksAt pages + board * blockSize pages → size ≡ blockSize pages
+    → take (a + size - a) (drop a s) ≡ blockOfPages pages s board
+unfolding blockOfPages part
+lent s pages board a size p q = let e : a + size - a ≡ size = omega arith in rw (e, p, q)
+
+-- a block whose records were all passed, and one with a record that failed
+module _ (pages : ℕ) (l : List ℕ) {records : ℕ} (e : records ≡ recordCount pages l) (index : ℕ) where
+  ended : index ≤ records → records ≤ index → everyBelow index (λ j. slotValid pages (part l (recordAt pages l j) slotSize)) ≡ true
+      → recordsValid pages l ≡ true
+  unfolding recordsValid
+  ended h k p = rw (← e) (sym (below-end _ records index h k p))
+
+  stopped : index < records → slotValid pages (part l (recordAt pages l index) slotSize) ≡ false → recordsValid pages l ≡ false
+  unfolding recordsValid
+  stopped h p = rw (← e) (sym (below-stop _ records index h p))
+
+abbrev Inv-loop : tie.InvT-loop
+Inv-loop bank boards pages size board a block records index₀ index =
+    (index ≤ records) × (everyBelow index (λ j. slotValid pages (part block (recordAt pages block j) slotSize)) ≡ true)
+
+abbrev μ-loop : tie.MeasureT-loop
+μ-loop bank boards pages size board a block records index₀ index = records - index
+
+abbrev Inv-search : tie.InvT-search
+Inv-search bank boards pages size board₀ board =
+    (board ≤ boards) × (everyBelow board (λ b. recordsValid pages (blockOfPages pages bank b)) ≡ true)
+
+abbrev μ-search : tie.MeasureT-search
+μ-search bank boards pages size board₀ board = boards - board
+
+block-size-requires : tie.Need-block-size-requires Inv-loop μ-loop Inv-search μ-search
+block-size-requires c κs = omega arith
+
+search-holds : tie.Need-search-holds Inv-loop μ-loop Inv-search μ-search
+search-holds c = (omega arith, below-none _)
+
+block-at-requires : tie.Need-block-at-requires Inv-loop μ-loop Inv-search μ-search
+block-at-requires c κs = omega arith
+
+-- the bytes of the bank, and the board that the search has come to
+abbrev bytes : tie.After-block-at Inv-loop μ-loop Inv-search μ-search → List ℕ
+bytes c = c .before .before .before .before .before .args .bank .now
+
+abbrev pagesOf : tie.After-block-at Inv-loop μ-loop Inv-search μ-search → ℕ
+pagesOf c = c .before .before .before .before .before .args .pages
+
+abbrev boardOf : tie.After-block-at Inv-loop μ-loop Inv-search μ-search → ℕ
+boardOf c = c .before .before .search .board
+
+-- its block, that it lies inside the bank, and its counts
+module _ (c : tie.After-block-at Inv-loop μ-loop Inv-search μ-search) where
+  found : take (c .block-at .result + c .before .before .before .block-size .result - c .block-at .result) (drop (c .block-at .result) (bytes c))
+      ≡ blockOfPages (pagesOf c) (bytes c) (boardOf c)
+  found = lent (bytes c) (pagesOf c) (boardOf c) _ _ (c .block-at .ensures) (c .before .before .before .block-size .ensures)
+
+  inside : c .block-at .result + c .before .before .before .block-size .result ≤ length (bytes c)
+  inside = omega (arith, index-in (blockSize (pagesOf c)) (c .before .before .before .before .before .args .boards) (boardOf c) (c .before .search-test .taken))
+
+  counted : countsValid (pagesOf c) (blockOfPages (pagesOf c) (bytes c) (boardOf c)) ≡ true
+  counted = everyBelow-at _ (boardOf c) _ (c .before .before .before .before .before .pre .3) (c .before .search-test .taken)
+
+add-block : tie.Need-add-block Inv-loop μ-loop Inv-search μ-search
+add-block c = omega (arith, inside c)
+
+sub-block : tie.Need-sub-block Inv-loop μ-loop Inv-search μ-search
+sub-block c = omega arith
+
+part-block-start : tie.Need-part-block-start Inv-loop μ-loop Inv-search μ-search
+part-block-start c = omega arith
+
+part-block-end : tie.Need-part-block-end Inv-loop μ-loop Inv-search μ-search
+part-block-end c = omega (arith, inside c)
+
+record-count-requires : tie.Need-record-count-requires Inv-loop μ-loop Inv-search μ-search
+record-count-requires c κs = (simp (length-take, length-drop) (omega (arith, inside (c .before))), omega arith)
+
+loop-holds : tie.Need-loop-holds Inv-loop μ-loop Inv-search μ-search
+loop-holds c = (omega arith, below-none _)
+
+record-valid-requires : tie.Need-record-valid-requires Inv-loop μ-loop Inv-search μ-search
+record-valid-requires c κs = (
+  simp (length-take, length-drop) (omega (arith, inside (c .before .before .before .before))),
+  omega arith,
+  rw (found (c .before .before .before .before)) (counted (c .before .before .before .before)),
+  rw (← c .before .before .record-count .ensures) (c .loop-test .taken),
+)
+
+add-index : tie.Need-add-index Inv-loop μ-loop Inv-search μ-search
+add-index c = omega arith
+
+loop-less : tie.Need-loop-less Inv-loop μ-loop Inv-search μ-search
+loop-less c = omega arith
+
+loop-again : tie.Need-loop-again Inv-loop μ-loop Inv-search μ-search
+loop-again c = (omega arith, below-next _ _ (c .before .before .before .loop .inv .1) (passed (c .before .record-valid .ensures) (c .if1 .left)))
+
+add-board : tie.Need-add-board Inv-loop μ-loop Inv-search μ-search
+add-board c = omega arith
+
+search-less : tie.Need-search-less Inv-loop μ-loop Inv-search μ-search
+search-less c = omega arith
+
+search-again : tie.Need-search-again Inv-loop μ-loop Inv-search μ-search
+search-again c = (
+  omega arith,
+  below-next _ _ (c .before .before .before .before .before .before .search .inv .1)
+      (rw (← found (c .before .before .before .before))
+      (ended _ _ (c .before .before .record-count .ensures) (c .before .loop .index) (omega arith) (omega arith) (c .before .loop .inv .1))),
+)
+
+returns : tie.Need-returns Inv-loop μ-loop Inv-search μ-search
+returns c =
+    ⊎-elim
+    (λ w. eq-eqb (c .before .search .board) (c .before .before .before .before .args .boards) (omega (arith, w .left)) ∙ below-end _ _ (c .before .search .board) (c .before .search .inv .0) (w .left) (c .before .search .inv .1))
+    (λ w.
+    ne-eqb (c .before .search .board) (c .before .before .before .before .args .boards) (λ e. omega (arith, w .0 .taken))
+    ∙ below-stop _ _ (c .before .search .board) (w .0 .taken)
+    (rw (← found (record { before = record { before = c .before; search-test = w .0 }; block-at = w .1 }))
+    (stopped _ _ (w .3 .ensures) (w .4 .index) (w .5 .taken) (failed (w .6 .ensures) (w .7 .taken)))))
+    (c .search-test .came)
+
+pub records-valid-spec : {M : Type 1} → statement M
+records-valid-spec =
+    tie.close
+    (tie.spec
+    Inv-loop
+    μ-loop
+    Inv-search
+    μ-search
+    block-size-requires
+    search-holds
+    block-at-requires
+    add-block
+    sub-block
+    part-block-start
+    part-block-end
+    record-count-requires
+    loop-holds
+    record-valid-requires
+    add-index
+    loop-less
+    loop-again
+    add-board
+    search-less
+    search-again
+    returns)

@@ -1,0 +1,110 @@
+-- `validity::block::blank` meets its contract: each return follows the tests in turn. Assumes nothing.
+use borrow.Author.Needs.{needs}
+use native.Mathlib.Omega.{arith}
+use borrow.Author.Tests.{ne-eqb}
+use Rattle.validity.specs.Search.{failed, passed}
+use Rattle.validity.specs.BoardChecks.{blank-test}
+use mathlib.Core.Path.{_≡_}
+use Prim.Native.Nat.{_*_}
+use mathlib.Core.Bool.{_&&_}
+use lib.Dec.{eqb}
+use Rattle.words.specs.LittleEndian.{numberOf}
+use Rattle.model.specs.Definitions.Layout.{noFuse, frameSize, fuseSize, volatileCountAt, framesAt, fuseAt}
+use Rattle.model.specs.Definitions.Parts.{part, byteAt}
+use Rattle.model.specs.Definitions.Codec.{decodeBoard}
+use Rattle.model.specs.Definitions.WellFormed.{isZero, isBlank}
+use Rattle.validity.proofs.block.blank.Statement.{statement}
+use Rattle.validity.proofs.block.blank.Tie as tie
+
+-- what is left to test once number and since are found zero
+counters-zero : (c : tie.Else2)
+    → isBlank (decodeBoard (c .before .before .before .before .before .args .pages) (c .before .before .before .before .before .args .block .now))
+    ≡ (eqb (byteAt (c .before .before .before .before .before .args .block .now) volatileCountAt) 0
+    && (isZero (part (c .before .before .before .before .before .args .block .now) framesAt (c .before .before .before .before .before .args .pages * frameSize))
+    && eqb (numberOf (part (c .before .before .before .before .before .args .block .now) fuseAt fuseSize)) noFuse))
+counters-zero c =
+    let number = c .before .before in
+    let start = number .before .before .before in
+    rw (
+      blank-test (start .args .pages) (start .args .block .now) (omega arith),
+      ← number .before .read-number .ensures,
+      number .if1 .left,
+      ← c .before .read-since .ensures,
+      c .if2 .left,
+    )
+
+read-number-requires : tie.Need-read-number-requires
+read-number-requires c κs = search needs
+
+returns : tie.Need-returns
+returns c =
+    let start = c .before .before .before in
+    rw (blank-test (start .args .pages) (start .args .block .now) (omega arith), ← c .before .read-number .ensures, ne-eqb _ _ (c .if1 .taken))
+
+read-since-requires : tie.Need-read-since-requires
+read-since-requires c κs = search needs
+
+returns-2 : tie.Need-returns-2
+returns-2 c =
+    let number = c .before .before in
+    let start = number .before .before .before in
+    rw (
+      blank-test (start .args .pages) (start .args .block .now) (omega arith),
+      ← number .before .read-number .ensures,
+      number .if1 .left,
+      ← c .before .read-since .ensures,
+      ne-eqb _ _ (c .if2 .taken),
+    )
+
+read-volatile-count-requires : tie.Need-read-volatile-count-requires
+read-volatile-count-requires c κs = search needs
+
+returns-3 : tie.Need-returns-3
+returns-3 c = rw (counters-zero (c .before .before), ← c .before .read-volatile-count .ensures, ne-eqb _ _ (c .if3 .taken))
+
+mul-zero-run : tie.Need-mul-zero-run
+mul-zero-run c = search needs
+
+zero-run-requires : tie.Need-zero-run-requires
+zero-run-requires c κs = search needs
+
+returns-4 : tie.Need-returns-4
+returns-4 c =
+    let few = c .before .before in
+    rw (
+      counters-zero (few .before .before),
+      ← few .before .read-volatile-count .ensures,
+      few .if3 .left,
+      failed (c .before .zero-run .ensures) (c .if4 .taken),
+    )
+
+read-fuse-requires : tie.Need-read-fuse-requires
+read-fuse-requires c κs = search needs
+
+returns-5 : tie.Need-returns-5
+returns-5 c =
+    let clear = c .before in
+    let few = clear .before .before in
+    rw (
+      counters-zero (few .before .before),
+      ← few .before .read-volatile-count .ensures,
+      few .if3 .left,
+      passed (clear .before .zero-run .ensures) (clear .if4 .left),
+      c .read-fuse .ensures,
+    )
+
+pub blank-spec : {M : Type 1} → statement M
+blank-spec =
+    tie.close
+    (tie.spec
+    read-number-requires
+    returns
+    read-since-requires
+    returns-2
+    read-volatile-count-requires
+    returns-3
+    mul-zero-run
+    zero-run-requires
+    returns-4
+    read-fuse-requires
+    returns-5)

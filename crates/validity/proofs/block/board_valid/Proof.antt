@@ -1,0 +1,69 @@
+-- `validity::block::board_valid` meets its contract: each return follows the tests in turn. Assumes nothing.
+use borrow.Author.Needs.{needs}
+use borrow.Author.Tests.{le-leb, lt-leb, ne-eqb}
+use Rattle.validity.specs.BoardChecks.{board-test}
+use Rattle.validity.proofs.block.board_valid.Statement.{statement}
+use Rattle.validity.proofs.block.board_valid.Tie as tie
+
+read-fuse-requires : tie.Need-read-fuse-requires
+read-fuse-requires c κs = search needs
+
+returns : tie.Need-returns
+returns c = rw (board-test, ← c .before .read-fuse .ensures, c .if1 .taken)
+
+selected-count-requires : tie.Need-selected-count-requires
+selected-count-requires c κs = search needs
+
+read-volatile-count-requires : tie.Need-read-volatile-count-requires
+read-volatile-count-requires c κs = search needs
+
+wide-requires : tie.Need-wide-requires
+wide-requires c κs = search needs
+
+add-if2 : tie.Need-add-if2
+add-if2 c = search needs
+
+returns-2 : tie.Need-returns-2
+returns-2 c =
+    let fused = c .before .before .before .before in
+    rw (
+      board-test,
+      ← fused .before .read-fuse .ensures,
+      ne-eqb _ _ (fused .if1 .left),
+      ← c .before .before .before .selected-count .ensures .0,
+      ← c .before .before .read-volatile-count .ensures,
+      ← c .before .wide .ensures .0,
+      lt-leb _ _ (c .if2 .taken),
+    )
+
+state-valid-requires : tie.Need-state-valid-requires
+state-valid-requires c κs = search needs
+
+returns-3 : tie.Need-returns-3
+returns-3 c =
+    let room = c .before in
+    let fused = room .before .before .before .before in
+    rw (
+      board-test,
+      ← fused .before .read-fuse .ensures,
+      ne-eqb _ _ (fused .if1 .left),
+      ← room .before .before .before .selected-count .ensures .0,
+      ← room .before .before .read-volatile-count .ensures,
+      ← room .before .wide .ensures .0,
+      le-leb _ _ (room .if2 .left),
+      c .state-valid .ensures,
+    )
+
+pub board-valid-spec : {M : Type 1} → statement M
+board-valid-spec =
+    tie.close
+    (tie.spec
+    read-fuse-requires
+    returns
+    selected-count-requires
+    read-volatile-count-requires
+    wide-requires
+    add-if2
+    returns-2
+    state-valid-requires
+    returns-3)

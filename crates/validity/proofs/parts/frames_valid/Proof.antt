@@ -1,0 +1,86 @@
+-- `validity::parts::frames_valid` meets its contract. The loop's invariant: those before `page` are valid. Assumes nothing.
+use mathlib.Core.Path.{_≡_}
+use Prim.Native.Nat.{_≤_, _-_, _*_}
+use native.Mathlib.Omega.{arith}
+use mathlib.Core.Bool.{true}
+use Rattle.model.specs.Definitions.Layout.{frameSize}
+use Rattle.model.specs.Definitions.Parts.{part, everyBelow}
+use Rattle.model.specs.Definitions.WellFormed.{frameValid, framesValid}
+use Rattle.validity.specs.Search.{failed, passed, below-none, below-next, below-stop, below-end}
+use lib.ListN.{length-take, length-drop}
+use Rattle.fields.proofs.Lent.{lent-read}
+use Rattle.validity.proofs.parts.frames_valid.Statement.{statement}
+use Rattle.validity.proofs.parts.frames_valid.Tie as tie
+
+abbrev Inv-loop : tie.InvT-loop
+Inv-loop frames pages page₀ page = (page ≤ pages) × (everyBelow page (λ p. frameValid (part frames (p * frameSize) frameSize)) ≡ true)
+
+abbrev μ-loop : tie.MeasureT-loop
+μ-loop frames pages page₀ page = pages - page
+
+loop-holds : tie.Need-loop-holds Inv-loop μ-loop
+loop-holds c = (omega arith, below-none _)
+
+mul-a : tie.Need-mul-a Inv-loop μ-loop
+mul-a c = omega arith
+
+add-frame-valid : tie.Need-add-frame-valid Inv-loop μ-loop
+add-frame-valid c = omega arith
+
+sub-frame-valid : tie.Need-sub-frame-valid Inv-loop μ-loop
+sub-frame-valid c = omega arith
+
+part-frame-valid-start : tie.Need-part-frame-valid-start Inv-loop μ-loop
+part-frame-valid-start c = omega arith
+
+part-frame-valid-end : tie.Need-part-frame-valid-end Inv-loop μ-loop
+part-frame-valid-end c = omega arith
+
+frame-valid-requires : tie.Need-frame-valid-requires Inv-loop μ-loop
+frame-valid-requires c κs = simp (length-take, length-drop) (omega arith)
+
+returns : tie.Need-returns Inv-loop μ-loop
+unfolding framesValid
+returns c =
+    let start = c .before .before .before .before .before .before in
+    let page = c .before .before .before .before .loop .page in
+    below-stop _ (start .args .pages) page (omega arith)
+    (failed (lent-read (start .args .frames .now) (page * frameSize) frameSize frameValid _ (c .before .frame-valid .ensures)) (c .if1 .taken))
+
+add-page : tie.Need-add-page Inv-loop μ-loop
+add-page c = omega arith
+
+loop-less : tie.Need-loop-less Inv-loop μ-loop
+loop-less c = omega arith
+
+loop-again : tie.Need-loop-again Inv-loop μ-loop
+loop-again c =
+    let start = c .before .before .before .before .before .before in
+    let loop = c .before .before .before .before .loop in (
+      omega arith,
+      below-next _ _ (loop .inv .1)
+          (passed (lent-read (start .args .frames .now) (loop .page * frameSize) frameSize frameValid _ (c .before .frame-valid .ensures)) (c .if1 .left)),
+    )
+
+returns-2 : tie.Need-returns-2 Inv-loop μ-loop
+unfolding framesValid
+returns-2 c = below-end _ _ _ (omega arith) (omega arith) (c .before .loop .inv .1)
+
+pub frames-valid-spec : {M : Type 1} → statement M
+frames-valid-spec =
+    tie.close
+    (tie.spec
+    Inv-loop
+    μ-loop
+    loop-holds
+    mul-a
+    add-frame-valid
+    sub-frame-valid
+    part-frame-valid-start
+    part-frame-valid-end
+    frame-valid-requires
+    returns
+    add-page
+    loop-less
+    loop-again
+    returns-2)

@@ -1,0 +1,178 @@
+// Whether bytes are a well-formed bank: head, directory, every block, and the search for a malformed slot.
+use crate::block::block_fits;
+use crate::block::stored_count;
+use crate::parts::directory_valid;
+use crate::parts::slot_valid;
+use crate::parts::wide;
+use fields::widths::SLOT_SIZE;
+use format::block::read_volatile_count;
+use format::layout::BOARDS_AT;
+use format::layout::ENTRY_SIZE;
+use format::layout::HEAD_SIZE;
+use format::layout::MOST_BOARDS;
+use format::layout::MOST_PAGES;
+use format::layout::PAGES_AT;
+use format::layout::area_at;
+use format::layout::area_slots_at;
+use format::layout::bank_size;
+use format::layout::block_at;
+use format::layout::block_size;
+use format::layout::slots_at;
+ghost use mathlib.Core.Path.{_≡_};
+ghost use mathlib.Core.Bool.{true};
+ghost use Prim.Native.Nat.{_+_, _*_, _≤_, _<_};
+ghost use lib.ListN.{length};
+ghost use Rattle.model.specs.Definitions.Parts.{part, everyBelow};
+ghost use Rattle.model.specs.Definitions.Layout.{mostBoards, mostPages, slotSize, blockSize, bankSize};
+ghost use Rattle.model.specs.Definitions.WellFormed.{slotValid, headValid, wellFormed};
+ghost use Rattle.validity.specs.BlockChecks.{countsValid, recordCount, recordAt, recordsValid};
+ghost use Rattle.validity.specs.BankChecks.{inRange, directoryOf, blockOfPages, blockFits};
+
+// ---- the head
+
+// A number of boards or pages: at least one.
+fn in_range(n: usize, most: usize) -> bool
+    ensures { λ r. ⌜ r ≡ inRange n most ⌝ }
+{
+    if n == 0 {
+        return false;
+    }
+    n <= most
+}
+
+// "that length", and the head that gives it.
+fn head_valid(bank: &[u8]) -> bool
+    ensures { λ r. ⌜ r ≡ headValid (now (bank .entry)) ⌝ }
+{
+    if bank.len() < HEAD_SIZE {
+        return false;
+    }
+    if bank[0] != b'B' {
+        return false;
+    }
+    if bank[1] != b'K' {
+        return false;
+    }
+    let boards = wide(bank[BOARDS_AT]);
+    if !in_range(boards, MOST_BOARDS) {
+        return false;
+    }
+    let pages = wide(bank[PAGES_AT]);
+    if !in_range(pages, MOST_PAGES) {
+        return false;
+    }
+    bank.len() == bank_size(boards, pages)
+}
+
+// ---- every block but its records
+
+// The directory and a board's block, each handed on as its own part.
+fn block_fits_at(bank: &[u8], boards: usize, pages: usize, board: usize) -> bool
+    requires { ⌜ (length (now bank) ≡ bankSize boards pages) × (boards ≤ mostBoards) × (pages ≤ mostPages) × (board < boards) ⌝ }
+    ensures { λ r. ⌜ r ≡ blockFits pages (directoryOf pages (now (bank .entry))) (blockOfPages pages (now (bank .entry)) board) board ⌝ }
+{
+    let n = pages * ENTRY_SIZE;
+    let a = block_at(pages, board);
+    let size = block_size(pages);
+    block_fits(
+        &bank[HEAD_SIZE..HEAD_SIZE + n],
+        &bank[a..a + size],
+        pages,
+        board,
+    )
+}
+
+fn blocks_fit(bank: &[u8], boards: usize, pages: usize) -> bool
+    requires { ⌜ (length (now bank) ≡ bankSize boards pages) × (boards ≤ mostBoards) × (pages ≤ mostPages) ⌝ }
+    ensures { λ r. ⌜ r ≡ everyBelow boards (λ b. blockFits pages (directoryOf pages (now (bank .entry))) (blockOfPages pages (now (bank .entry)) b) b) ⌝ }
+{
+    let mut board = 0;
+    while board < boards {
+        if !block_fits_at(bank, boards, pages, board) {
+            return false;
+        }
+        board += 1;
+    }
+    true
+}
+
+// ---- records
+
+// How many records a block holds, in its three logs.
+fn record_count(block: &[u8], pages: usize) -> usize
+    requires { ⌜ (length (now block) ≡ blockSize pages) × (pages ≤ mostPages) ⌝ }
+    ensures { λ r. ⌜ r ≡ recordCount pages (now (block .entry)) ⌝ }
+{
+    wide(read_volatile_count(block))
+        + (stored_count(block, pages, 0) + stored_count(block, pages, 1))
+}
+
+// Where the record of an index stands: first come the volatile ones, then area 0's, then area 1's.
+fn record_at(block: &[u8], pages: usize, index: usize) -> usize
+    requires { ⌜ (length (now block) ≡ blockSize pages) × (pages ≤ mostPages) × (countsValid pages (now block) ≡ true) × (index < recordCount pages (now block)) ⌝ }
+    ensures place { λ r. ⌜ r ≡ recordAt pages (now (block .entry)) index ⌝ }
+    ensures within { λ r. ⌜ r + slotSize ≤ blockSize pages ⌝ }
+{
+    let volatile = wide(read_volatile_count(block));
+    if index < volatile {
+        return slots_at(pages) + index * SLOT_SIZE;
+    }
+    let first = volatile + stored_count(block, pages, 0);
+    if index < first {
+        return area_at(pages, 0) + area_slots_at(pages) + (index - volatile) * SLOT_SIZE;
+    }
+    area_at(pages, 1) + area_slots_at(pages) + (index - first) * SLOT_SIZE
+}
+
+// The record of an index is valid, whichever log it stands in.
+fn record_valid(block: &[u8], pages: usize, index: usize) -> bool
+    requires { ⌜ (length (now block) ≡ blockSize pages) × (pages ≤ mostPages) × (countsValid pages (now block) ≡ true) × (index < recordCount pages (now block)) ⌝ }
+    ensures { λ r. ⌜ r ≡ slotValid pages (part (now (block .entry)) (recordAt pages (now (block .entry)) index) slotSize) ⌝ }
+{
+    let a = record_at(block, pages, index);
+    slot_valid(&block[a..a + SLOT_SIZE], pages)
+}
+
+// "The search for a malformed slot, board by board and slot by slot, ends at the first": whether it comes to its end.
+fn records_valid(bank: &[u8], boards: usize, pages: usize) -> bool
+    requires { ⌜ (length (now bank) ≡ bankSize boards pages) × (boards ≤ mostBoards) × (pages ≤ mostPages) × (everyBelow boards (λ b. countsValid pages (blockOfPages pages (now bank) b)) ≡ true) ⌝ }
+    ensures { λ r. ⌜ r ≡ everyBelow boards (λ b. recordsValid pages (blockOfPages pages (now (bank .entry)) b)) ⌝ }
+{
+    let size = block_size(pages);
+    let mut board = 0;
+    'search: while board < boards {
+        let a = block_at(pages, board);
+        let block = &bank[a..a + size];
+        let records = record_count(block, pages);
+        let mut index = 0;
+        while index < records {
+            if !record_valid(block, pages, index) {
+                break 'search;
+            }
+            index += 1;
+        }
+        board += 1;
+    }
+    board == boards
+}
+
+// ---- the whole
+
+// "Well formed means: ..", of any slice: the answer is the definition's.
+pub fn well_formed(bank: &[u8]) -> bool
+    ensures { λ r. ⌜ r ≡ wellFormed (now (bank .entry)) ⌝ }
+{
+    if !head_valid(bank) {
+        return false;
+    }
+    let boards = wide(bank[BOARDS_AT]);
+    let pages = wide(bank[PAGES_AT]);
+    let n = pages * ENTRY_SIZE;
+    if !directory_valid(&bank[HEAD_SIZE..HEAD_SIZE + n], boards, pages) {
+        return false;
+    }
+    if !blocks_fit(bank, boards, pages) {
+        return false;
+    }
+    records_valid(bank, boards, pages)
+}

@@ -1,0 +1,235 @@
+// The test of a board's block but for its records, on a slice that starts at the block's offset: fixed fields, counts, frames, and what
+// the board and the directory say of each other.
+use crate::parts::frames_valid;
+use crate::parts::wide;
+use crate::parts::zero_run;
+use fields::bytes::get;
+use fields::copies::holds;
+use fields::frame::right_byte;
+use fields::frame::right_of;
+use fields::widths::FRAME_SIZE;
+use fields::widths::SLOT_COUNT;
+use format::block::read_fuse;
+use format::block::read_number;
+use format::block::read_place;
+use format::block::read_since;
+use format::block::read_state;
+use format::block::read_volatile_count;
+use format::block::state_byte;
+use format::layout::AREA_COUNT_AT;
+use format::layout::AREA_FRAMES_AT;
+use format::layout::COPIES_AT;
+use format::layout::ENTRY_SIZE;
+use format::layout::FRAMES_AT;
+use format::layout::NO_FUSE;
+use format::layout::OWNER_AT;
+use format::layout::SELECTOR_AT;
+use format::layout::STATE_AT;
+use format::layout::area_at;
+use format::selected::selected_at;
+use types::Right;
+use types::State;
+ghost use mathlib.Core.Path.{_≡_};
+ghost use Prim.Native.Nat.{_+_, _*_, _≤_, _<_};
+ghost use lib.ListN.{length};
+ghost use Rattle.model.specs.Definitions.Parts.{byteAt};
+ghost use Rattle.model.specs.Definitions.Layout.{mostBoards, mostPages, byteValues, entrySize, frameSize, areaCountAt, blockSize};
+ghost use Rattle.model.specs.Definitions.Codec.{decodeEntry, decodeBoard, rightOf};
+ghost use Rattle.model.specs.Definitions.WellFormed.{isBlank, rightIn};
+ghost use Rattle.format.specs.Areas.{selectedAt};
+ghost use Rattle.validity.specs.BlockChecks.{storedCount, countsValid, framesValidAt, allFramesValid, fieldsValid};
+ghost use Rattle.validity.specs.BoardChecks.{stateValid, boardValid, agrees, pagesAgree};
+ghost use Rattle.validity.specs.BankChecks.{blockFits};
+
+// The selector's byte for area 1.
+const SECOND_AREA: u8 = 1;
+
+// ---- counts and frames
+
+// How many records an area of a block holds.
+pub fn stored_count(block: &[u8], pages: usize, area: usize) -> usize
+    requires { ⌜ (length (now block) ≡ blockSize pages) × (pages ≤ mostPages) × (area < 2) ⌝ }
+    ensures { λ r. ⌜ (r ≡ storedCount pages area (now (block .entry))) × (r < byteValues) ⌝ }
+{
+    wide(get(block, area_at(pages, area) + AREA_COUNT_AT))
+}
+
+// "stored at most 32 in either", and as many volatile records.
+fn counts_valid(block: &[u8], pages: usize) -> bool
+    requires { ⌜ (length (now block) ≡ blockSize pages) × (pages ≤ mostPages) ⌝ }
+    ensures { λ r. ⌜ r ≡ countsValid pages (now (block .entry)) ⌝ }
+{
+    if SLOT_COUNT < wide(read_volatile_count(block)) {
+        return false;
+    }
+    if SLOT_COUNT < stored_count(block, pages, 0) {
+        return false;
+    }
+    stored_count(block, pages, 1) <= SLOT_COUNT
+}
+
+// The frames of all pages from a place of the block on.
+fn frames_valid_at(block: &[u8], pages: usize, at: usize) -> bool
+    requires { ⌜ (at + pages * frameSize ≤ length (now block)) × (pages ≤ mostPages) ⌝ }
+    ensures { λ r. ⌜ r ≡ framesValidAt pages at (now (block .entry)) ⌝ }
+{
+    let n = pages * FRAME_SIZE;
+    frames_valid(&block[at..at + n], pages)
+}
+
+// The working frames, and those of both areas.
+fn all_frames_valid(block: &[u8], pages: usize) -> bool
+    requires { ⌜ (length (now block) ≡ blockSize pages) × (pages ≤ mostPages) ⌝ }
+    ensures { λ r. ⌜ r ≡ allFramesValid pages (now (block .entry)) ⌝ }
+{
+    if !frames_valid_at(block, pages, FRAMES_AT) {
+        return false;
+    }
+    if !frames_valid_at(block, pages, area_at(pages, 0) + AREA_FRAMES_AT) {
+        return false;
+    }
+    frames_valid_at(block, pages, area_at(pages, 1) + AREA_FRAMES_AT)
+}
+
+// State and selector in range, the counts, and every frame.
+pub fn fields_valid(block: &[u8], pages: usize) -> bool
+    requires { ⌜ (length (now block) ≡ blockSize pages) × (pages ≤ mostPages) ⌝ }
+    ensures { λ r. ⌜ r ≡ fieldsValid pages (now (block .entry)) ⌝ }
+{
+    if state_byte(State::Replaying) < get(block, STATE_AT) {
+        return false;
+    }
+    if SECOND_AREA < get(block, SELECTOR_AT) {
+        return false;
+    }
+    if !counts_valid(block, pages) {
+        return false;
+    }
+    all_frames_valid(block, pages)
+}
+
+// ---- what a board says of itself
+
+// How many records the selected area holds.
+fn selected_count(block: &[u8], pages: usize) -> usize
+    requires { ⌜ (length (now block) ≡ blockSize pages) × (pages ≤ mostPages) ⌝ }
+    ensures { λ r. ⌜ (r ≡ byteAt (now (block .entry)) (selectedAt pages (now (block .entry)) + areaCountAt)) × (r < byteValues) ⌝ }
+{
+    wide(get(block, selected_at(block, pages) + AREA_COUNT_AT))
+}
+
+// "a dark board has access number, since, volatile count and frames zero and no fuse"
+fn blank(block: &[u8], pages: usize) -> bool
+    requires { ⌜ (length (now block) ≡ blockSize pages) × (pages ≤ mostPages) ⌝ }
+    ensures { λ r. ⌜ r ≡ isBlank (decodeBoard pages (now (block .entry))) ⌝ }
+{
+    if read_number(block) != 0 {
+        return false;
+    }
+    if read_since(block) != 0 {
+        return false;
+    }
+    if read_volatile_count(block) != 0 {
+        return false;
+    }
+    if !zero_run(block, FRAMES_AT, pages * FRAME_SIZE) {
+        return false;
+    }
+    read_fuse(block) == NO_FUSE
+}
+
+// What a board's state asks of its replay place, its volatile log and, of a down board, the rest.
+fn state_valid(block: &[u8], pages: usize) -> bool
+    requires { ⌜ (length (now block) ≡ blockSize pages) × (pages ≤ mostPages) ⌝ }
+    ensures { λ r. ⌜ r ≡ stateValid (decodeBoard pages (now (block .entry)) .state) (decodeBoard pages (now (block .entry))) ⌝ }
+{
+    let place = read_place(block);
+    match read_state(block) {
+        State::Up => place == 0,
+        State::Down => {
+            if place != 0 {
+                return false;
+            }
+            blank(block, pages)
+        }
+        State::Replaying => {
+            if selected_count(block, pages) <= wide(place) {
+                return false;
+            }
+            read_volatile_count(block) == 0
+        }
+    }
+}
+
+// "fuse not 0", "stored plus volatile at most 32 for the selected area", and what the state asks.
+fn board_valid(block: &[u8], pages: usize) -> bool
+    requires { ⌜ (length (now block) ≡ blockSize pages) × (pages ≤ mostPages) ⌝ }
+    ensures { λ r. ⌜ r ≡ boardValid (decodeBoard pages (now (block .entry))) ⌝ }
+{
+    if read_fuse(block) == 0 {
+        return false;
+    }
+    if SLOT_COUNT < selected_count(block, pages) + wide(read_volatile_count(block)) {
+        return false;
+    }
+    state_valid(block, pages)
+}
+
+// ---- what a board and the directory say of each other
+
+// The right that a directory entry gives a board.
+pub fn right_in(entry: &[u8], board: usize) -> Right
+    requires { ⌜ (length (now entry) ≡ entrySize) × (board < mostBoards) ⌝ }
+    ensures { λ r. ⌜ r ≡ rightIn (decodeEntry (now (entry .entry))) board ⌝ }
+{
+    if wide(entry[OWNER_AT]) == board {
+        return Right::Own;
+    }
+    if holds(board, entry[COPIES_AT]) {
+        return Right::Copy;
+    }
+    Right::None
+}
+
+// An up board's right is the directory's; another board has no copy.
+fn page_agrees(entry: &[u8], right: u8, up: bool, board: usize) -> bool
+    requires { ⌜ (length (now entry) ≡ entrySize) × (board < mostBoards) ⌝ }
+    ensures { λ r. ⌜ r ≡ agrees up (rightOf right) (decodeEntry (now (entry .entry))) board ⌝ }
+{
+    if up {
+        return right_byte(right_of(right)) == right_byte(right_in(entry, board));
+    }
+    !holds(board, entry[COPIES_AT])
+}
+
+// "an up board's rights agree with the directory; .. a board not up is in no copy-set"
+fn pages_agree(directory: &[u8], block: &[u8], pages: usize, board: usize) -> bool
+    requires { ⌜ (length (now directory) ≡ pages * entrySize) × (length (now block) ≡ blockSize pages) × (pages ≤ mostPages) × (board < mostBoards) ⌝ }
+    ensures { λ r. ⌜ r ≡ pagesAgree pages (now (directory .entry)) (now (block .entry)) board ⌝ }
+{
+    let up = get(block, STATE_AT) == state_byte(State::Up);
+    let mut page = 0;
+    while page < pages {
+        let a = page * ENTRY_SIZE;
+        let right = get(block, FRAMES_AT + page * FRAME_SIZE);
+        if !page_agrees(&directory[a..a + ENTRY_SIZE], right, up, board) {
+            return false;
+        }
+        page += 1;
+    }
+    true
+}
+
+// All of a block but its records.
+pub fn block_fits(directory: &[u8], block: &[u8], pages: usize, board: usize) -> bool
+    requires { ⌜ (length (now directory) ≡ pages * entrySize) × (length (now block) ≡ blockSize pages) × (pages ≤ mostPages) × (board < mostBoards) ⌝ }
+    ensures { λ r. ⌜ r ≡ blockFits pages (now (directory .entry)) (now (block .entry)) board ⌝ }
+{
+    if !fields_valid(block, pages) {
+        return false;
+    }
+    if !board_valid(block, pages) {
+        return false;
+    }
+    pages_agree(directory, block, pages, board)
+}

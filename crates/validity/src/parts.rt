@@ -1,0 +1,147 @@
+// Tests of the small parts of a bank, each on its own bytes: a page, a frame, a slot, a directory entry.
+use fields::copies::holds;
+use fields::frame::right_byte;
+use fields::widths::FRAME_BYTES_AT;
+use fields::widths::FRAME_SIZE;
+use fields::widths::MARK0_AT;
+use fields::widths::MARK1_AT;
+use fields::widths::PAGE_SIZE;
+use fields::widths::RIGHT_AT;
+use fields::widths::SLOT_BYTES_AT;
+use fields::widths::SLOT_PAGE_AT;
+use fields::widths::SLOT_ZERO_AT;
+use format::layout::COPIES_AT;
+use format::layout::ENTRY_SIZE;
+use format::layout::OWNER_AT;
+use types::Right;
+ghost use mathlib.Core.Path.{_≡_};
+ghost use Prim.Native.Nat.{_+_, _*_, _≤_, _<_};
+ghost use lib.ListN.{length};
+ghost use Rattle.model.specs.Definitions.Parts.{part, every, decodeAll};
+ghost use Rattle.model.specs.Definitions.Layout.{mostBoards, mostPages, byteValues, entrySize, frameSize, slotSize};
+ghost use Rattle.model.specs.Definitions.Codec.{decodeEntry};
+ghost use Rattle.model.specs.Definitions.WellFormed.{isZero, frameValid, framesValid, isMark, slotValid, entryValid};
+
+// A byte as a number that counts or indexes.
+pub fn wide(b: u8) -> usize
+    ensures { λ r. ⌜ (r ≡ b) × (r < byteValues) ⌝ }
+{
+    b as usize
+}
+
+// The `n` bytes at a place are all zero: their sum is, which takes no branch for each byte.
+pub fn zero_run(s: &[u8], at: usize, n: usize) -> bool
+    requires { ⌜ (at + n ≤ length (now s)) × (n ≤ mostPages * frameSize) ⌝ }
+    ensures { λ r. ⌜ r ≡ isZero (part (now (s .entry)) at n) ⌝ }
+{
+    let mut sum: u32 = 0;
+    let mut i = 0;
+    while i < n {
+        sum += s[at + i] as u32;
+        i += 1;
+    }
+    sum == 0
+}
+
+// A frame's right is in range, and its page zero under right none.
+pub fn frame_valid(frame: &[u8]) -> bool
+    requires { ⌜ length (now frame) ≡ frameSize ⌝ }
+    ensures { λ r. ⌜ r ≡ frameValid (now (frame .entry)) ⌝ }
+{
+    let right = frame[RIGHT_AT];
+    if right_byte(Right::Own) < right {
+        return false;
+    }
+    if right != right_byte(Right::None) {
+        return true;
+    }
+    zero_run(frame, FRAME_BYTES_AT, PAGE_SIZE)
+}
+
+// Every frame of a run of frames.
+pub fn frames_valid(frames: &[u8], pages: usize) -> bool
+    requires { ⌜ length (now frames) ≡ pages * frameSize ⌝ }
+    ensures { λ r. ⌜ r ≡ framesValid pages (now (frames .entry)) ⌝ }
+{
+    let mut page = 0;
+    while page < pages {
+        let a = page * FRAME_SIZE;
+        if !frame_valid(&frames[a..a + FRAME_SIZE]) {
+            return false;
+        }
+        page += 1;
+    }
+    true
+}
+
+// Two letters are one of the four marks.
+pub fn is_mark(m0: u8, m1: u8) -> bool
+    ensures { λ r. ⌜ r ≡ isMark m0 m1 ⌝ }
+{
+    if m0 == b'G' {
+        if m1 == b'C' {
+            return true;
+        }
+        return m1 == b'O';
+    }
+    if m0 == b'S' {
+        return m1 == b'H';
+    }
+    if m0 == b'D' {
+        return m1 == b'R';
+    }
+    false
+}
+
+// A slot below a count holds a record: a mark, a page of the bank, the zero byte, and no page bytes unless it is a got.
+pub fn slot_valid(slot: &[u8], pages: usize) -> bool
+    requires { ⌜ length (now slot) ≡ slotSize ⌝ }
+    ensures { λ r. ⌜ r ≡ slotValid pages (now (slot .entry)) ⌝ }
+{
+    let m0 = slot[MARK0_AT];
+    if !is_mark(m0, slot[MARK1_AT]) {
+        return false;
+    }
+    if pages <= wide(slot[SLOT_PAGE_AT]) {
+        return false;
+    }
+    if slot[SLOT_ZERO_AT] != 0 {
+        return false;
+    }
+    if m0 == b'G' {
+        return true;
+    }
+    zero_run(slot, SLOT_BYTES_AT, PAGE_SIZE)
+}
+
+// A directory entry names a board of the bank, and copy holders that are boards and not the owner.
+pub fn entry_valid(entry: &[u8], boards: usize) -> bool
+    requires { ⌜ (length (now entry) ≡ entrySize) × (boards ≤ mostBoards) ⌝ }
+    ensures { λ r. ⌜ r ≡ entryValid boards (decodeEntry (now (entry .entry))) ⌝ }
+{
+    let owner = wide(entry[OWNER_AT]);
+    if boards <= owner {
+        return false;
+    }
+    let copies = entry[COPIES_AT];
+    if wide(copies) >> boards != 0 {
+        return false;
+    }
+    !holds(owner, copies)
+}
+
+// Every entry of the directory.
+pub fn directory_valid(directory: &[u8], boards: usize, pages: usize) -> bool
+    requires { ⌜ (length (now directory) ≡ pages * entrySize) × (boards ≤ mostBoards) ⌝ }
+    ensures { λ r. ⌜ r ≡ every (entryValid boards) (decodeAll decodeEntry entrySize pages (now (directory .entry))) ⌝ }
+{
+    let mut page = 0;
+    while page < pages {
+        let a = page * ENTRY_SIZE;
+        if !entry_valid(&directory[a..a + ENTRY_SIZE], boards) {
+            return false;
+        }
+        page += 1;
+    }
+    true
+}
