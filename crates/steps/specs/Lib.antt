@@ -1,0 +1,11 @@
+pub mod Blocks
+pub mod Checkpoint
+pub mod Power
+pub mod BankBlocks
+pub mod Fuse
+pub mod Records
+pub mod Flush
+pub mod Access
+pub mod Selected
+pub mod Frames
+pub mod Replay
