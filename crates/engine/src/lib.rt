@@ -1,0 +1,3 @@
+// Document 01's calls, on bytes of any length and content: each answers and leaves what the definitions say.
+pub mod bank;
+pub mod power;
