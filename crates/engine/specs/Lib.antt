@@ -1,2 +1,7 @@
+pub mod Contracts
+pub mod FewStores
 pub mod Replies
-pub mod Blocks
+pub mod Admissions
+pub mod Restarts
+pub mod Making
+pub mod OneMemory

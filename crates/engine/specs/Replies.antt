@@ -1,40 +1,51 @@
--- What a call replies, once its tests are known, one law for each way through it; in the shape in which the code returns. Assumes nothing.
+-- What a call replies, once its tests are known, one law for each way through it; and the contract from such a law. Assumes nothing.
 use mathlib.Core.Path.{_≡_, sym, ap, _∙_}
-use Prim.Native.Nat.{ℕ}
-use mathlib.Core.Bool.{true, false, _&&_}
+use Prim.Native.Nat.{ℕ, _+_, _≤_}
+use mathlib.Core.Bool.{Bool, true, false, _&&_}
 use mathlib.Core.List.{List}
+use native.Mathlib.Omega.{arith}
 use lib.ListN.{length}
 use lib.Dec.{ltb}
+use borrow.Author.Tests.{lt-ltb}
+use Rattle.types.specs.declared.State.{State}
 use Rattle.types.specs.declared.Answer.{Answer}
 use Rattle.types.specs.declared.Answer.the-variants.{Done, Malformed, OutOfRange, WrongState}
+use Rattle.types.specs.declared.Outcome.{Outcome}
 use Rattle.model.specs.Definitions.Layout.{noFuse}
 use Rattle.model.specs.Definitions.Bank.{Bank, boardAt, onBoard}
 use Rattle.model.specs.Definitions.Codec.{encode, decode}
-use Rattle.model.specs.Definitions.WellFormed.{wellFormed, isDown}
-use Rattle.model.specs.Definitions.Steps.{start, step, powerOff, withFuse}
-use Rattle.model.specs.Definitions.Calls.{firstOf, unless, finished, cutBank, fuseBank, Call, Cutting, Fusing, callBank, Reply, refused, replyOf, call}
-use Rattle.model.specs.Laws.Logic.{byBool}
+use Rattle.model.specs.Definitions.WellFormed.{wellFormed, isUp, isDown}
+use Rattle.model.specs.Definitions.Steps.{Run, start, step, powerOff, withFuse, checkpoint}
+use Rattle.model.specs.Definitions.Calls.{Result, firstOf, unless, finished, accessInRange, accessRefusals, accessBank, checkpointBank, cutBank, fuseBank, restartBank, Call, Reading, Writing, Checkpointing, Cutting, Fusing, Restarting, callBank, Reply, refused, replyOf, call}
 use Rattle.model.specs.Laws.CodecBankBack.{encode-decode}
+use Rattle.model.specs.Laws.Table.{boardOf}
+use Rattle.exchange.specs.Progress.{lostBy, Came}
+use Rattle.accesses.specs.Results.{Answered, endedAs}
+use Rattle.accesses.specs.Repeated.{finished-ended}
+use Rattle.answers.specs.Packed.{mostStores}
+use Rattle.engine.specs.Contracts.{Replied}
+use Rattle.checks.specs.Entries.{OnBoard}
+use Rattle.engine.specs.FewStores.{replied-few}
+
+-- ---- the contract of a call, from its reply
+
+-- a refusal: no store, the bytes as they were
+pub refused-replied : {y : Reply} {a : Answer} {o : Outcome} {s : List ℕ} → y ≡ refused a s → o ≡ record { answer = a; stores = 0 }
+    → Replied y o s × (o .stores ≤ mostStores)
+unfolding refused
+refused-replied e q = ((rw (e, q), rw e), rw q (omega arith))
 
 -- a call that ran to its end without a store
 abbrev pub done : Bank → Reply
 done k = record { outcome = record { answer = Done 0; stores = 0 }; bytes = encode k }
 
--- the two parts of a call's contract
-pub replied : {y z : Reply} → y ≡ z → (z .outcome ≡ y .outcome) × (z .bytes ≡ y .bytes)
-replied e = (sym (ap (λ (r : Reply). r .outcome) e), sym (ap (λ (r : Reply). r .bytes) e))
-
-pub call-malformed : (c : Call) (s : List ℕ) → wellFormed s ≡ false → call c s ≡ refused Malformed s
-unfolding call
-call-malformed c s v = cc
+pub done-replied : {y : Reply} {s : List ℕ} (k : Bank) → y ≡ done k → s ≡ encode k
+    → Replied y (record { answer = Done 0; stores = 0 }) s × (0 ≤ mostStores)
+done-replied k e q = ((rw e, rw (e, q)), omega arith)
 
 -- ---- on a bank
 
 module _ (b : ℕ) (k : Bank) where
-  cut-out : ltb b (length (k .boards)) ≡ false → cutBank b k ≡ record { answer = OutOfRange; run = start k }
-  unfolding cutBank unless firstOf
-  cut-out h = cc
-
   cut-wrong : ltb b (length (k .boards)) ≡ true → isDown (boardAt k b .state) ≡ true → cutBank b k ≡ record { answer = WrongState b; run = start k }
   unfolding cutBank unless firstOf
   cut-wrong h d = cc
@@ -42,6 +53,14 @@ module _ (b : ℕ) (k : Bank) where
   cut-ran : ltb b (length (k .boards)) ≡ true → isDown (boardAt k b .state) ≡ false → cutBank b k ≡ record { answer = Done 0; run = start (powerOff b k) }
   unfolding cutBank unless firstOf finished step start
   cut-ran h d = cc
+
+  checkpoint-wrong : ltb b (length (k .boards)) ≡ true → isUp (boardAt k b .state) ≡ false → checkpointBank b k ≡ record { answer = WrongState b; run = start k }
+  unfolding checkpointBank unless firstOf
+  checkpoint-wrong h u = cc
+
+  checkpoint-ran : ltb b (length (k .boards)) ≡ true → isUp (boardAt k b .state) ≡ true → checkpointBank b k ≡ finished 0 (checkpoint b (start k))
+  unfolding checkpointBank unless firstOf
+  checkpoint-ran h u = cc
 
   module _ (n : ℕ) where
     fuse-out : (ltb b (length (k .boards)) && (ltb 0 n && ltb n noFuse)) ≡ false → fuseBank b n k ≡ record { answer = OutOfRange; run = start k }
@@ -60,48 +79,87 @@ module _ (b : ℕ) (k : Bank) where
 
 -- ---- on bytes
 
+-- "1: not well formed"
+pub call-malformed : (c : Call) (s : List ℕ) → wellFormed s ≡ false → call c s ≡ refused Malformed s
+unfolding call
+call-malformed c s v = cc
+
 module _ (s : List ℕ) (v : wellFormed s ≡ true) where
-  call-bank : (c : Call) → call c s ≡ replyOf (callBank c (decode s))
+  pub call-bank : (c : Call) → call c s ≡ replyOf (callBank c (decode s))
   unfolding call
   call-bank c = cc
 
   -- the bytes as they were
-  refusal : (a : Answer) → replyOf (record { answer = a; run = start (decode s) }) ≡ refused a s
+  pub refusal : (a : Answer) → replyOf (record { answer = a; run = start (decode s) }) ≡ refused a s
   unfolding replyOf refused start
   refusal a = rw (encode-decode s v)
 
-  module _ (b : ℕ) where
-    pub cut-range : ltb b (length (decode s .boards)) ≡ false → call (Cutting b) s ≡ refused OutOfRange s
-    unfolding callBank
-    cut-range h = call-bank (Cutting b) ∙ (ap replyOf (cut-out b (decode s) h) ∙ refusal OutOfRange)
+  -- a way through a call that ends in a refusal
+  pub call-refused : (c : Call) (a : Answer) → callBank c (decode s) ≡ record { answer = a; run = start (decode s) } → call c s ≡ refused a s
+  call-refused c a e = call-bank c ∙ (ap replyOf e ∙ refusal a)
 
-    pub cut-down : ltb b (length (decode s .boards)) ≡ true → isDown (boardAt (decode s) b .state) ≡ true
-        → call (Cutting b) s ≡ refused (WrongState b) s
-    unfolding callBank
-    cut-down h d = call-bank (Cutting b) ∙ (ap replyOf (cut-wrong b (decode s) h d) ∙ refusal (WrongState b))
+  -- a way through a call that ends otherwise: outcome and bytes are those of its result
+  pub ran-replied : (c : Call) {t : List ℕ} {o : Outcome} (r : Result) → callBank c (decode s) ≡ r
+      → t ≡ encode (r .run .bank) → o .answer ≡ r .answer → o .stores ≡ r .run .stores → Replied (call c s) o t × (o .stores ≤ mostStores)
+  unfolding replyOf
+  ran-replied c r e b a n = let z : call c s ≡ replyOf r = call-bank c ∙ ap replyOf e in replied-few c s (rw (z, a, n), b ∙ rw z)
 
-    pub cut-done : ltb b (length (decode s .boards)) ≡ true → isDown (boardAt (decode s) b .state) ≡ false
-        → call (Cutting b) s ≡ done (powerOff b (decode s))
+  -- the same where n stores were counted from 0
+  pub answered-replied : (c : Call) {t : List ℕ} {o : Outcome} (r : Result) → callBank c (decode s) ≡ r → Answered t o 0 r
+      → Replied (call c s) o t × (o .stores ≤ mostStores)
+  answered-replied c r e a = ran-replied c r e (a .bytes) (a .answer) (omega (arith, a .stores))
+
+  -- a call whose last step was a run of stores of its board
+  pub ended-replied : (c : Call) {t : List ℕ} {o : Outcome} (v b m : ℕ) (l : Bool) {r : Run} → callBank c (decode s) ≡ finished v r
+      → Came t (0 + m) (lostBy b l) r → (o .answer ≡ endedAs v b l) × (o .stores ≡ m) → Replied (call c s) o t × (o .stores ≤ mostStores)
+  ended-replied c v b m l {r} e came o =
+      ran-replied c (record { answer = endedAs v b l; run = r }) (e ∙ sym (finished-ended v b l r (came .lost))) (came .bytes) (o .0)
+      (omega (arith, o .1, came .stores))
+
+-- "2: board ≥ N", of any call
+out-of-bank : (c : Call) (k : Bank) → ltb (boardOf c) (length (k .boards)) ≡ false → callBank c k ≡ record { answer = OutOfRange; run = start k }
+unfolding boardOf callBank accessInRange accessRefusals accessBank checkpointBank cutBank fuseBank restartBank unless firstOf
+out-of-bank (Reading b p o) k h = cc
+out-of-bank (Writing b p o v) k h = cc
+out-of-bank (Checkpointing b) k h = cc
+out-of-bank (Cutting b) k h = cc
+out-of-bank (Fusing b n) k h = cc
+out-of-bank (Restarting b) k h = cc
+
+pub call-noBoard : (c : Call) (s : List ℕ) → (wellFormed s ≡ true) × (ltb (boardOf c) (length (decode s .boards)) ≡ false) → call c s ≡ refused OutOfRange s
+call-noBoard c s h = call-refused s (h .0) c OutOfRange (out-of-bank c (decode s) (h .1))
+
+-- ---- on the bytes of a bank that has the board
+
+module _ {b : ℕ} {s : List ℕ} {st : State} (on : OnBoard b s st) where
+  pub listed : ltb b (length (decode s .boards)) ≡ true
+  listed = lt-ltb b _ (on .inside)
+
+  pub cut-down : isDown st ≡ true → call (Cutting b) s ≡ refused (WrongState b) s
+  unfolding callBank
+  cut-down d = call-refused s (on .formed) (Cutting b) (WrongState b) (cut-wrong b (decode s) listed (rw (on .state) d))
+
+  pub cut-done : isDown st ≡ false → call (Cutting b) s ≡ done (powerOff b (decode s))
+  unfolding callBank replyOf start
+  cut-done d = call-bank s (on .formed) (Cutting b) ∙ ap replyOf (cut-ran b (decode s) listed (rw (on .state) d))
+
+  pub checkpoint-refused : isUp st ≡ false → call (Checkpointing b) s ≡ refused (WrongState b) s
+  unfolding callBank
+  checkpoint-refused u = call-refused s (on .formed) (Checkpointing b) (WrongState b) (checkpoint-wrong b (decode s) listed (rw (on .state) u))
+
+  pub checkpoint-done : isUp st ≡ true → callBank (Checkpointing b) (decode s) ≡ finished 0 (checkpoint b (start (decode s)))
+  unfolding callBank
+  checkpoint-done u = checkpoint-ran b (decode s) listed (rw (on .state) u)
+
+  module _ (n : ℕ) where
+    pub fuse-stores : (ltb 0 n && ltb n noFuse) ≡ false → call (Fusing b n) s ≡ refused OutOfRange s
+    unfolding callBank
+    fuse-stores h = call-refused s (on .formed) (Fusing b n) OutOfRange (fuse-out b (decode s) n (rw (listed, h)))
+
+    pub fuse-down : (ltb 0 n && ltb n noFuse) ≡ true → isDown st ≡ true → call (Fusing b n) s ≡ refused (WrongState b) s
+    unfolding callBank
+    fuse-down h d = call-refused s (on .formed) (Fusing b n) (WrongState b) (fuse-wrong b (decode s) n (rw (listed, h)) (rw (on .state) d))
+
+    pub fuse-done : (ltb 0 n && ltb n noFuse) ≡ true → isDown st ≡ false → call (Fusing b n) s ≡ done (onBoard b (withFuse n) (decode s))
     unfolding callBank replyOf start
-    cut-done h d = call-bank (Cutting b) ∙ ap replyOf (cut-ran b (decode s) h d)
-
-    module _ (n : ℕ) where
-      fuse-range : (ltb b (length (decode s .boards)) && (ltb 0 n && ltb n noFuse)) ≡ false → call (Fusing b n) s ≡ refused OutOfRange s
-      unfolding callBank
-      fuse-range h = call-bank (Fusing b n) ∙ (ap replyOf (fuse-out b (decode s) n h) ∙ refusal OutOfRange)
-
-      pub fuse-board : ltb b (length (decode s .boards)) ≡ false → call (Fusing b n) s ≡ refused OutOfRange s
-      fuse-board h = fuse-range (rw h)
-
-      pub fuse-stores : (ltb 0 n && ltb n noFuse) ≡ false → call (Fusing b n) s ≡ refused OutOfRange s
-      fuse-stores h = fuse-range (byBool (ltb b (length (decode s .boards))) (λ p. rw (p, h)) (λ p. rw p))
-
-      pub fuse-down : (ltb b (length (decode s .boards)) && (ltb 0 n && ltb n noFuse)) ≡ true
-          → isDown (boardAt (decode s) b .state) ≡ true → call (Fusing b n) s ≡ refused (WrongState b) s
-      unfolding callBank
-      fuse-down h d = call-bank (Fusing b n) ∙ (ap replyOf (fuse-wrong b (decode s) n h d) ∙ refusal (WrongState b))
-
-      pub fuse-done : (ltb b (length (decode s .boards)) && (ltb 0 n && ltb n noFuse)) ≡ true
-          → isDown (boardAt (decode s) b .state) ≡ false → call (Fusing b n) s ≡ done (onBoard b (withFuse n) (decode s))
-      unfolding callBank replyOf start
-      fuse-done h d = call-bank (Fusing b n) ∙ ap replyOf (fuse-ran b (decode s) n h d)
+    fuse-done h d = call-bank s (on .formed) (Fusing b n) ∙ ap replyOf (fuse-ran b (decode s) n (rw (listed, h)) (rw (on .state) d))

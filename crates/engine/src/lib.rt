@@ -1,3 +1,7 @@
 // Document 01's calls, on bytes of any length and content: each answers and leaves what the definitions say.
-pub mod bank;
+pub mod access;
+pub mod c;
+pub mod checkpoint;
+pub mod make;
 pub mod power;
+pub mod restart;

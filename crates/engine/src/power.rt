@@ -1,17 +1,18 @@
 // The calls about a board's power: a cut, and a fuse that cuts after some stores.
-use crate::bank::board_count;
-use crate::bank::board_down;
-use crate::bank::page_count;
-use format::block::write_fuse;
+use checks::bank::page_count;
+use checks::entry::Entry;
+use checks::entry::enter;
+use checks::entry::refuse;
 use format::layout::block_at;
 use format::layout::block_size;
+use steps::fuse::set_fuse;
 use steps::power::power_off;
+use steps::state::is_down;
 use types::Answer;
 use types::Outcome;
-use validity::bank::well_formed;
 ghost use mathlib.Core.Path.{_≡_};
 ghost use mathlib.Core.Bool.{_&&_};
-ghost use Prim.Native.Nat.{_<_};
+ghost use Prim.Native.Nat.{_≤_, _<_};
 ghost use lib.ListN.{length};
 ghost use lib.Dec.{ltb};
 ghost use Rattle.model.specs.Definitions.Layout.{noFuse};
@@ -20,39 +21,32 @@ ghost use Rattle.model.specs.Definitions.Codec.{encode, decode};
 ghost use Rattle.model.specs.Definitions.Steps.{withFuse};
 ghost use Rattle.model.specs.Definitions.Calls.{call, Cutting, Fusing};
 ghost use Rattle.model.specs.Laws.BankSteps.{IsBank};
+ghost use Rattle.answers.specs.Packed.{mostStores};
+ghost use Rattle.engine.specs.Contracts.{Replied};
 
 // "65,535 none", as wide as the number that a call is given.
 const NO_FUSE: u32 = 65535;
 
 // "Cut": the board loses its power.
 pub fn cut(bank: &mut [u8], board: u32) -> Outcome
-    ensures { λ r. ⌜ (r ≡ call (Cutting board) (now (bank .entry)) .outcome) × (now (bank .exit) ≡ call (Cutting board) (now (bank .entry)) .bytes) ⌝ }
+    ensures reply { λ r. ⌜ Replied (call (Cutting board) (now (bank .entry))) r (now (bank .exit)) ⌝ }
+    ensures few { λ r. ⌜ r .stores ≤ mostStores ⌝ }
 {
-    if !well_formed(bank) {
-        return Outcome {
-            answer: Answer::Malformed,
-            stores: 0,
-        };
-    }
-    let boards = board_count(bank);
-    let b = board as usize;
-    if boards <= b {
-        return Outcome {
-            answer: Answer::OutOfRange,
-            stores: 0,
-        };
-    }
-    let pages = page_count(bank);
-    if board_down(bank, pages, b) {
-        return Outcome {
-            answer: Answer::WrongState(board as u8),
-            stores: 0,
-        };
-    }
-    power_off(bank, pages, b);
-    Outcome {
-        answer: Answer::Done(0),
-        stores: 0,
+    match enter(bank, board) {
+        Entry::Unreadable => refuse(Answer::Malformed),
+        Entry::NoBoard => refuse(Answer::OutOfRange),
+        Entry::Board(state) => {
+            if is_down(state) {
+                refuse(Answer::WrongState(board as u8))
+            } else {
+                let pages = page_count(bank);
+                power_off(bank, pages, board as usize);
+                Outcome {
+                    answer: Answer::Done(0),
+                    stores: 0,
+                }
+            }
+        }
     }
 }
 
@@ -67,49 +61,36 @@ fn settable(stores: u32) -> bool
 }
 
 // A board's fuse written in its block, which is lent.
-fn set_fuse(bank: &mut [u8], pages: usize, board: usize, stores: u16)
+fn set_board_fuse(bank: &mut [u8], pages: usize, board: usize, stores: u16)
     requires { ⌜ IsBank (now bank) × (pages ≡ length (decode (now bank) .directory)) × (board < length (decode (now bank) .boards)) ⌝ }
     ensures { λ _. ⌜ now (bank .exit) ≡ encode (onBoard board (withFuse stores) (decode (now (bank .entry)))) ⌝ }
 {
     let a = block_at(pages, board);
     let size = block_size(pages);
-    write_fuse(&mut bank[a..a + size], stores);
+    set_fuse(&mut bank[a..a + size], stores);
 }
 
 // "Fuse k .. : cut after its k-th next store."
 pub fn fuse(bank: &mut [u8], board: u32, stores: u32) -> Outcome
-    ensures { λ r. ⌜ (r ≡ call (Fusing board stores) (now (bank .entry)) .outcome) × (now (bank .exit) ≡ call (Fusing board stores) (now (bank .entry)) .bytes) ⌝ }
+    ensures reply { λ r. ⌜ Replied (call (Fusing board stores) (now (bank .entry))) r (now (bank .exit)) ⌝ }
+    ensures few { λ r. ⌜ r .stores ≤ mostStores ⌝ }
 {
-    if !well_formed(bank) {
-        return Outcome {
-            answer: Answer::Malformed,
-            stores: 0,
-        };
-    }
-    let boards = board_count(bank);
-    let b = board as usize;
-    if boards <= b {
-        return Outcome {
-            answer: Answer::OutOfRange,
-            stores: 0,
-        };
-    }
-    if !settable(stores) {
-        return Outcome {
-            answer: Answer::OutOfRange,
-            stores: 0,
-        };
-    }
-    let pages = page_count(bank);
-    if board_down(bank, pages, b) {
-        return Outcome {
-            answer: Answer::WrongState(board as u8),
-            stores: 0,
-        };
-    }
-    set_fuse(bank, pages, b, stores as u16);
-    Outcome {
-        answer: Answer::Done(0),
-        stores: 0,
+    match enter(bank, board) {
+        Entry::Unreadable => refuse(Answer::Malformed),
+        Entry::NoBoard => refuse(Answer::OutOfRange),
+        Entry::Board(state) => {
+            if !settable(stores) {
+                return refuse(Answer::OutOfRange);
+            }
+            if is_down(state) {
+                return refuse(Answer::WrongState(board as u8));
+            }
+            let pages = page_count(bank);
+            set_board_fuse(bank, pages, board as usize, stores as u16);
+            Outcome {
+                answer: Answer::Done(0),
+                stores: 0,
+            }
+        }
     }
 }

@@ -5,16 +5,17 @@ use Prim.Native.Nat.{ℕ, _+_, _*_, _-_, _≤_, _<_}
 use native.Mathlib.Omega.{arith}
 use mathlib.Core.List.{List, _++_}
 use lib.ListN.{length, take, drop}
-use Rattle.model.specs.Definitions.Parts.{part}
-use Rattle.model.specs.Definitions.Layout.{mostPages, blocksAt, blockSize, bankSize}
+use Rattle.model.specs.Definitions.Parts.{part, byteAt}
+use Rattle.model.specs.Definitions.Layout.{mostPages, stateAt, framesAt, blocksAt, blockSize, bankSize}
 use Rattle.model.specs.Definitions.Bank.{Board, Bank, boardAt, onBoard}
-use Rattle.model.specs.Definitions.Codec.{encodeBoard, encode}
+use Rattle.model.specs.Definitions.Codec.{stateOf, encodeBoard, encode}
 use Rattle.model.specs.Definitions.WellFormed.{FieldsOk}
-use Rattle.model.specs.Laws.CodecBank.{decode-encodeBoard, length-encode}
+use Rattle.model.specs.Laws.CodecBank.{stateOf-stateByte, decode-encodeBoard, length-encode}
 use Rattle.model.specs.Laws.Parts.{index-in}
+use Rattle.model.specs.Laws.BlockFields.{read-state}
 use Rattle.model.specs.Laws.BankSteps.{Fields, fields-at, block-part, encode-board}
 use Rattle.fields.proofs.Lent.{lent-written}
-use Rattle.steps.specs.Blocks.{IsBlock, boardOf}
+use Rattle.steps.specs.Blocks.{IsBlock, boardOf, block-length}
 
 pub isBlock-encode : (pages : ℕ) (x : Board) → pages ≤ mostPages → FieldsOk pages x → IsBlock pages (encodeBoard x)
 isBlock-encode pages x h ok =
@@ -54,6 +55,12 @@ module _ {k : Bank} {s : List ℕ} {pages b a n : ℕ} (l : LentBlock k s pages 
 
   pub lent-board : boardOf pages (take (a + n - a) (drop a s)) ≡ boardAt k b
   lent-board = rw lent-bytes (decode-encodeBoard pages (boardAt k b) lent-fields)
+
+  pub lent-length : framesAt ≤ length (take (a + n - a) (drop a s))
+  lent-length = rw (block-length lent-block) (omega arith)
+
+  pub lent-state : stateOf (byteAt (take (a + n - a) (drop a s)) stateAt) ≡ boardAt k b .state
+  lent-state = rw (lent-bytes, read-state pages (boardAt k b) lent-fields) (stateOf-stateByte (boardAt k b .state))
 
   -- the callee did a step of the board: so did the bank
   pub lent-step : (f : Board → Board) (ys : List ℕ) → FieldsOk pages (f (boardAt k b)) → length ys ≡ length (take (a + n - a) (drop a s))

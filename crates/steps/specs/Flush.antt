@@ -18,13 +18,8 @@ use Rattle.model.specs.Laws.BlockFields.{withLog, withFuse-fields}
 use Rattle.model.specs.Laws.BlockWorking.{flushedLog, next-record, poweredOff-log}
 use Rattle.model.specs.Laws.BlockAreas.{withRecord}
 use Rattle.model.specs.Laws.BlockStable.{onSelected}
-use Rattle.model.specs.Laws.BlockFlush.{flushing, flushing-count, flushing-fields, storedRecords, storedRecords-parts, working-storedRecords, fuseAfter, fuseAfter-none, fuseAfter-set, storedBurnt, storedBurnt-parts, storedBurnt-log}
+use Rattle.model.specs.Laws.BlockFlush.{flushing, flushing-count, flushing-fields, working-storedRecords, fuseAfter, fuseAfter-none, fuseAfter-set, storedBurnt, storedBurnt-parts, storedBurnt-log}
 use Rattle.steps.specs.Records.{volatileCount, storedCount, withStored, flushEnded}
-
--- the records appended one by one, and the volatile log emptied: the board is that of n stores, but for the fuse
-pub flushing-ended : (n : ℕ) (x : Board) → n ≡ volatileCount x → flushEnded n (flushing n x) ≡ storedRecords n x
-unfolding flushEnded flushing onSelected flushedLog
-flushing-ended n x e = rw (e, storedRecords-parts (volatileCount x) x (omega arith), drop-length (x .working .log .records))
 
 -- the board after j turns: that of j stores, the fuse lowered after each, with the volatile log of before the flush
 unfoldable pub flushTurns : ℕ → Board → Board

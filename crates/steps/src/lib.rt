@@ -5,3 +5,4 @@ pub mod fuse;
 pub mod power;
 pub mod records;
 pub mod replay;
+pub mod state;

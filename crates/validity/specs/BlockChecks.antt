@@ -1,12 +1,12 @@
--- The test of a block in the check's own order: first its fixed fields, its counts and all its frames, then its records, which are found
--- by one index through the three logs. Assumes nothing.
+-- The test of a block in the check's own order: first its fixed fields, its counts and all its frames, then its records, at each
+-- index those of the three logs. Assumes nothing.
 use mathlib.Core.Path.{_≡_, refl, sym}
-use Prim.Native.Nat.{ℕ, zero, suc, _+_, _-_, _*_, _≤_, _<_}
+use Prim.Native.Nat.{ℕ, zero, suc, max, _+_, _*_, _≤_, _<_}
 use native.Mathlib.Omega.{arith}
-use mathlib.Core.Bool.{Bool, true, false, _&&_, and-assoc, and-comm, and-false}
+use mathlib.Core.Bool.{Bool, true, false, not, _&&_, _||_, and-assoc, and-comm, and-false}
 use mathlib.Core.List.{List}
 use lib.Dec.{ltb, leb}
-use borrow.Author.Tests.{leb-true, lt-ltb, le-ltb}
+use borrow.Author.Tests.{leb-true}
 use Rattle.types.specs.declared.State.the-variants.{Replaying}
 use Rattle.model.specs.Definitions.Layout.{slotCount, frameSize, slotSize, slotsSize, stateAt, selectorAt, volatileCountAt, framesAt, slotsAt, areaAt, areaSize, areaCountAt, areaFramesAt, areaSlotsAt, blockSize}
 use Rattle.model.specs.Definitions.Parts.{part, byteAt, everyBelow}
@@ -14,7 +14,7 @@ use Rattle.model.specs.Definitions.Codec.{stateByte, selectorByte}
 use Rattle.model.specs.Definitions.WellFormed.{framesValid, slotValid, logValid, areaValid, blockReadable}
 use Rattle.model.specs.Laws.Logic.{and-left, and-right}
 use Rattle.model.specs.Laws.Parts.{part-part, byteAt-part}
-use Rattle.validity.specs.Search.{below-same, below-add, and-under}
+use Rattle.validity.specs.Search.{below-same, below-and, below-short, and-under}
 
 -- ---- counts and frames
 
@@ -68,64 +68,52 @@ fieldsValid pages l =
 unfoldable pub recordsAt : ℕ → ℕ → ℕ → List ℕ → Bool
 recordsAt pages count a l = everyBelow count (λ i. slotValid pages (part l (a + i * slotSize) slotSize))
 
--- how many records a block holds, and where each stands: first the volatile ones, then area 0's, then area 1's
-unfoldable pub recordCount : ℕ → List ℕ → ℕ
-recordCount pages l = byteAt l volatileCountAt + (storedCount pages 0 l + storedCount pages 1 l)
+-- the slot of an index in the log that starts at a place: a record if the log reaches so far
+unfoldable pub recordValid : ℕ → ℕ → ℕ → List ℕ → ℕ → Bool
+recordValid pages a count l i = not (ltb i count) || slotValid pages (part l (a + i * slotSize) slotSize)
 
-unfoldable pub recordAt : ℕ → List ℕ → ℕ → ℕ
-recordAt pages l j =
-    let v : ℕ = byteAt l volatileCountAt in
-    let s : ℕ = storedCount pages 0 l in
-    elim (ltb j v) [
-      | true ↦ slotsAt pages + j * slotSize
-      | false ↦
-          elim (ltb j (v + s)) [
-            | true ↦ areaAt pages 0 + areaSlotsAt pages + (j - v) * slotSize
-            | false ↦ areaAt pages 1 + areaSlotsAt pages + (j - (v + s)) * slotSize
-          ]
-    ]
+unfoldable pub storedValid : ℕ → ℕ → List ℕ → ℕ → Bool
+storedValid pages area l i = recordValid pages (areaAt pages area + areaSlotsAt pages) (storedCount pages area l) l i
+
+-- the slots of an index in all three logs
+unfoldable pub slotsValid : ℕ → List ℕ → ℕ → Bool
+slotsValid pages l i =
+    recordValid pages (slotsAt pages) (byteAt l volatileCountAt) l i && (storedValid pages 0 l i && storedValid pages 1 l i)
+
+-- how many records the longest log holds
+unfoldable pub longestLog : ℕ → List ℕ → ℕ
+longestLog pages l = max (byteAt l volatileCountAt) (max (storedCount pages 0 l) (storedCount pages 1 l))
 
 unfoldable pub recordsValid : ℕ → List ℕ → Bool
-recordsValid pages l = everyBelow (recordCount pages l) (λ j. slotValid pages (part l (recordAt pages l j) slotSize))
+recordsValid pages l = everyBelow (longestLog pages l) (slotsValid pages l)
 
--- which log an index falls into
-module _ (pages : ℕ) (l : List ℕ) (j : ℕ) where
-  pub first-log : j < byteAt l volatileCountAt → recordAt pages l j ≡ slotsAt pages + j * slotSize
-  unfolding recordAt
-  first-log h = cc (lt-ltb j (byteAt l volatileCountAt) h)
+pub longest-few : (pages : ℕ) (l : List ℕ) → countsValid pages l ≡ true → longestLog pages l ≤ slotCount
+unfolding longestLog
+longest-few pages l h = let counts = counts-say pages l h in omega arith
 
-  pub second-log : byteAt l volatileCountAt ≤ j → j < byteAt l volatileCountAt + storedCount pages 0 l
-      → recordAt pages l j ≡ areaAt pages 0 + areaSlotsAt pages + (j - byteAt l volatileCountAt) * slotSize
-  unfolding recordAt
-  second-log h k = cc (le-ltb j (byteAt l volatileCountAt) h, lt-ltb j (byteAt l volatileCountAt + storedCount pages 0 l) k)
+-- one log, tested up to where the longest one ends
+log-alone : (pages a count n : ℕ) (l : List ℕ) → count ≤ n → everyBelow n (recordValid pages a count l) ≡ recordsAt pages count a l
+unfolding recordValid recordsAt
+log-alone pages a count n l h = below-short n count (λ i. slotValid pages (part l (a + i * slotSize) slotSize)) h
 
-  pub third-log : byteAt l volatileCountAt + storedCount pages 0 l ≤ j
-      → recordAt pages l j ≡ areaAt pages 1 + areaSlotsAt pages + (j - (byteAt l volatileCountAt + storedCount pages 0 l)) * slotSize
-  unfolding recordAt
-  third-log h =
-      cc (le-ltb j (byteAt l volatileCountAt) (omega arith), le-ltb j (byteAt l volatileCountAt + storedCount pages 0 l) h)
-
--- one index through three logs
+-- all logs together are each log alone
 records-split : (pages : ℕ) (l : List ℕ)
     → recordsValid pages l
     ≡ (recordsAt pages (byteAt l volatileCountAt) (slotsAt pages) l
     && (recordsAt pages (storedCount pages 0 l) (areaAt pages 0 + areaSlotsAt pages) l
     && recordsAt pages (storedCount pages 1 l) (areaAt pages 1 + areaSlotsAt pages) l))
-unfolding recordsValid recordsAt recordCount
+unfolding recordsValid slotsValid storedValid longestLog
 records-split pages l =
     let v : ℕ = byteAt l volatileCountAt in
     let s : ℕ = storedCount pages 0 l in
     let t : ℕ = storedCount pages 1 l in
-    let f : ℕ → Bool = λ j. slotValid pages (part l (recordAt pages l j) slotSize) in
-    let at : ℕ → ℕ → Bool = λ a i. slotValid pages (part l (a + i * slotSize) slotSize) in
+    let n : ℕ = max v (max s t) in
     rw (
-      below-add v (s + t) f,
-      below-add s t (λ i. f (v + i)),
-      below-same v f (at (slotsAt pages)) (λ i h. rw (first-log pages l i h)),
-      below-same s (λ i. f (v + i)) (at (areaAt pages 0 + areaSlotsAt pages))
-          (λ i h. let e : v + i - v ≡ i = omega arith in rw (second-log pages l (v + i) (omega arith) (omega arith), e)),
-      below-same t (λ i. f (v + (s + i))) (at (areaAt pages 1 + areaSlotsAt pages))
-          (λ i h. let e : v + (s + i) - (v + s) ≡ i = omega arith in rw (third-log pages l (v + (s + i)) (omega arith), e)),
+      below-and n (recordValid pages (slotsAt pages) v l) (λ i. storedValid pages 0 l i && storedValid pages 1 l i),
+      below-and n (storedValid pages 0 l) (storedValid pages 1 l),
+      log-alone pages (slotsAt pages) v n l (omega arith),
+      log-alone pages (areaAt pages 0 + areaSlotsAt pages) s n l (omega arith),
+      log-alone pages (areaAt pages 1 + areaSlotsAt pages) t n l (omega arith),
     )
 
 -- ---- the definition's tests, part by part

@@ -8,10 +8,10 @@ use mathlib.Core.List.{List, [], _∷_, _++_}
 use lib.ListN.{length, take, drop, take-append-drop, length-drop}
 use lib.Seq.{length-take-le, take-all}
 use lib.Dec.{eqb, ltb, leb}
-use borrow.Author.Tests.{ne-eqb}
+use borrow.Author.Tests.{ne-eqb, lt-ltb}
 use Rattle.words.specs.LittleEndian.{numberOf}
 use Rattle.types.specs.declared.Right.{Right}
-use Rattle.types.specs.declared.Right.the-variants.{None}
+use Rattle.types.specs.declared.Right.the-variants.{None, Copy, Own}
 use Rattle.types.specs.declared.Frame.{Frame}
 use Rattle.types.specs.declared.State.{State}
 use Rattle.types.specs.declared.State.the-variants.{Up, Down, Replaying}
@@ -47,6 +47,25 @@ by-state Replaying x rest = sym (and-assoc (ltb (x .working .place) (length (x .
 -- "an up board's rights agree with the directory"; "a board not up is in no copy-set": of one page
 unfoldable pub agrees : Bool → Right → Entry → ℕ → Bool
 agrees up r e b = elim up [ true ↦ sameRight r (rightIn e b) | false ↦ not (member b (e .copies)) ]
+
+-- a right by the byte that stands for it
+pub none-test : (b : ℕ) → eqb b 0 ≡ sameRight (rightOf b) None
+unfolding rightOf sameRight rightByte
+none-test zero = refl
+none-test (suc zero) = refl
+none-test (suc (suc n)) = ne-eqb (suc (suc n)) 0 (λ e. omega arith)
+
+pub copy-test : (b : ℕ) → eqb b 1 ≡ sameRight (rightOf b) Copy
+unfolding rightOf sameRight rightByte
+copy-test zero = refl
+copy-test (suc zero) = refl
+copy-test (suc (suc n)) = ne-eqb (suc (suc n)) 1 (λ e. omega arith)
+
+pub own-test : (b : ℕ) → ltb 1 b ≡ sameRight (rightOf b) Own
+unfolding rightOf sameRight rightByte
+own-test zero = refl
+own-test (suc zero) = refl
+own-test (suc (suc n)) = lt-ltb 1 (suc (suc n)) (omega arith)
 
 and-last : (a b c d : Bool) → (a && (b && (c && d))) ≡ ((a && (b && c)) && d)
 and-last a b c d = simp and-assoc

@@ -4,16 +4,18 @@ use mathlib.Core.Path.{_≡_, refl, sym, _∙_}
 use Prim.Native.Nat.{ℕ, zero, suc, _+_, _-_, _*_, _≤_, _<_}
 use native.Mathlib.Nat.{zero-add}
 use native.Mathlib.Omega.{arith}
-use mathlib.Core.Bool.{Bool, true, false, _&&_, not}
-use mathlib.Core.List.{List, [], _∷_}
+use mathlib.Core.Bool.{Bool, true, false, _&&_, _||_, not, and-assoc}
+use mathlib.Core.List.{List, [], _∷_, _++_}
 use lib.ListN.{length, getD}
 use lib.Dec.{eqb, ltb}
-use borrow.Author.Tests.{ltb-true, ltb-false, ne-eqb}
+use borrow.Author.Tests.{ltb-true, lt-ltb, ne-eqb}
+use Rattle.words.specs.LittleEndian.{numberOf}
+use Rattle.model.specs.Definitions.Layout.{pageSize}
 use Rattle.model.specs.Definitions.Parts.{part, byteAt, every, everyFrom, everyBelow, decodeAll}
 use Rattle.model.specs.Definitions.WellFormed.{isZero}
 use Rattle.model.specs.Laws.Logic.{clash, byBool, byEq, and-left, and-right, and-both}
 use Rattle.model.specs.Laws.Lists.{everyBelow-at, everyBelow-all}
-use Rattle.model.specs.Laws.Parts.{length-part, getD-part, length-decodeAll, getD-decodeAll}
+use Rattle.model.specs.Laws.Parts.{length-part, part-join, getD-part, length-decodeAll, getD-decodeAll}
 
 -- two tests that pass together are one
 pub same-test : (a b : Bool) → (a ≡ true → b ≡ true) → (b ≡ true → a ≡ true) → a ≡ b
@@ -80,22 +82,17 @@ below-and n f g =
     (everyBelow-at n i f (and-left (everyBelow n f) (everyBelow n g) h) l)
     (everyBelow-at n i g (and-right (everyBelow n f) (everyBelow n g) h) l)))
 
-pub below-add : (n m : ℕ) (f : ℕ → Bool) → everyBelow (n + m) f ≡ (everyBelow n f && everyBelow m (λ i. f (n + i)))
-below-add n m f =
-    same-test (everyBelow (n + m) f) (everyBelow n f && everyBelow m (λ i. f (n + i)))
+-- indices at or past a count pass
+pub below-short : (n count : ℕ) (f : ℕ → Bool) → count ≤ n → everyBelow n (λ i. not (ltb i count) || f i) ≡ everyBelow count f
+below-short n count f k =
+    same-test (everyBelow n (λ i. not (ltb i count) || f i)) (everyBelow count f)
+    (λ h. everyBelow-all count f (λ i l. rw (lt-ltb i count l) at (everyBelow-at n i (λ j. not (ltb j count) || f j) h (omega arith))))
     (λ h.
-    and-both
-    (everyBelow-all n f (λ i l. everyBelow-at (n + m) i f h (omega arith)))
-    (everyBelow-all m (λ i. f (n + i)) (λ i l. everyBelow-at (n + m) (n + i) f h (omega arith))))
-    (λ h.
-    everyBelow-all (n + m) f
-    (λ j l.
-    byBool (ltb j n)
-    (λ t. everyBelow-at n j f (and-left (everyBelow n f) (everyBelow m (λ i. f (n + i))) h) (ltb-true j n t))
-    (λ t.
-    let k : n ≤ j = ltb-false j n t in
-    let e : n + (j - n) ≡ j = omega arith in
-    rw e at (everyBelow-at m (j - n) (λ i. f (n + i)) (and-right (everyBelow n f) (everyBelow m (λ i. f (n + i))) h) (omega arith)))))
+    everyBelow-all n (λ i. not (ltb i count) || f i)
+    (λ i l.
+    byBool (ltb i count)
+    (λ t. rw t (everyBelow-at count i f h (ltb-true i count t)))
+    (λ t. rw t)))
 
 -- a test that is made only where an earlier one passed
 pub and-under : (a : Bool) {b c : Bool} → (a ≡ true → b ≡ c) → (a && b) ≡ (a && c)
@@ -128,6 +125,40 @@ unfolding isZero byteAt
 zero-below l a n h =
     every-below (λ b. eqb b 0) 0 (part l a n) n (length-part l a n h)
     ∙ below-same n (λ i. eqb (getD (part l a n) i 0) 0) (λ i. eqb (getD l (a + i) 0) 0) (λ i m. rw (getD-part l a n i 0 m))
+
+times-zero : (n : ℕ) → eqb (256 * n) 0 ≡ eqb n 0
+times-zero n =
+    byEq n 0
+    (λ e. rw e)
+    (λ h. rw (ne-eqb n 0 h) (ne-eqb (256 * n) 0 (λ e. h (omega arith))))
+
+-- a number is zero where its bytes are
+number-zero : (l : List ℕ) → eqb (numberOf l) 0 ≡ isZero l
+unfolding numberOf isZero every
+number-zero [] = refl
+number-zero (b ∷ bs) = rw (sum-zero b (256 * numberOf bs), times-zero (numberOf bs), number-zero bs)
+
+zero-append : (k l : List ℕ) → isZero (k ++ l) ≡ (isZero k && isZero l)
+unfolding isZero every
+zero-append [] l = refl
+zero-append (b ∷ bs) l = simp (zero-append bs l, and-assoc)
+
+-- zero bytes tested by a number that stands before the rest of them
+zero-front : (l : List ℕ) (a b n m : ℕ) → a + n ≡ b → isZero (part l a (n + m)) ≡ (eqb (numberOf (part l a n)) 0 && isZero (part l b m))
+zero-front l a b n m e = rw (← e, number-zero (part l a n), ← part-join l a n m) (zero-append (part l a n) (part l (a + n) m))
+
+-- a page is zero where the sum of its four words is
+pub zero-words : (l : List ℕ) (a : ℕ)
+    → isZero (part l a pageSize)
+    ≡ eqb (numberOf (part l a 4) + numberOf (part l (a + 4) 4) + (numberOf (part l (a + 8) 4) + numberOf (part l (a + 12) 4))) 0
+zero-words l a =
+    rw (
+      zero-front l a (a + 4) 4 12 (omega arith),
+      zero-front l (a + 4) (a + 8) 4 8 (omega arith),
+      zero-front l (a + 8) (a + 12) 4 4 (omega arith),
+      ← number-zero (part l (a + 12) 4),
+    )
+    (simp (sum-zero, and-assoc))
 
 -- elements of one width that stand side by side
 pub read-below : {A : Type 0} (f : A → Bool) (dec : List ℕ → A) (w n : ℕ) (l : List ℕ)

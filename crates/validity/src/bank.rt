@@ -20,12 +20,12 @@ use format::layout::block_size;
 use format::layout::slots_at;
 ghost use mathlib.Core.Path.{_≡_};
 ghost use mathlib.Core.Bool.{true};
-ghost use Prim.Native.Nat.{_+_, _*_, _≤_, _<_};
+ghost use Prim.Native.Nat.{max, _+_, _≤_, _<_};
 ghost use lib.ListN.{length};
-ghost use Rattle.model.specs.Definitions.Parts.{part, everyBelow};
-ghost use Rattle.model.specs.Definitions.Layout.{mostBoards, mostPages, slotSize, blockSize, bankSize};
-ghost use Rattle.model.specs.Definitions.WellFormed.{slotValid, headValid, wellFormed};
-ghost use Rattle.validity.specs.BlockChecks.{countsValid, recordCount, recordAt, recordsValid};
+ghost use Rattle.model.specs.Definitions.Parts.{everyBelow};
+ghost use Rattle.model.specs.Definitions.Layout.{mostBoards, mostPages, slotCount, slotsSize, blockSize, bankSize};
+ghost use Rattle.model.specs.Definitions.WellFormed.{headValid, wellFormed};
+ghost use Rattle.validity.specs.BlockChecks.{countsValid, longestLog, recordValid, storedValid, slotsValid, recordsValid};
 ghost use Rattle.validity.specs.BankChecks.{inRange, directoryOf, blockOfPages, blockFits};
 
 // ---- the head
@@ -98,39 +98,55 @@ fn blocks_fit(bank: &[u8], boards: usize, pages: usize) -> bool
 
 // ---- records
 
-// How many records a block holds, in its three logs.
-fn record_count(block: &[u8], pages: usize) -> usize
-    requires { ⌜ (length (now block) ≡ blockSize pages) × (pages ≤ mostPages) ⌝ }
-    ensures { λ r. ⌜ r ≡ recordCount pages (now (block .entry)) ⌝ }
+fn larger(a: usize, b: usize) -> usize
+    ensures { λ r. ⌜ r ≡ max a b ⌝ }
 {
-    wide(read_volatile_count(block))
-        + (stored_count(block, pages, 0) + stored_count(block, pages, 1))
+    if a < b { b } else { a }
 }
 
-// Where the record of an index stands: first come the volatile ones, then area 0's, then area 1's.
-fn record_at(block: &[u8], pages: usize, index: usize) -> usize
-    requires { ⌜ (length (now block) ≡ blockSize pages) × (pages ≤ mostPages) × (countsValid pages (now block) ≡ true) × (index < recordCount pages (now block)) ⌝ }
-    ensures place { λ r. ⌜ r ≡ recordAt pages (now (block .entry)) index ⌝ }
-    ensures within { λ r. ⌜ r + slotSize ≤ blockSize pages ⌝ }
+// How many records the longest of a block's three logs holds.
+fn longest_log(block: &[u8], pages: usize) -> usize
+    requires { ⌜ (length (now block) ≡ blockSize pages) × (pages ≤ mostPages) ⌝ }
+    ensures { λ r. ⌜ r ≡ longestLog pages (now (block .entry)) ⌝ }
+{
+    let stored = larger(stored_count(block, pages, 0), stored_count(block, pages, 1));
+    larger(wide(read_volatile_count(block)), stored)
+}
+
+// The slot of an index in the log that starts at a place, if the log has a record there.
+fn record_valid(block: &[u8], pages: usize, at: usize, count: usize, index: usize) -> bool
+    requires { ⌜ (at + slotsSize ≤ length (now block)) × (index < slotCount) ⌝ }
+    ensures { λ r. ⌜ r ≡ recordValid pages at count (now (block .entry)) index ⌝ }
+{
+    if count <= index {
+        return true;
+    }
+    let a = at + index * SLOT_SIZE;
+    slot_valid(&block[a..a + SLOT_SIZE], pages)
+}
+
+// The same of an area's log.
+fn stored_valid(block: &[u8], pages: usize, area: usize, index: usize) -> bool
+    requires { ⌜ (length (now block) ≡ blockSize pages) × (pages ≤ mostPages) × (area < 2) × (index < slotCount) ⌝ }
+    ensures { λ r. ⌜ r ≡ storedValid pages area (now (block .entry)) index ⌝ }
+{
+    let at = area_at(pages, area) + area_slots_at(pages);
+    record_valid(block, pages, at, stored_count(block, pages, area), index)
+}
+
+// The slots of an index in all three logs.
+fn slots_valid(block: &[u8], pages: usize, index: usize) -> bool
+    requires { ⌜ (length (now block) ≡ blockSize pages) × (pages ≤ mostPages) × (index < slotCount) ⌝ }
+    ensures { λ r. ⌜ r ≡ slotsValid pages (now (block .entry)) index ⌝ }
 {
     let volatile = wide(read_volatile_count(block));
-    if index < volatile {
-        return slots_at(pages) + index * SLOT_SIZE;
+    if !record_valid(block, pages, slots_at(pages), volatile, index) {
+        return false;
     }
-    let first = volatile + stored_count(block, pages, 0);
-    if index < first {
-        return area_at(pages, 0) + area_slots_at(pages) + (index - volatile) * SLOT_SIZE;
+    if !stored_valid(block, pages, 0, index) {
+        return false;
     }
-    area_at(pages, 1) + area_slots_at(pages) + (index - first) * SLOT_SIZE
-}
-
-// The record of an index is valid, whichever log it stands in.
-fn record_valid(block: &[u8], pages: usize, index: usize) -> bool
-    requires { ⌜ (length (now block) ≡ blockSize pages) × (pages ≤ mostPages) × (countsValid pages (now block) ≡ true) × (index < recordCount pages (now block)) ⌝ }
-    ensures { λ r. ⌜ r ≡ slotValid pages (part (now (block .entry)) (recordAt pages (now (block .entry)) index) slotSize) ⌝ }
-{
-    let a = record_at(block, pages, index);
-    slot_valid(&block[a..a + SLOT_SIZE], pages)
+    stored_valid(block, pages, 1, index)
 }
 
 // "The search for a malformed slot, board by board and slot by slot, ends at the first": whether it comes to its end.
@@ -143,10 +159,10 @@ fn records_valid(bank: &[u8], boards: usize, pages: usize) -> bool
     'search: while board < boards {
         let a = block_at(pages, board);
         let block = &bank[a..a + size];
-        let records = record_count(block, pages);
+        let slots = longest_log(block, pages);
         let mut index = 0;
-        while index < records {
-            if !record_valid(block, pages, index) {
+        while index < slots {
+            if !slots_valid(block, pages, index) {
                 break 'search;
             }
             index += 1;

@@ -5,8 +5,6 @@ use crate::parts::wide;
 use crate::parts::zero_run;
 use fields::bytes::get;
 use fields::copies::holds;
-use fields::frame::right_byte;
-use fields::frame::right_of;
 use fields::widths::FRAME_SIZE;
 use fields::widths::SLOT_COUNT;
 use format::block::read_fuse;
@@ -35,7 +33,7 @@ ghost use lib.ListN.{length};
 ghost use Rattle.model.specs.Definitions.Parts.{byteAt};
 ghost use Rattle.model.specs.Definitions.Layout.{mostBoards, mostPages, byteValues, entrySize, frameSize, areaCountAt, blockSize};
 ghost use Rattle.model.specs.Definitions.Codec.{decodeEntry, decodeBoard, rightOf};
-ghost use Rattle.model.specs.Definitions.WellFormed.{isBlank, rightIn};
+ghost use Rattle.model.specs.Definitions.WellFormed.{isBlank, rightIn, sameRight};
 ghost use Rattle.format.specs.Areas.{selectedAt};
 ghost use Rattle.validity.specs.BlockChecks.{storedCount, countsValid, framesValidAt, allFramesValid, fieldsValid};
 ghost use Rattle.validity.specs.BoardChecks.{stateValid, boardValid, agrees, pagesAgree};
@@ -191,13 +189,24 @@ pub fn right_in(entry: &[u8], board: usize) -> Right
     Right::None
 }
 
+// Whether a byte stands for a right, by the right's one comparison: a frame's byte is not made a right first.
+fn stands_for(b: u8, right: Right) -> bool
+    ensures { λ r. ⌜ r ≡ sameRight (rightOf b) right ⌝ }
+{
+    match right {
+        Right::None => b == 0,
+        Right::Copy => b == 1,
+        Right::Own => 1 < b,
+    }
+}
+
 // An up board's right is the directory's; another board has no copy.
 fn page_agrees(entry: &[u8], right: u8, up: bool, board: usize) -> bool
     requires { ⌜ (length (now entry) ≡ entrySize) × (board < mostBoards) ⌝ }
     ensures { λ r. ⌜ r ≡ agrees up (rightOf right) (decodeEntry (now (entry .entry))) board ⌝ }
 {
     if up {
-        return right_byte(right_of(right)) == right_byte(right_in(entry, board));
+        return stands_for(right, right_in(entry, board));
     }
     !holds(board, entry[COPIES_AT])
 }

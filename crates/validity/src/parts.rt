@@ -1,11 +1,12 @@
 // Tests of the small parts of a bank, each on its own bytes: a page, a frame, a slot, a directory entry.
+use fields::bytes::get_u32;
 use fields::copies::holds;
 use fields::frame::right_byte;
 use fields::widths::FRAME_BYTES_AT;
 use fields::widths::FRAME_SIZE;
 use fields::widths::MARK0_AT;
 use fields::widths::MARK1_AT;
-use fields::widths::PAGE_SIZE;
+use fields::widths::NUMBER_SIZE;
 use fields::widths::RIGHT_AT;
 use fields::widths::SLOT_BYTES_AT;
 use fields::widths::SLOT_PAGE_AT;
@@ -17,10 +18,12 @@ use types::Right;
 ghost use mathlib.Core.Path.{_≡_};
 ghost use Prim.Native.Nat.{_+_, _*_, _≤_, _<_};
 ghost use lib.ListN.{length};
+ghost use Rattle.words.specs.LittleEndian.{numberOf};
 ghost use Rattle.model.specs.Definitions.Parts.{part, every, decodeAll};
-ghost use Rattle.model.specs.Definitions.Layout.{mostBoards, mostPages, byteValues, entrySize, frameSize, slotSize};
+ghost use Rattle.model.specs.Definitions.Layout.{mostBoards, mostPages, byteValues, lastNumber, numberSize, entrySize, pageSize, frameSize, slotSize};
 ghost use Rattle.model.specs.Definitions.Codec.{decodeEntry};
-ghost use Rattle.model.specs.Definitions.WellFormed.{isZero, frameValid, framesValid, isMark, slotValid, entryValid};
+ghost use Rattle.model.specs.Definitions.WellFormed.{isZero, frameValid, framesValid, slotValid, entryValid};
+ghost use Rattle.validity.specs.PartChecks.{gotMark, bareMark, markFits};
 
 // A byte as a number that counts or indexes.
 pub fn wide(b: u8) -> usize
@@ -43,6 +46,24 @@ pub fn zero_run(s: &[u8], at: usize, n: usize) -> bool
     sum == 0
 }
 
+// The word at a place.
+fn word(s: &[u8], at: usize) -> u64
+    requires { ⌜ at + numberSize ≤ length (now s) ⌝ }
+    ensures { λ r. ⌜ (r ≡ numberOf (part (now (s .entry)) at numberSize)) × (r ≤ lastNumber) ⌝ }
+{
+    get_u32(s, at) as u64
+}
+
+// The page at a place is zero: the sum of its four words is, which takes four loads and one branch.
+pub fn zero_page(s: &[u8], at: usize) -> bool
+    requires { ⌜ at + pageSize ≤ length (now s) ⌝ }
+    ensures { λ r. ⌜ r ≡ isZero (part (now (s .entry)) at pageSize) ⌝ }
+{
+    let front = word(s, at) + word(s, at + NUMBER_SIZE);
+    let back = word(s, at + 2 * NUMBER_SIZE) + word(s, at + 3 * NUMBER_SIZE);
+    front + back == 0
+}
+
 // A frame's right is in range, and its page zero under right none.
 pub fn frame_valid(frame: &[u8]) -> bool
     requires { ⌜ length (now frame) ≡ frameSize ⌝ }
@@ -55,7 +76,7 @@ pub fn frame_valid(frame: &[u8]) -> bool
     if right != right_byte(Right::None) {
         return true;
     }
-    zero_run(frame, FRAME_BYTES_AT, PAGE_SIZE)
+    zero_page(frame, FRAME_BYTES_AT)
 }
 
 // Every frame of a run of frames.
@@ -74,23 +95,53 @@ pub fn frames_valid(frames: &[u8], pages: usize) -> bool
     true
 }
 
-// Two letters are one of the four marks.
-pub fn is_mark(m0: u8, m1: u8) -> bool
-    ensures { λ r. ⌜ r ≡ isMark m0 m1 ⌝ }
+// The marks as numbers, the first letter lowest: "GC", "GO", "SH", "DR".
+const GOT_COPY: usize = 17223;
+
+const GOT_OWN: usize = 20295;
+
+const SHOWN: usize = 18515;
+
+const DROPPED: usize = 21060;
+
+// Two letters as one number, so that a mark takes one comparison.
+fn mark(m0: u8, m1: u8) -> usize
+    ensures { λ r. ⌜ (r ≡ m0 + 256 * m1) × (m0 < byteValues) ⌝ }
 {
-    if m0 == b'G' {
-        if m1 == b'C' {
-            return true;
-        }
-        return m1 == b'O';
+    wide(m0) + 256 * wide(m1)
+}
+
+fn got_mark(m0: u8, m1: u8) -> bool
+    ensures { λ r. ⌜ r ≡ gotMark m0 m1 ⌝ }
+{
+    let m = mark(m0, m1);
+    if m == GOT_COPY {
+        return true;
     }
-    if m0 == b'S' {
-        return m1 == b'H';
+    m == GOT_OWN
+}
+
+fn bare_mark(m0: u8, m1: u8) -> bool
+    ensures { λ r. ⌜ r ≡ bareMark m0 m1 ⌝ }
+{
+    let m = mark(m0, m1);
+    if m == SHOWN {
+        return true;
     }
-    if m0 == b'D' {
-        return m1 == b'R';
+    m == DROPPED
+}
+
+// Two letters are one of the four marks, and the page under a mark that is no got is zero.
+fn mark_fits(m0: u8, m1: u8, zero: bool) -> bool
+    ensures { λ r. ⌜ r ≡ markFits m0 m1 zero ⌝ }
+{
+    if got_mark(m0, m1) {
+        return true;
     }
-    false
+    if !zero {
+        return false;
+    }
+    bare_mark(m0, m1)
 }
 
 // A slot below a count holds a record: a mark, a page of the bank, the zero byte, and no page bytes unless it is a got.
@@ -98,20 +149,14 @@ pub fn slot_valid(slot: &[u8], pages: usize) -> bool
     requires { ⌜ length (now slot) ≡ slotSize ⌝ }
     ensures { λ r. ⌜ r ≡ slotValid pages (now (slot .entry)) ⌝ }
 {
-    let m0 = slot[MARK0_AT];
-    if !is_mark(m0, slot[MARK1_AT]) {
+    let zero = zero_page(slot, SLOT_BYTES_AT);
+    if !mark_fits(slot[MARK0_AT], slot[MARK1_AT], zero) {
         return false;
     }
     if pages <= wide(slot[SLOT_PAGE_AT]) {
         return false;
     }
-    if slot[SLOT_ZERO_AT] != 0 {
-        return false;
-    }
-    if m0 == b'G' {
-        return true;
-    }
-    zero_run(slot, SLOT_BYTES_AT, PAGE_SIZE)
+    slot[SLOT_ZERO_AT] == 0
 }
 
 // A directory entry names a board of the bank, and copy holders that are boards and not the owner.

@@ -21,10 +21,10 @@ use Rattle.model.specs.Laws.Parts.{part-part, part-encodeAll, index-in, 
 use Rattle.model.specs.Laws.Codec.{length-encodeEntry, decode-encodeEntry}
 use Rattle.model.specs.Laws.CodecBank.{bank-pages, bank-directory, length-encodeBoard, length-encode, decode-encode}
 use Rattle.model.specs.Laws.CodecBankBack.{decode-boards, decode-pages, encode-decode}
-use Rattle.model.specs.Laws.CodecAt.{encode-onBoard, encode-onEntry}
+use Rattle.model.specs.Laws.CodecAt.{encode-onBoard}
 use Rattle.model.specs.Laws.WellFormedTest.{wellFormed-sound, bank-block, fields-of}
 use Rattle.model.specs.Laws.Boards.{update-out, boardAt-out, boardAt-same, onBoard-onBoard}
-use Rattle.model.specs.Laws.Runs.{SameSizes, lost-not, store-cases}
+use Rattle.model.specs.Laws.Runs.{lost-not, store-cases}
 use Rattle.model.specs.Laws.Keeps.Stores.{frameOk-empty}
 use Rattle.model.specs.Laws.Keeps.Accesses.{frameOk-at}
 
@@ -49,19 +49,12 @@ module _ (k : Bank) where
   pub isBank-encode : Fields k → SizesOk (length (k .boards)) (length (k .directory)) → IsBank (encode k)
   isBank-encode ok z = let e : decode (encode k) ≡ k = decode-encode k ok in record { back = ap encode e; fields = rw e ok; sizes = rw e z }
 
-  pub isBank-wellFormed : WellFormed k → IsBank (encode k)
-  isBank-wellFormed w = isBank-encode (fields-of k w) (w .sizes)
-
   pub fields-at : Fields k → (b : ℕ) → b < length (k .boards) → FieldsOk (length (k .directory)) (boardAt k b)
   unfolding boardAt
   fields-at ok b h = each-getD (k .boards) b noBoard ok h
 
 pub isBank-length : (s : List ℕ) → IsBank s → length s ≡ bankSize (length (decode s .boards)) (length (decode s .directory))
 isBank-length s ok = rw (ok .back) at (length-encode (decode s) (ok .fields))
-
--- a step keeps the sizes, and so the bytes that it leaves are those of a bank
-pub isBank-next : {k j : Bank} → SameSizes k j → SizesOk (length (k .boards)) (length (k .directory)) → Fields j → IsBank (encode j)
-isBank-next {j = j} s z ok = isBank-encode j ok (rw (s .boards, s .pages) z)
 
 -- ---- where boards and entries stand
 
@@ -93,14 +86,6 @@ module _ (k : Bank) (ok : Fields k) (b : ℕ) (f : Board → Board) where
       let pages : ℕ = length (k .directory) in
       encode-onBoard k b f h (each-imp (k .boards) (length-encodeBoard pages) ok) (length-encodeBoard pages (f (boardAt k b)) v)
 
-  -- the same where the block is taken as its own part of the bank and changed there
-  pub encode-board-part : (g : List ℕ → List ℕ) → b < length (k .boards) → FieldsOk (length (k .directory)) (f (boardAt k b))
-      → g (encodeBoard (boardAt k b)) ≡ encodeBoard (f (boardAt k b))
-      → encode (onBoard b f k)
-      ≡ splice (encode k) (blocksAt (length (k .directory)) + b * blockSize (length (k .directory)))
-      (g (part (encode k) (blocksAt (length (k .directory)) + b * blockSize (length (k .directory))) (blockSize (length (k .directory)))))
-  encode-board-part g h v e = encode-board h v ∙ rw (block-part k ok b h, e)
-
   pub onBoard-fields : (b < length (k .boards) → FieldsOk (length (k .directory)) (f (boardAt k b))) → Fields (onBoard b f k)
   unfolding onBoard boardAt
   onBoard-fields v =
@@ -128,22 +113,6 @@ module _ (s : List ℕ) (ok : IsBank s) where
   pub isBank-block : (b : ℕ) → b < byteAt s boardsAt
       → part s (blocksAt (byteAt s pagesAt) + b * blockSize (byteAt s pagesAt)) (blockSize (byteAt s pagesAt)) ≡ encodeBoard (boardAt (decode s) b)
   isBank-block b h = rw (ok .back, decode-pages s) at (block-part (decode s) (ok .fields) b (rw (decode-boards s) h))
-
-  pub isBank-entry : (p : ℕ) → p < byteAt s pagesAt → part s (headSize + p * entrySize) entrySize ≡ encodeEntry (entryAt (decode s) p)
-  isBank-entry p h = rw (ok .back) at (entry-part (decode s) p (rw (decode-pages s) h))
-
-  pub isBank-board : (b : ℕ) → b < byteAt s boardsAt → FieldsOk (byteAt s pagesAt) (boardAt (decode s) b)
-  isBank-board b h = rw (decode-pages s) at (fields-at (decode s) (ok .fields) b (rw (decode-boards s) h))
-
-  pub isBank-onBoard : (b : ℕ) (f : Board → Board) → b < byteAt s boardsAt → FieldsOk (byteAt s pagesAt) (f (boardAt (decode s) b))
-      → encode (onBoard b f (decode s))
-      ≡ splice s (blocksAt (byteAt s pagesAt) + b * blockSize (byteAt s pagesAt)) (encodeBoard (f (boardAt (decode s) b)))
-  isBank-onBoard b f h v =
-      rw (ok .back, decode-pages s) at (encode-board (decode s) (ok .fields) b f (rw (decode-boards s) h) (rw (decode-pages s) v))
-
-  pub isBank-onEntry : (p : ℕ) (f : Entry → Entry) → p < byteAt s pagesAt
-      → encode (onEntry p f (decode s)) ≡ splice s (headSize + p * entrySize) (encodeEntry (f (entryAt (decode s) p)))
-  isBank-onEntry p f h = rw (ok .back) at (encode-onEntry (decode s) p f (rw (decode-pages s) h))
 
 -- ---- a store
 

@@ -22,7 +22,7 @@ use Rattle.model.specs.Definitions.WellFormed.{LogOk, FramesOk, FieldsOk
 use Rattle.model.specs.Laws.Lists.{each-imp, each-getD}
 use Rattle.model.specs.Laws.Parts.{length-splice, part-part, part-append-left, part-end, splice-append-left, splice-append-right, splice-front, splice-at, splice-amid, splice-behind, splice-within, splice-one, byteAt-part, index-in, part-encodeAll, encodeAll-set}
 use Rattle.model.specs.Laws.Codec.{length-encodeFrame, decode-encodeFrame, length-encodeFrames, length-encodeRecord, decode-encodeRecord, length-encodeRecords}
-use Rattle.model.specs.Laws.CodecBank.{length-encodeFixed, fixed-state, fixed-selector, fixed-fuse, fixed-number, fixed-since, fixed-place, fixed-volatile, board-fixed, board-byte, board-frames, board-slots, length-encodeBoard}
+use Rattle.model.specs.Laws.CodecBank.{length-encodeFixed, fixed-state, fixed-selector, fixed-fuse, fixed-number, fixed-since, fixed-place, board-fixed, board-byte, board-frames, board-slots, length-encodeBoard}
 use Rattle.model.specs.Laws.Keeps.Accesses.{frameOk-at}
 
 -- a splice of the whole list
@@ -172,9 +172,6 @@ module _ (pages : ℕ) (x : Board) (ok : FieldsOk pages x) where
 
   pub read-place : byteAt (encodeBoard x) placeAt ≡ x .working .place
   read-place = board-byte pages x ok placeAt (omega arith) ∙ fixed-place x
-
-  pub read-count : byteAt (encodeBoard x) volatileCountAt ≡ length (x .working .log .records)
-  read-count = board-byte pages x ok volatileCountAt (omega arith) ∙ fixed-volatile x
 
   -- ---- reading a frame: whole, its right, its bytes, one of them
 

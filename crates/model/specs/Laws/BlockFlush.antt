@@ -14,20 +14,18 @@ use Rattle.words.specs.Bytes.{Each}
 use Rattle.types.specs.declared.Kind.the-variants.{Shown}
 use Rattle.types.specs.declared.Record.{Record}
 use Rattle.model.specs.Definitions.Parts.{splice, zeros}
-use Rattle.model.specs.Definitions.Layout.{slotCount, slotSize, noFuse, volatileCountAt, slotsAt, areaCountAt, areaSlotsAt, areaAt}
-use Rattle.model.specs.Definitions.Bank.{Log, Area, Stable, Board, onWorking}
-use Rattle.model.specs.Definitions.Codec.{encodeRecord, selectorByte, encodeBoard}
+use Rattle.model.specs.Definitions.Layout.{slotCount, slotSize, noFuse, volatileCountAt, slotsAt}
+use Rattle.model.specs.Definitions.Bank.{Log, Area, Board, onWorking}
+use Rattle.model.specs.Definitions.Codec.{encodeBoard}
 use Rattle.model.specs.Definitions.WellFormed.{RecordOk, LogOk, AreaOk, FieldsOk, RoomOk}
-use Rattle.model.specs.Definitions.Steps.{poweredOff, withFuse, burnt, appended, movedRecord, storedRecord}
+use Rattle.model.specs.Definitions.Steps.{withFuse, burnt, appended, movedRecord, storedRecord}
 use Rattle.model.specs.Laws.Logic.{byBool, byEq}
-use Rattle.model.specs.Laws.Lists.{each-getD, each-append, each-drop, each-take}
+use Rattle.model.specs.Laws.Lists.{each-append, each-drop, each-take}
 use Rattle.model.specs.Laws.Fresh.{zeros-bytes, zeros-length}
-use Rattle.model.specs.Laws.Boards.{storedRecord-cases}
-use Rattle.model.specs.Laws.Runs.Stores.{Flushed, flushed-refl, flushed-trans, flushed-storedRecord}
 use Rattle.model.specs.Laws.BlockFields.{withLog, onWorking-fields}
-use Rattle.model.specs.Laws.BlockWorking.{flushedLog, flushedLog-none, next-record, next-working, poweredOff-log, flushed-bytes}
+use Rattle.model.specs.Laws.BlockWorking.{flushedLog, flushedLog-none, next-record, next-working, flushed-bytes}
 use Rattle.model.specs.Laws.BlockAreas.{withRecord}
-use Rattle.model.specs.Laws.BlockStable.{onSelected, withRecord-bytes, onSelected-fields}
+use Rattle.model.specs.Laws.BlockStable.{onSelected, onSelected-fields}
 
 -- ---- records appended
 
@@ -79,10 +77,6 @@ areaOk-records pages rs a ok v h =
 unfoldable pub flushing : ℕ → Board → Board
 flushing j x = onSelected (withRecords (take j (x .working .log .records))) x
 
-pub flushing-none : (x : Board) → flushing 0 x ≡ x
-unfolding flushing onSelected withRecords
-flushing-none x = rw (appendedAll-none (x .stable .selected .log))
-
 -- one record more behind those of the selected area
 pub flushing-next : (j : ℕ) (x : Board) (d : Record) → j < length (x .working .log .records)
     → onSelected (withRecord (getD (x .working .log .records) j d)) (flushing j x) ≡ flushing (suc j) x
@@ -103,22 +97,6 @@ module _ (pages : ℕ) (x : Board) (ok : FieldsOk pages x) (room : RoomOk x) whe
       let rs : List Record = x .working .log .records in
       onSelected-fields pages x ok (withRecords (take j rs))
       (areaOk-records pages (take j rs) (x .stable .selected) (ok .selected) (each-take j rs (ok .log .records)) (rw (length-take j rs) (omega arith)))
-
-  -- the next store: the record in the next slot, and the count one more
-  pub flushing-bytes : (j : ℕ) (d : Record) → j < length (x .working .log .records)
-      → splice
-      (splice (encodeBoard (flushing j x))
-      (areaAt pages (selectorByte (x .stable .second)) + (areaSlotsAt pages + (length (x .stable .selected .log .records) + j) * slotSize))
-      (encodeRecord (getD (x .working .log .records) j d)))
-      (areaAt pages (selectorByte (x .stable .second)) + areaCountAt) ((length (x .stable .selected .log .records) + j + 1) ∷ [])
-      ≡ encodeBoard (flushing (suc j) x)
-  unfolding flushing onSelected
-  flushing-bytes j d h =
-      let rs : List Record = x .working .log .records in
-      let y : Board = flushing j x in
-      let c : length (y .stable .selected .log .records) ≡ length (x .stable .selected .log .records) + j = flushing-count j x (omega arith) in
-      let v : RecordOk pages (getD rs j d) = each-getD rs j d (ok .log .records) h in
-      rw (c, flushing-next j x d h) at (withRecord-bytes pages y (flushing-fields j) (getD rs j d) v (rw c (omega arith)))
 
 -- ---- the board after j stores
 
@@ -145,54 +123,15 @@ storedRecords-parts (suc j) x h =
     ap (λ (z : Board). z .stable) n ∙ ap (λ (z : Board). z .stable) (flushing-next j x anyRecord h) in
     ap storedRecord (storedRecords-parts j x (omega arith)) ∙ (λ i. record { state = a i; fuse = f i; working = w i; stable = t i })
 
--- what a power loss can't touch: the first j records behind those of the selected area, spare area and selector as they were
-pub stable-storedRecords : (j : ℕ) (x : Board) → j ≤ length (x .working .log .records)
-    → storedRecords j x .stable
-    ≡ record {
-      second = x .stable .second;
-      selected = withRecords (take j (x .working .log .records)) (x .stable .selected);
-      spare = x .stable .spare;
-    }
-unfolding onWorking flushing onSelected
-stable-storedRecords j x h = ap (λ (y : Board). y .stable) (storedRecords-parts j x h)
-
 pub working-storedRecords : (j : ℕ) (x : Board) → j ≤ length (x .working .log .records)
     → storedRecords j x .working ≡ withLog (flushedLog j (x .working .log)) (x .working)
 unfolding onWorking flushing onSelected
 working-storedRecords j x h = ap (λ (y : Board). y .working) (storedRecords-parts j x h)
 
--- the next store appends the next record
-pub selected-next : (j : ℕ) (x : Board) (d : Record) → j < length (x .working .log .records)
-    → storedRecords (suc j) x .stable .selected ≡ withRecord (getD (x .working .log .records) j d) (storedRecords j x .stable .selected)
-selected-next j x d h =
-    let rs : List Record = x .working .log .records in
-    ap (λ (t : Stable). t .selected) (stable-storedRecords (suc j) x h) ∙ withRecords-next rs j d (x .stable .selected) h
-    ∙ ap (λ (t : Stable). withRecord (getD rs j d) (t .selected)) (sym (stable-storedRecords j x (omega arith)))
-
--- state, counters, frames and the order of the records are as they were, and so is the fuse
-pub flushed-storedRecords : (j : ℕ) (x : Board) → Flushed x (storedRecords j x)
-unfolding storedRecords
-flushed-storedRecords zero x = flushed-refl x
-flushed-storedRecords (suc j) x =
-    flushed-trans x (storedRecords j x) (storedRecord (storedRecords j x)) (flushed-storedRecords j x) (flushed-storedRecord (storedRecords j x))
-
-fuse-storedRecord : (x : Board) → storedRecord x .fuse ≡ x .fuse
-unfolding movedRecord
-fuse-storedRecord x = storedRecord-cases (λ y. y .fuse ≡ x .fuse) x (λ e. refl) (λ r rs e. refl)
-
-pub fuse-storedRecords : (j : ℕ) (x : Board) → storedRecords j x .fuse ≡ x .fuse
-unfolding storedRecords
-fuse-storedRecords zero x = refl
-fuse-storedRecords (suc j) x = fuse-storedRecord (storedRecords j x) ∙ fuse-storedRecords j x
-
 -- the bytes between the stores are those of this board with the volatile log of before the flush
 pub flushing-log : (j : ℕ) (x : Board) → j ≤ length (x .working .log .records) → onWorking (withLog (x .working .log)) (storedRecords j x) ≡ flushing j x
 unfolding onWorking withLog flushing onSelected
 flushing-log j x h = rw (storedRecords-parts j x h)
-
--- so a power loss amid the stores leaves what it would
-pub flushing-off : (j : ℕ) (x : Board) → j ≤ length (x .working .log .records) → poweredOff (flushing j x) ≡ poweredOff (storedRecords j x)
-flushing-off j x h = ap poweredOff (sym (flushing-log j x h)) ∙ poweredOff-log (x .working .log) (storedRecords j x)
 
 module _ (pages : ℕ) (x : Board) (ok : FieldsOk pages x) (room : RoomOk x) where
   -- behind the last store the slots of all volatile records are zero and the count is 0
@@ -277,13 +216,3 @@ pub storedBurnt-log : (j : ℕ) (x : Board) → x .fuse ≤ noFuse → j ≤ len
     → onWorking (withLog (x .working .log)) (storedBurnt j x) ≡ withFuse (fuseAfter j (x .fuse)) (flushing j x)
 unfolding onWorking withFuse
 storedBurnt-log j x f h = rw (storedBurnt-parts j x f) (ap (withFuse (fuseAfter j (x .fuse))) (flushing-log j x h))
-
-pub storedBurnt-off : (j : ℕ) (x : Board) → x .fuse ≤ noFuse → j ≤ length (x .working .log .records)
-    → poweredOff (storedBurnt j x) ≡ poweredOff (flushing j x)
-unfolding poweredOff withFuse
-storedBurnt-off j x f h = ap poweredOff (storedBurnt-parts j x f) ∙ sym (flushing-off j x h)
-
--- any fuse does for the board between the stores
-pub flushing-fuse : (j n : ℕ) (x : Board) → flushing j (withFuse n x) ≡ withFuse n (flushing j x)
-unfolding flushing onSelected withFuse
-flushing-fuse j n x = refl

@@ -3,32 +3,28 @@ use mathlib.Core.Path.{_≡_, refl, sym, ap, _∙_}
 use Prim.Native.Nat.{ℕ, suc, _+_, _*_, _≤_, _<_}
 use native.Mathlib.Nat.{le-of-lt}
 use native.Mathlib.Omega.{arith}
-use mathlib.Core.Bool.{Bool, true, false}
+use mathlib.Core.Bool.{Bool}
 use mathlib.Core.List.{List, [], _∷_, _++_, append-nil}
 use lib.ListN.{length, getD, set, take, drop, length-append, length-drop, drop-of-length-le}
 use lib.Seq.{drop-cons, take-suc, append-snoc, set-at, getD-at, take-all, length-take-le}
 use Rattle.words.specs.LittleEndian.{bytesOf}
-use Rattle.types.specs.declared.Right.the-variants.{Own}
 use Rattle.types.specs.declared.Frame.{Frame}
-use Rattle.types.specs.declared.Record.{Record}
 use Rattle.types.specs.declared.State.the-variants.{Up, Replaying}
-use Rattle.model.specs.Definitions.Parts.{part, splice, zeros, encodeAll, each}
-use Rattle.model.specs.Definitions.Layout.{pageSize, frameSize, rightAt, numberSize, sinceSize, stateAt, numberAt, sinceAt, placeAt, framesAt, areaAt, areaSize, areaFramesAt}
+use Rattle.model.specs.Definitions.Parts.{part, splice, encodeAll, each}
+use Rattle.model.specs.Definitions.Layout.{pageSize, frameSize, numberSize, sinceSize, stateAt, numberAt, sinceAt, placeAt, framesAt, areaAt, areaSize, areaFramesAt}
 use Rattle.model.specs.Definitions.Bank.{Board, emptyFrame, frameAt, onWorking, onFrames}
-use Rattle.model.specs.Definitions.Codec.{rightByte, encodeFrame, encodeArea, stateByte, selectorByte, encodeBoard}
+use Rattle.model.specs.Definitions.Codec.{encodeFrame, encodeArea, stateByte, selectorByte, encodeBoard}
 use Rattle.model.specs.Definitions.Steps.{withFrame}
-use Rattle.model.specs.Definitions.Replay.{loaded, used, rightGot, tookGot, settledFrame, settled}
+use Rattle.model.specs.Definitions.Replay.{loaded, used, settledFrame, settled}
 use Rattle.model.specs.Definitions.WellFormed.{FramesOk, FieldsOk}
 use Rattle.model.specs.Laws.Lists.{each-append, each-take, each-drop, each-each, length-each}
 use Rattle.model.specs.Laws.Logic.{byBool}
 use Rattle.model.specs.Laws.Parts.{part-part}
-use Rattle.model.specs.Laws.Codec.{length-encodeFrames, area-frames}
+use Rattle.model.specs.Laws.Codec.{area-frames}
 use Rattle.model.specs.Laws.CodecBank.{area0, area1, board-area0, board-area1}
 use Rattle.model.specs.Laws.Boards.{frameAt-each}
-use Rattle.model.specs.Laws.Keeps.Stores.{frameOk-empty}
 use Rattle.model.specs.Laws.Keeps.Accesses.{frameOk-at}
-use Rattle.model.specs.Laws.BlockFields.{withState, withNumber, withSince, withPlace, write-state, write-number, write-since, write-place, write-frame, write-right, write-all-frames, withState-fields, onWorking-fields}
-use Rattle.model.specs.Laws.BlockWorking.{encode-emptyFrame}
+use Rattle.model.specs.Laws.BlockFields.{withState, withNumber, withSince, withPlace, write-state, write-number, write-since, write-place, write-frame, withState-fields, onWorking-fields}
 use Rattle.model.specs.Laws.Keeps.Replay.{frameOk-settled}
 
 -- ---- elements replaced one by one
@@ -112,13 +108,6 @@ module _ (pages : ℕ) (x : Board) (gs : List Frame) (old : FramesOk pages (x .w
     unfolding withFrame onWorking onFrames frameAt
     replacing-next f e = rw (e, replaced-next p gs (x .working .frames) emptyFrame same-count inside)
 
-    -- written whole
-    pub write-next : splice (encodeBoard (replacing p gs x)) (framesAt + p * frameSize) (encodeFrame (frameAt gs p)) ≡ encodeBoard (replacing (suc p) gs x)
-    unfolding onWorking onFrames
-    write-next =
-        write-frame pages (replacing p gs x) p (frameAt gs p) (replaced-ok p (le-of-lt h)) (frameOk-at gs p new .size) h
-        ∙ ap encodeBoard (replacing-next (frameAt gs p) refl)
-
 -- ---- restart
 
 -- all of a restart but its frames
@@ -172,17 +161,6 @@ module _ (pages : ℕ) (x : Board) (ok : FieldsOk pages x) where
         spare = ok .spare;
       }
 
-  -- the frames copied in one run
-  pub loaded-bytes : splice (restartWritten x) framesAt
-      (part (restartWritten x) (areaAt pages (selectorByte (x .stable .second)) + areaFramesAt) (pages * frameSize))
-      ≡ encodeBoard (loaded x)
-  unfolding restarting withState withPlace withSince withNumber onWorking
-  loaded-bytes =
-      let y : Board = restarting x in
-      rw (restarting-bytes x, selected-frames pages y restarting-fields)
-      (write-all-frames pages y (x .stable .selected .frames) (ok .frames) (length-encodeFrames pages (x .stable .selected .frames) (ok .selected .frames))
-      ∙ ap encodeBoard (restarting-loaded x))
-
   pub loaded-fields : FieldsOk pages (loaded x)
   unfolding onFrames
   loaded-fields =
@@ -207,18 +185,6 @@ module _ (pages : ℕ) (x : Board) (ok : FieldsOk pages x) (p : ℕ) (h : p < pa
       → splice (useWritten x) (framesAt + p * frameSize) (encodeFrame f) ≡ encodeBoard (onWorking (λ w. used (set (w .frames) p f) w) x)
   unfolding onWorking onFrames withFrame used
   used-frame f e = rw (used-shown x) (write-frame pages (onWorking (λ w. used (w .frames) w) x) p f (ok .frames) e h)
-
-  -- a dropped
-  pub used-dropped : splice (useWritten x) (framesAt + p * frameSize) (zeros frameSize)
-      ≡ encodeBoard (onWorking (λ w. used (set (w .frames) p emptyFrame) w) x)
-  used-dropped = rw (← encode-emptyFrame) (used-frame emptyFrame (frameOk-empty .size))
-
-  -- a got
-  pub used-got : (r : Record) → length (r .bytes) ≡ pageSize
-      → splice (useWritten x) (framesAt + p * frameSize) (encodeFrame (record { right = rightGot (r .kind); bytes = r .bytes }))
-      ≡ encodeBoard (onWorking (tookGot p r) x)
-  unfolding tookGot onWorking
-  used-got r e = used-frame (record { right = rightGot (r .kind); bytes = r .bytes }) e
 
 pub used-fields : {pages : ℕ} {x : Board} → FieldsOk pages x → (fs : List Frame) → FramesOk pages fs → FieldsOk pages (onWorking (used fs) x)
 unfolding used
@@ -281,11 +247,6 @@ module _ (pages : ℕ) (owned : ℕ → Bool) (x : Board) (ok : FieldsOk pages x
     abbrev framesIn : FramesOk pages (settledFirst owned p x .working .frames)
     framesIn = settledFirst-fields p (le-of-lt h) .frames
 
-    -- page p still has its old frame
-    pub settled-here : frameAt (settledFirst owned p x .working .frames) p ≡ frameAt (x .working .frames) p
-    unfolding settledFirst ending onWorking withState withPlace
-    settled-here = replacing-here pages (ending x) (settledFrames owned (x .working .frames)) (ok .frames) new p h
-
     -- the frame of page p written whole
     pub settled-frame : splice (encodeBoard (settledFirst owned p x)) (framesAt + p * frameSize)
         (encodeFrame (settledFrame (owned p) (frameAt (x .working .frames) p)))
@@ -295,21 +256,3 @@ module _ (pages : ℕ) (owned : ℕ → Bool) (x : Board) (ok : FieldsOk pages x
         write-frame pages (settledFirst owned p x) p (settledFrame (owned p) f) framesIn
         (frameOk-settled (owned p) f (frameOk-at (x .working .frames) p (ok .frames)) .size) h
         ∙ ap encodeBoard (settled-next (settledFrame (owned p) f) (frame-settled (owned p) refl))
-
-    -- a page that the directory gives this board: its right becomes own
-    pub settled-own : owned p ≡ true
-        → splice (encodeBoard (settledFirst owned p x)) (framesAt + p * frameSize + rightAt) (rightByte Own ∷ []) ≡ encodeBoard (settledFirst owned (suc p) x)
-    unfolding settledFrame
-    settled-own t =
-        let f : Frame = frameAt (settledFirst owned p x .working .frames) p in
-        write-right pages (settledFirst owned p x) p framesIn h Own
-        ∙ ap encodeBoard (settled-next (settledFrame true f) (ap (λ (g : Frame). settledFrame true g) settled-here ∙ frame-settled true t))
-
-    -- another board's page: its frame is emptied
-    pub settled-other : owned p ≡ false
-        → splice (encodeBoard (settledFirst owned p x)) (framesAt + p * frameSize) (zeros frameSize) ≡ encodeBoard (settledFirst owned (suc p) x)
-    unfolding settledFrame
-    settled-other t =
-        rw (← encode-emptyFrame)
-        (write-frame pages (settledFirst owned p x) p emptyFrame framesIn (frameOk-empty .size) h
-        ∙ ap encodeBoard (settled-next emptyFrame (frame-settled false t)))

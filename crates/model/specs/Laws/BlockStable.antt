@@ -6,7 +6,7 @@ use native.Mathlib.Nat.{zero-mul, one-mul}
 use native.Mathlib.Omega.{arith}
 use mathlib.Core.Bool.{Bool, true, false, not}
 use mathlib.Core.List.{List, [], _∷_, _++_, append-assoc, append-nil}
-use lib.ListN.{length, getD, length-append}
+use lib.ListN.{length, length-append}
 use lib.Dec.{eqb}
 use Rattle.words.specs.LittleEndian.{bytesOf, numberOf}
 use Rattle.types.specs.declared.Frame.{Frame}
@@ -14,17 +14,15 @@ use Rattle.types.specs.declared.Record.{Record}
 use Rattle.model.specs.Definitions.Parts.{part, splice, byteAt, encodeAll}
 use Rattle.model.specs.Definitions.Layout.{mostPages, slotCount, numberSize, frameSize, slotSize, slotsSize, areaNumberAt, areaCountAt, areaFramesAt, areaSlotsAt, areaSize, selectorAt, slotsAt, areaAt, blockSize}
 use Rattle.model.specs.Definitions.Bank.{Area, Stable, Board, frameAt, onSpare}
-use Rattle.model.specs.Definitions.Codec.{encodeFrame, decodeFrame, encodeRecord, decodeRecord, encodeLog, encodeArea, stateByte, selectorByte, encodeFixed, encodeStable, encodeBoard}
+use Rattle.model.specs.Definitions.Codec.{encodeFrame, encodeRecord, encodeLog, encodeArea, stateByte, selectorByte, encodeFixed, encodeStable, encodeBoard}
 use Rattle.model.specs.Definitions.WellFormed.{FrameOk, RecordOk, AreaOk, FieldsOk}
 use Rattle.model.specs.Definitions.Steps.{storedFrame, storedHead, storedSelector}
-use Rattle.model.specs.Laws.Parts.{length-part, part-append-right, part-front, part-end, part-part, length-splice, part-splice, splice-append-right, splice-front, splice-at, splice-within, splice-again, byteAt-part, byteAt-splice-before, index-in}
-use Rattle.model.specs.Laws.WrittenTests.{log-count}
+use Rattle.model.specs.Laws.Parts.{length-part, part-append-right, part-front, part-end, part-part, length-splice, part-splice, splice-append-right, splice-front, splice-at, splice-within, splice-again, byteAt-part, index-in}
 use Rattle.model.specs.Laws.Codec.{areaHead, length-areaHead, length-encodeArea, area-count, length-encodeFrames, length-encodeFrame, length-encodeRecord, length-encodeLog}
-use Rattle.model.specs.Laws.CodecBack.{slot-in}
 use Rattle.model.specs.Laws.CodecBank.{length-encodeFixed, length-encodeBoard, eqb-selectorByte}
 use Rattle.model.specs.Laws.Keeps.Accesses.{frameOk-at}
 use Rattle.model.specs.Laws.BlockFields.{read-selector}
-use Rattle.model.specs.Laws.BlockAreas.{area-number-read, area-frame-read, area-record-read, withRecord, withAreaFrame, withHead, write-areaRecord, write-areaFrame, write-areaHead, areaOk-record, areaOk-frame, areaOk-head}
+use Rattle.model.specs.Laws.BlockAreas.{area-number-read, withRecord, withAreaFrame, withHead, write-areaRecord, write-areaFrame, write-areaHead, areaOk-record, areaOk-frame, areaOk-head}
 
 -- ---- a part changed by two splices and put back
 
@@ -190,27 +188,7 @@ module _ (pages : ℕ) (x : Board) (ok : FieldsOk pages x) where
   selected-count =
       sym (byteAt-part l selectedPlace (areaSize pages) areaCountAt (omega arith)) ∙ rw selected-part (area-count pages (t .selected) (ok .selected))
 
-  pub selected-frame : (p : ℕ) → p < pages
-      → decodeFrame (part (encodeBoard x) (areaAt pages (selectorByte (x .stable .second)) + (areaFramesAt + p * frameSize)) frameSize)
-      ≡ frameAt (x .stable .selected .frames) p
-  selected-frame p h =
-      let m : p * frameSize + frameSize ≤ pages * frameSize = index-in frameSize pages p h in
-      rw (selected-field (areaFramesAt + p * frameSize) frameSize (omega arith)) (area-frame-read pages (t .selected) (ok .selected) p h)
-
-  pub selected-record : (i : ℕ) (d : Record) → i < length (x .stable .selected .log .records)
-      → decodeRecord (part (encodeBoard x) (areaAt pages (selectorByte (x .stable .second)) + (areaSlotsAt pages + i * slotSize)) slotSize)
-      ≡ getD (x .stable .selected .log .records) i d
-  selected-record i d h =
-      let m : i * slotSize + slotSize ≤ slotsSize = slot-in (length (t .selected .log .records)) i (log-count pages (t .selected .log) (ok .selected .log)) h in
-      rw (selected-field (areaSlotsAt pages + i * slotSize) slotSize (omega arith)) (area-record-read pages (t .selected) (ok .selected) i d h)
-
   -- ---- the stores: each through the area's own part of the block, and as splices of the block
-
-  -- a write into either area leaves the selector
-  pub selector-kept : (second : Bool) (b : ℕ) (v : List ℕ) → b ≤ areaSize pages
-      → byteAt (splice (encodeBoard x) (areaAt pages (selectorByte second) + b) v) selectorAt ≡ selectorByte (x .stable .second)
-  selector-kept second b v h =
-      byteAt-splice-before l (areaAt pages (selectorByte second) + b) v selectorAt (omega arith) (omega (arith, fits-in second)) ∙ read-selector pages x ok
 
   -- one splice inside the spare area
   module _ (f : Area → Area) (b : ℕ) (v : List ℕ) (h : b + length v ≤ areaSize pages)
@@ -240,13 +218,6 @@ module _ (pages : ℕ) (x : Board) (ok : FieldsOk pages x) where
     frame-written : splice (encodeArea (t .spare)) (areaFramesAt + p * frameSize) (encodeFrame frame) ≡ encodeArea (withAreaFrame p frame (t .spare))
     frame-written = write-areaFrame pages (t .spare) (ok .spare) p frame frame-ok h
 
-    pub storedFrame-part : splice (encodeBoard x) (areaAt pages (selectorByte (not (x .stable .second))))
-        (splice (part (encodeBoard x) (areaAt pages (selectorByte (not (x .stable .second)))) (areaSize pages)) (areaFramesAt + p * frameSize)
-        (encodeFrame (frameAt (x .working .frames) p)))
-        ≡ encodeBoard (storedFrame p x)
-    unfolding storedFrame withAreaFrame
-    storedFrame-part = in-spare-part (withAreaFrame p frame) (areaFramesAt + p * frameSize) (encodeFrame frame) frame-in frame-written
-
     pub storedFrame-bytes : splice (encodeBoard x) (areaAt pages (selectorByte (not (x .stable .second))) + (areaFramesAt + p * frameSize))
         (encodeFrame (frameAt (x .working .frames) p))
         ≡ encodeBoard (storedFrame p x)
@@ -259,14 +230,6 @@ module _ (pages : ℕ) (x : Board) (ok : FieldsOk pages x) where
 
   head-in : areaNumberAt + length (areaHead head) ≤ areaSize pages
   head-in = omega (arith, length-areaHead head)
-
-  pub storedHead-part : splice (encodeBoard x) (areaAt pages (selectorByte (not (x .stable .second))))
-      (splice (part (encodeBoard x) (areaAt pages (selectorByte (not (x .stable .second)))) (areaSize pages)) areaNumberAt
-      (bytesOf numberSize (x .working .number) ++ (0 ∷ [])))
-      ≡ encodeBoard (storedHead x)
-  unfolding storedHead withHead
-  storedHead-part =
-      in-spare-part (withHead (x .working .number)) areaNumberAt (areaHead head) head-in (write-areaHead pages (t .spare) (ok .spare) (x .working .number))
 
   pub storedHead-bytes : splice (encodeBoard x) (areaAt pages (selectorByte (not (x .stable .second))) + areaNumberAt)
       (bytesOf numberSize (x .working .number) ++ (0 ∷ []))

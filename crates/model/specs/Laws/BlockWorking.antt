@@ -1,33 +1,30 @@
 -- Steps of a board's working part as writes into its block: a record noted, an access, a checkpoint's end, a power loss, and what a flush leaves.
 -- Restart and replay are in BlockReplay. Assumes nothing.
 use mathlib.Core.Path.{_≡_, refl, sym, ap, _∙_}
-use mathlib.Core.Logic.{_≢_}
-use Prim.Native.Nat.{ℕ, zero, suc, _+_, _-_, _*_, _≤_, _<_}
+use Prim.Native.Nat.{ℕ, suc, _+_, _-_, _*_, _≤_, _<_}
 use native.Mathlib.Omega.{arith}
 use native.Mathlib.Nat.{add-zero}
 use mathlib.Core.List.{List, [], _∷_, _++_, map, append-assoc}
-use lib.ListN.{length, getD, set, drop, length-append, length-map, length-set, replicate-append-replicate}
+use lib.ListN.{length, getD, drop, length-append, length-map, replicate-append-replicate}
 use lib.Seq.{drop-cons, drop-length}
-use borrow.Author.Tests.{eq-eqb, ne-eqb}
+use borrow.Author.Tests.{eq-eqb}
 use Rattle.words.specs.LittleEndian.{bytesOf}
 use Rattle.types.specs.declared.Frame.{Frame}
 use Rattle.types.specs.declared.Kind.{Kind}
-use Rattle.types.specs.declared.Kind.the-variants.{Dropped}
 use Rattle.types.specs.declared.Record.{Record}
 use Rattle.types.specs.declared.State.the-variants.{Down}
 use Rattle.model.specs.Definitions.Parts.{splice, zeros, encodeAll}
-use Rattle.model.specs.Definitions.Layout.{pageSize, slotCount, noFuse, lastSince, lastNumber, frameSize, frameBytesAt, slotSize, slotsSize, fuseSize, numberSize, sinceSize, stateAt, fuseAt, numberAt, sinceAt, placeAt, volatileCountAt, framesAt, slotsAt, areaAt}
-use Rattle.model.specs.Definitions.Bank.{Log, Board, emptyFrame, emptyLog, frameAt, onWorking, onFrames}
-use Rattle.model.specs.Definitions.Codec.{pageOf, rightByte, encodeFrame, encodeRecord, encodeLog, stateByte, encodeBoard}
-use Rattle.model.specs.Definitions.Steps.{poweredOff, dropped, withFuse, burnt, appended, recorded, movedRecord, storedRecord, restedWorking, Access, Read, Write, cellsWritten, withBytes, withByte, accessed, withFrame}
-use Rattle.model.specs.Definitions.WellFormed.{isGot, RecordOk, LogOk, FramesOk, FieldsOk}
+use Rattle.model.specs.Definitions.Layout.{pageSize, slotCount, noFuse, lastSince, lastNumber, frameSize, frameBytesAt, slotSize, slotsSize, fuseSize, numberSize, sinceSize, stateAt, fuseAt, numberAt, sinceAt, placeAt, volatileCountAt, framesAt, slotsAt}
+use Rattle.model.specs.Definitions.Bank.{Log, Board, emptyFrame, emptyLog, onWorking, onFrames}
+use Rattle.model.specs.Definitions.Codec.{rightByte, encodeFrame, encodeRecord, encodeLog, stateByte, encodeBoard}
+use Rattle.model.specs.Definitions.Steps.{poweredOff, withFuse, burnt, appended, recorded, movedRecord, storedRecord, restedWorking, Access, Read, Write, cellsWritten, withBytes, accessed, withFrame}
+use Rattle.model.specs.Definitions.WellFormed.{RecordOk, LogOk, FramesOk, FieldsOk}
 use Rattle.model.specs.Laws.Parts.{splice-front, splice-append-right, splice-apart, splice-next}
 use Rattle.model.specs.Laws.Codec.{length-encodeRecord, length-encodeRecords, length-encodeLog}
 use Rattle.model.specs.Laws.CodecAt.{encode-appended}
-use Rattle.model.specs.Laws.Keeps.Records.{recordable-plain}
 use Rattle.model.specs.Laws.Lists.{each-map}
 use Rattle.model.specs.Laws.Keeps.Stores.{frameOk-empty}
-use Rattle.model.specs.Laws.Keeps.Accesses.{frameOk-at, Writable, framesOk-withBytes}
+use Rattle.model.specs.Laws.Keeps.Accesses.{Writable, framesOk-withBytes}
 use Rattle.model.specs.Laws.Fresh.{zeros-length, emptyLog-ok}
 use Rattle.model.specs.Laws.BlockFields.{withState, withNumber, withSince, withPlace, withLog, write-state, write-fuse, write-number, write-since, write-place, write-count, write-frame, write-byte, write-slots, write-all-frames, write-all-slots, fixed-inside, frames-inside, onWorking-fields}
 
@@ -36,10 +33,6 @@ use Rattle.model.specs.Laws.BlockFields.{withState, withNumber, withSinc
 pub zeros-append : (m n : ℕ) → zeros m ++ zeros n ≡ zeros (m + n)
 unfolding zeros
 zeros-append m n = replicate-append-replicate m n 0
-
-zeros-one : 0 ∷ [] ≡ zeros 1
-unfolding zeros
-zeros-one = refl
 
 -- two runs of zeros side by side are one
 pub zeros-next : (l : List ℕ) (a b m n : ℕ) → a + m ≡ b → a ≤ length l → splice (splice l a (zeros m)) b (zeros n) ≡ splice l a (zeros (m + n))
@@ -65,11 +58,6 @@ encode-emptyLog = refl
 emptyLog-none : length (emptyLog .records) ≡ 0
 unfolding emptyLog
 emptyLog-none = refl
-
-bytesOf-zero : (w : ℕ) → bytesOf w 0 ≡ zeros w
-unfolding bytesOf zeros
-bytesOf-zero zero = refl
-bytesOf-zero (suc w) = ap (λ (r : List ℕ). 0 ∷ r) (bytesOf-zero w)
 
 -- ---- a record noted
 
@@ -121,15 +109,6 @@ module _ (pages : ℕ) (x : Board) (ok : FieldsOk pages x) (kind : Kind) (bytes 
   unfolding onWorking recorded
   recorded-frame p f h e = rw recorded-bytes (write-frame pages (onWorking (recorded kind bytes) x) p f (ok .frames) e h)
 
--- "record dropped and lose the right"
-pub dropped-bytes : (pages : ℕ) (x : Board) → FieldsOk pages x → (p : ℕ) → p < pages → length (x .working .log .records) < slotCount
-    → splice (recordWritten pages (noted (Dropped p) (zeros pageSize) x) x) (framesAt + p * frameSize) (zeros frameSize) ≡ encodeBoard (dropped p x)
-unfolding dropped isGot pageOf
-dropped-bytes pages x ok p h room =
-    rw (← encode-emptyFrame)
-    (recorded-frame pages x ok (Dropped p) (zeros pageSize) (recordable-plain (Dropped p) refl h (x .working .since) (ok .since)) room
-    p emptyFrame h (frameOk-empty .size))
-
 -- ---- an access: the two counters and, for a write, one byte
 
 abbrev pub countersWritten : Board → List ℕ
@@ -153,18 +132,6 @@ module _ (pages : ℕ) (x : Board) (ok : FieldsOk pages x) (p : ℕ) (h : p < pa
       → splice (countersWritten x) (framesAt + p * frameSize + frameBytesAt + o) (v ∷ []) ≡ encodeBoard (onWorking (accessed (Write p o v)) x)
   unfolding onWorking withNumber withSince onFrames accessed withBytes cellsWritten counted
   accessed-write o v k = rw (counted-bytes x) (write-byte pages (counted x) p (ok .frames) h o v k)
-
-  -- the same, with the whole frame written
-  pub accessed-write-frame : (o v : ℕ)
-      → splice (countersWritten x) (framesAt + p * frameSize)
-      (encodeFrame (record { right = frameAt (x .working .frames) p .right; bytes = set (frameAt (x .working .frames) p .bytes) o v }))
-      ≡ encodeBoard (onWorking (accessed (Write p o v)) x)
-  unfolding onWorking withNumber withSince onFrames accessed withBytes withByte cellsWritten counted withFrame
-  accessed-write-frame o v =
-      let f : Frame = frameAt (x .working .frames) p in
-      rw (counted-bytes x)
-      (write-frame pages (counted x) p (record { right = f .right; bytes = set (f .bytes) o v }) (ok .frames)
-      (length-set (f .bytes) o v ∙ frameOk-at (x .working .frames) p (ok .frames) .size) h)
 
 pub accessed-fields : {pages : ℕ} {x : Board} → FieldsOk pages x → (a : Access) → Writable (x .working .frames) (cellsWritten a)
     → x .working .number < lastNumber → x .working .since < lastSince → FieldsOk pages (onWorking (accessed a) x)
@@ -257,34 +224,7 @@ module _ (pages : ℕ) (x : Board) (ok : FieldsOk pages x) where
       )
       (write-zero-run pages c (ok .frames) (length-uncounted pages x ok) refl)
 
-  number-inside : numberAt ≤ length (switchedOff x)
-  number-inside =
-      rw (write-state x Down, write-fuse (withState Down x) noFuse) (omega (arith, fixed-inside (withFuse noFuse (withState Down x))))
-
-  -- a run of zeros from the access number on
-  longer : (m b n : ℕ) → numberAt + m ≡ b → splice (splice (switchedOff x) numberAt (zeros m)) b (zeros n) ≡ splice (switchedOff x) numberAt (zeros (m + n))
-  longer m b n e = zeros-next (switchedOff x) numberAt b m n e number-inside
-
-  -- the same in three writes: all from the access number up to the areas is zero
-  pub poweredOff-run : (n : ℕ) → numberAt + n ≡ areaAt pages 0 → splice (switchedOff x) numberAt (zeros n) ≡ encodeBoard (poweredOff x)
-  poweredOff-run n e =
-      let k : n ≡ numberSize + sinceSize + 1 + 1 + (pages * frameSize + slotsSize) = omega arith in
-      rw (
-        k,
-        ← longer (numberSize + sinceSize + 1 + 1) framesAt (pages * frameSize + slotsSize) refl,
-        ← longer (numberSize + sinceSize + 1) volatileCountAt 1 refl,
-        ← longer (numberSize + sinceSize) placeAt 1 refl,
-        ← longer numberSize sinceAt sinceSize refl,
-      )
-      (rw (bytesOf-zero numberSize, bytesOf-zero sinceSize, zeros-one) at poweredOff-bytes)
-
 -- ---- a store: a set fuse is lowered, and one that is none stays
-
-pub burnt-set : (x : Board) → x .fuse ≢ noFuse → splice (encodeBoard x) fuseAt (bytesOf fuseSize (x .fuse - 1)) ≡ encodeBoard (burnt x)
-unfolding burnt
-burnt-set x n =
-    let e : burnt x ≡ withFuse (x .fuse - 1) x = cc (ne-eqb (x .fuse) noFuse n) in
-    write-fuse x (x .fuse - 1) ∙ ap encodeBoard (sym e)
 
 pub burnt-none : (x : Board) → x .fuse ≡ noFuse → burnt x ≡ x
 unfolding burnt
@@ -356,12 +296,3 @@ module _ (pages : ℕ) (x : Board) (fs : FramesOk pages (x .working .frames)) (o
       (rw add-zero at
       (write-slots pages y (flushedLog (length (log .records)) log) 0 (zeros n) fs w (omega (arith, ok .slots)) (rw (drop-length (log .records)))
       (encode-flushed pages log ok)))
-
--- behind the last store: the bytes still hold the log of before the flush, the board y has none of its records
-pub flushed-last : (pages : ℕ) (g : Log) (y : Board) → FramesOk pages (y .working .frames) → LogOk pages g
-    → y .working .log ≡ flushedLog (length (g .records)) g
-    → splice (splice (encodeBoard (onWorking (withLog g) y)) (slotsAt pages) (zeros (length (g .records) * slotSize))) volatileCountAt (0 ∷ [])
-    ≡ encodeBoard y
-unfolding onWorking withLog
-flushed-last pages g y fs ok e =
-    flushed-bytes pages (onWorking (withLog g) y) fs ok ∙ ap (λ (l : Log). encodeBoard (onWorking (withLog l) y)) (sym e)

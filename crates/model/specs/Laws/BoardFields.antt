@@ -1,9 +1,8 @@
 -- Every field of a board stays in range through what the steps of a bank do to it: a record noted, a frame exchanged, power lost, a fuse lowered.
 -- FieldsOk alone is asked of the board, no clause of the bank around it. Assumes nothing.
-use mathlib.Core.Path.{_≡_, refl, _∙_}
+use mathlib.Core.Path.{refl, _∙_}
 use Prim.Native.Nat.{ℕ, _-_, _<_}
 use native.Mathlib.Omega.{arith}
-use mathlib.Core.Bool.{Bool, true}
 use mathlib.Core.List.{List}
 use lib.ListN.{length, set, length-map}
 use lib.Dec.{eqb}
@@ -21,7 +20,7 @@ use Rattle.model.specs.Definitions.Steps.{poweredOff, burnt, recorded, w
 use Rattle.model.specs.Laws.Logic.{cases}
 use Rattle.model.specs.Laws.Lists.{each-map}
 use Rattle.model.specs.Laws.Fresh.{emptyLog-ok}
-use Rattle.model.specs.Laws.Boards.{tookCopy, droppedIf, tookOwn}
+use Rattle.model.specs.Laws.Boards.{tookCopy, tookOwn}
 use Rattle.model.specs.Laws.BlockFields.{withFuse-fields, onWorking-fields}
 use Rattle.model.specs.Laws.Keeps.Records.{logOk-appended, Recordable, recordable-plain, recordable-got}
 use Rattle.model.specs.Laws.Keeps.Stores.{copy-some, own-some, frameOk-empty, frameOk-right}
@@ -68,10 +67,6 @@ pub dropped-fields : {pages : ℕ} {x : Board} → FieldsOk pages x → (p : ℕ
 unfolding dropped pageOf isGot
 dropped-fields ok p h s =
     withFrame-fields (recorded-fields ok (Dropped p) (zeros pageSize) (recordable-plain (Dropped p) refl h) s) p emptyFrame frameOk-empty
-
-pub droppedIf-fields : {pages : ℕ} {x : Board} → FieldsOk pages x → (t : Bool) (p : ℕ) → p < pages → (t ≡ true → Space x) → FieldsOk pages (droppedIf t p x)
-unfolding droppedIf
-droppedIf-fields {pages} ok t p h s = cases (FieldsOk pages) t (λ e. dropped-fields ok p h (s e)) (λ e. ok)
 
 -- a board that takes a page with the bytes of a frame, as a copy or as its own
 pub tookCopy-fields : {pages : ℕ} {x : Board} → FieldsOk pages x → (p : ℕ) (f : Frame) → FrameOk f → p < pages → Space x

@@ -143,10 +143,6 @@ module _ (p : ℕ) (f : Entry → Entry) (k : Bank) where
   unfolding entryAt onEntry
   entryAt-same h = getD-update-same p f (k .directory) (record { owner = 0; copies = 0 }) h
 
-  pub entryAt-other : (q : ℕ) → q ≢ p → entryAt (onEntry p f k) q ≡ entryAt k q
-  unfolding entryAt onEntry
-  entryAt-other q h = getD-update-other p q f (k .directory) (record { owner = 0; copies = 0 }) h
-
 -- ---- a power loss
 
 module _ (b : ℕ) (k : Bank) where
@@ -165,11 +161,6 @@ module _ (b : ℕ) (k : Bank) where
   pub boardAt-powerOff-other : (c : ℕ) → c ≢ b → boardAt (powerOff b k) c ≡ boardAt k c
   unfolding powerOff onBoard boardAt
   boardAt-powerOff-other c h = getD-update-other b c poweredOff (k .boards) noBoard h
-
-  pub entryAt-powerOff : (p : ℕ) → p < length (k .directory) → entryAt (powerOff b k) p ≡ forgotten b (entryAt k p)
-  unfolding powerOff onBoard entryAt
-  entryAt-powerOff p h =
-      getD-map-below (forgotten b) (k .directory) p (record { owner = 0; copies = 0 }) (record { owner = 0; copies = 0 }) h
 
   -- what a change left of the board's working memory and of its fuse is gone
   pub powerOff-onBoard : (f : Board → Board) → ((x : Board) → poweredOff (f x) ≡ poweredOff x) → powerOff b (onBoard b f k) ≡ powerOff b k
@@ -211,14 +202,6 @@ module _ (o b p : ℕ) (k : Bank) where
   pub boardAt-giveCopy-other : (c : ℕ) → c ≢ b → boardAt (giveCopy o b p k) c ≡ boardAt k c
   boardAt-giveCopy-other c h = rw (giveCopy-parts, boardAt-onEntry) (boardAt-other b copied k c h)
 
-  pub entryAt-giveCopy-same : p < length (k .directory) → entryAt (giveCopy o b p k) p ≡ withCopy b (entryAt k p)
-  unfolding onBoard entryAt
-  entryAt-giveCopy-same h = rw giveCopy-parts (entryAt-same p (withCopy b) (onBoard b copied k) h)
-
-  pub entryAt-giveCopy-other : (q : ℕ) → q ≢ p → entryAt (giveCopy o b p k) q ≡ entryAt k q
-  unfolding onBoard entryAt
-  entryAt-giveCopy-other q h = rw giveCopy-parts (entryAt-other p (withCopy b) (onBoard b copied k) q h)
-
 -- ---- boards that lose a right
 
 -- a board that loses its right, if the test says so
@@ -229,14 +212,6 @@ module _ (loses : ℕ → Bool) (p : ℕ) (k : Bank) where
   pub boards-dropAt : length (dropAt loses p k .boards) ≡ length (k .boards)
   unfolding dropAt
   boards-dropAt = length-each (λ c x. elim (loses c) [ true ↦ dropped p x | false ↦ x ]) (k .boards)
-
-  pub directory-dropAt : dropAt loses p k .directory ≡ k .directory
-  unfolding dropAt
-  directory-dropAt = refl
-
-  pub entryAt-dropAt : (q : ℕ) → entryAt (dropAt loses p k) q ≡ entryAt k q
-  unfolding dropAt entryAt
-  entryAt-dropAt q = refl
 
   pub boardAt-dropAt : (c : ℕ) → c < length (k .boards) → boardAt (dropAt loses p k) c ≡ droppedIf (loses c) p (boardAt k c)
   unfolding dropAt boardAt droppedIf
@@ -269,10 +244,6 @@ module _ (p : ℕ) (k : Bank) where
   pub entryAt-dropCopies-same : p < length (k .directory) → entryAt (dropCopies p k) p ≡ withoutCopies (entryAt k p)
   unfolding dropAt entryAt
   entryAt-dropCopies-same h = rw dropCopies-parts (entryAt-same p withoutCopies (dropAt holds p k) h)
-
-  pub entryAt-dropCopies-other : (q : ℕ) → q ≢ p → entryAt (dropCopies p k) q ≡ entryAt k q
-  unfolding dropAt entryAt
-  entryAt-dropCopies-other q h = rw dropCopies-parts (entryAt-other p withoutCopies (dropAt holds p k) q h)
 
 -- ---- a page passed on
 
@@ -319,10 +290,6 @@ module _ (o w p : ℕ) (k : Bank) where
   pub entryAt-passOwnership-same : p < length (k .directory) → entryAt (passOwnership o w p k) p ≡ record { owner = w; copies = 0 }
   unfolding onBoard dropAt ownedBy
   entryAt-passOwnership-same h = rw passOwnership-parts (entryAt-same p (ownedBy w) (onBoard w taken (dropAt gives p k)) h)
-
-  pub entryAt-passOwnership-other : (q : ℕ) → q ≢ p → entryAt (passOwnership o w p k) q ≡ entryAt k q
-  unfolding onBoard dropAt entryAt
-  entryAt-passOwnership-other q h = rw passOwnership-parts (entryAt-other p (ownedBy w) (onBoard w taken (dropAt gives p k)) q h)
 
 -- ---- the end of a replay, before its checkpoint
 

@@ -2,14 +2,12 @@
 use mathlib.Core.Path.{_≡_, refl, sym, ap, _∙_}
 use Prim.Native.Nat.{ℕ, zero, suc, _≤_, _<_}
 use native.Mathlib.Omega.{arith}
-use native.Mathlib.Decide.{decLt}
 use mathlib.Core.List.{List, [], _∷_, map}
 use lib.ListN.{length, getD}
 use lib.Seq.{ext-getD}
 use Rattle.model.specs.Definitions.Parts.{update, eachFrom, each}
-use Rattle.words.specs.Bytes.{Each}
 use Rattle.model.specs.Laws.Logic.{byEq}
-use Rattle.model.specs.Laws.Lists.{each-of-getD, each-getD, length-update, getD-update-same, getD-update-other, length-each, getD-each}
+use Rattle.model.specs.Laws.Lists.{length-update, getD-update-same, getD-update-other, length-each, getD-each}
 
 module _ {A : Type 0} where
   unfoldable pub eachFirst : ℕ → (ℕ → A → A) → List A → List A
@@ -55,18 +53,6 @@ module _ {A : Type 0} where
   pub each-as-map : (g : A → A) (xs : List A) → each (λ j. g) xs ≡ map g xs
   unfolding each
   each-as-map g xs = each-same 0 g xs
-
-  pub eachFirst-holds : {P : A → Type 0} (n : ℕ) (f : ℕ → A → A) (xs : List A) (d : A) → Each P xs
-      → ((i : ℕ) → i < length xs → P (getD xs i d) → P (f i (getD xs i d))) → Each P (eachFirst n f xs)
-  eachFirst-holds {P} n f xs d e g =
-      let m : length (eachFirst n f xs) ≡ length xs = length-eachFirst n f xs in
-      each-of-getD (eachFirst n f xs) d
-      (λ i l.
-      let k : i < length xs = omega arith in
-      elim (decLt i n) [
-        | yes h ↦ rw (eachFirst-done n i f xs d h k) (g i k (each-getD xs i d e k))
-        | no h ↦ rw (eachFirst-waits n i f xs d (omega arith)) (each-getD xs i d e k)
-      ])
 
   -- a change that changes nothing
   pub update-same : (i : ℕ) (xs : List A) → update i (λ x. x) xs ≡ xs

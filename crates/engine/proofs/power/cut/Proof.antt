@@ -1,97 +1,100 @@
 -- `engine::power::cut` meets its contract: each return is one way through the call. Assumes nothing.
-use mathlib.Core.Path.{_≡_, sym, _∙_}
-use Prim.Native.Nat.{_<_}
-use mathlib.Core.Bool.{true, false}
+use mathlib.Core.Path.{sym, _∙_}
 use native.Mathlib.Omega.{arith}
-use lib.ListN.{length}
-use lib.Dec.{ltb}
-use borrow.Author.Tests.{lt-ltb, le-ltb}
-use Rattle.model.specs.Definitions.Codec.{decode}
-use Rattle.model.specs.Definitions.WellFormed.{wellFormed}
-use Rattle.model.specs.Definitions.Calls.{refused}
-use Rattle.model.specs.Laws.BankSteps.{IsBank, isBank-test}
-use Rattle.validity.specs.Search.{failed, passed}
-use Rattle.engine.specs.Replies.{replied, call-malformed, cut-range, cut-down, cut-done}
+use Rattle.model.specs.Definitions.Calls.{Cutting}
+use Rattle.model.specs.Laws.Table.{boardOf}
+use Rattle.checks.specs.Entries.{OnBoard, on-small, unreadable-says, noBoard-says, board-says}
+use Rattle.engine.specs.Replies.{refused-replied, done-replied, call-malformed, call-noBoard, cut-down, cut-done}
 use borrow.Author.Needs.{needs}
 use Rattle.engine.proofs.power.cut.Statement.{statement}
 use Rattle.engine.proofs.power.cut.Tie as tie
 
--- what the test of the bytes says, once it passed
-known : (c : tie.Else1) → wellFormed (c .before .before .before .before .args .bank .now) ≡ true
-known c = passed (c .before .well-formed .ensures) (c .if1 .left)
+-- the board that was found, with its state
+found : (c : tie.After-state) → OnBoard (c .before .before .before .before .before .args .board) (c .before .before .before .before .before .args .bank .now) (c .state .given .0 .0)
+found c = board-says _ _ (c .before .before .enter .ensures) (c .state .given .1)
 
-whole : (c : tie.Else1) → IsBank (c .before .before .before .before .args .bank .now)
-whole c = isBank-test _ (known c)
+enter-requires : tie.Need-enter-requires
+enter-requires c κs = search needs
 
--- the board is one of the bank's
-inside : (c : tie.Else2) → c .before .before .before .before .before .before .before .args .board < length (decode (c .before .before .before .before .before .before .before .args .bank .now) .boards)
-inside c = omega (arith, c .before .board-count .ensures)
+enum-told : tie.Need-enum-told
+enum-told c = search needs
 
-outside : (c : tie.Then2) → ltb (c .before .before .before .before .before .before .before .args .board) (length (decode (c .before .before .before .before .before .before .before .args .bank .now) .boards)) ≡ false
-outside c = le-ltb (c .before .before .before .before .before .before .before .args .board) (length (decode (c .before .before .before .before .before .before .before .args .bank .now) .boards)) (omega (arith, c .before .board-count .ensures))
+refuse-requires : tie.Need-refuse-requires
+refuse-requires c κs = search needs
 
-well-formed-requires : tie.Need-well-formed-requires
-well-formed-requires c κs = search needs
+enum-told-2 : tie.Need-enum-told-2
+enum-told-2 c = search needs
+
+refuse-requires-2 : tie.Need-refuse-requires-2
+refuse-requires-2 c κs = search needs
+
+enum-known-state : tie.Need-enum-known-state
+enum-known-state c = search needs
+
+is-down-requires : tie.Need-is-down-requires
+is-down-requires c κs = search needs
+
+cast-t13 : tie.Need-cast-t13
+cast-t13 c = omega (arith, on-small (found (c .before .before .before)))
+
+refuse-requires-3 : tie.Need-refuse-requires-3
+refuse-requires-3 c κs = search needs
+
+page-count-requires : tie.Need-page-count-requires
+page-count-requires c κs = found (c .before .before .before .before) .whole
+
+power-off-requires : tie.Need-power-off-requires
+power-off-requires c κs =
+    let on = found (c .before .before .before .before .before .before) in
+    (on .whole, c .before .page-count .ensures, omega (arith, on .inside))
 
 same-length : tie.Need-same-length
 same-length c = search needs
 
 returns : tie.Need-returns
-unfolding refused
-returns c = replied (call-malformed _ _ (failed (c .before .well-formed .ensures) (c .if1 .taken)))
-
-board-count-requires : tie.Need-board-count-requires
-board-count-requires c κs = whole (c .before)
+returns c = refused-replied (call-malformed (Cutting _) _ (unreadable-says _ _ (c .before .before .before .enter .ensures) (c .before .enum-told .given .1))) (c .refuse .ensures)
 
 same-length-2 : tie.Need-same-length-2
 same-length-2 c = search needs
 
 returns-2 : tie.Need-returns-2
-unfolding refused
-returns-2 c = replied (cut-range _ (known (c .before .before .before)) _ (outside c))
-
-page-count-requires : tie.Need-page-count-requires
-page-count-requires c κs = whole (c .before .before .before .before)
-
-board-down-requires : tie.Need-board-down-requires
-board-down-requires c κs = (whole (c .before .before .before .before .before .before), c .before .page-count .ensures, inside (c .before .before .before))
-
-cast-t19 : tie.Need-cast-t19
-cast-t19 c = omega (arith, inside (c .before .before .before .before .before), whole (c .before .before .before .before .before .before .before .before) .sizes .boards)
+unfolding boardOf
+returns-2 c = refused-replied (call-noBoard (Cutting _) _ (noBoard-says _ _ (c .before .before .before .enter .ensures) (c .before .enum-told2 .given .1))) (c .refuse2 .ensures)
 
 same-length-3 : tie.Need-same-length-3
 same-length-3 c = search needs
 
 returns-3 : tie.Need-returns-3
-unfolding refused
-returns-3 c = replied (cut-down _ (known (c .before .before .before .before .before .before .before .before)) _ (lt-ltb _ _ (inside (c .before .before .before .before .before))) (sym (c .before .board-down .ensures) ∙ c .if3 .taken))
-
-power-off-requires : tie.Need-power-off-requires
-power-off-requires c κs = (whole (c .before .before .before .before .before .before .before .before .before), c .before .before .before .before .page-count .ensures, omega (arith, inside (c .before .before .before .before .before .before)))
+returns-3 c = refused-replied (cut-down (found (c .before .before .before .before)) (sym (c .before .before .is-down .ensures) ∙ c .before .if1 .taken)) (c .refuse3 .ensures)
 
 same-length-4 : tie.Need-same-length-4
 same-length-4 c = search needs
 
 returns-4 : tie.Need-returns-4
 returns-4 c =
-    let q = replied (cut-done _ (known (c .before .before .before .before .before .before .before .before .before .before .before .before)) _ (lt-ltb _ _ (inside (c .before .before .before .before .before .before .before .before .before))) (sym (c .before .before .before .before .before .board-down .ensures) ∙ c .before .before .before .before .if3 .left)) in
-    (q .0, c .before .before .power-off .ensures ∙ q .1)
+    let tested = c .before .before .before .before .before .before in
+    done-replied _ (cut-done (found (tested .before .before .before)) (sym (tested .before .is-down .ensures) ∙ tested .if1 .left)) (c .before .before .power-off .ensures)
 
 pub cut-spec : {M : Type 1} → statement M
 cut-spec =
     tie.close
     (tie.spec
-    well-formed-requires
+    enter-requires
+    enum-told
+    refuse-requires
+    enum-told-2
+    refuse-requires-2
+    enum-known-state
+    is-down-requires
+    cast-t13
+    refuse-requires-3
+    page-count-requires
+    power-off-requires
     same-length
     returns
-    board-count-requires
     same-length-2
     returns-2
-    page-count-requires
-    board-down-requires
-    cast-t19
     same-length-3
     returns-3
-    power-off-requires
     same-length-4
     returns-4)

@@ -1,123 +1,133 @@
 -- `engine::power::fuse` meets its contract: each return is one way through the call. Assumes nothing.
 use mathlib.Core.Path.{_≡_, sym, _∙_}
-use Prim.Native.Nat.{_<_}
-use mathlib.Core.Bool.{true, false, _&&_}
+use mathlib.Core.Bool.{true, _&&_}
 use native.Mathlib.Omega.{arith}
-use lib.ListN.{length}
 use lib.Dec.{ltb}
-use borrow.Author.Tests.{ltb-true, lt-ltb, le-ltb}
+use borrow.Author.Tests.{ltb-true}
 use Rattle.model.specs.Definitions.Layout.{noFuse}
-use Rattle.model.specs.Definitions.Codec.{decode}
-use Rattle.model.specs.Definitions.WellFormed.{wellFormed}
-use Rattle.model.specs.Definitions.Calls.{refused}
-use Rattle.model.specs.Laws.Logic.{and-right, and-both}
-use Rattle.model.specs.Laws.BankSteps.{IsBank, isBank-test}
+use Rattle.model.specs.Definitions.Calls.{Fusing}
+use Rattle.model.specs.Laws.Logic.{and-right}
+use Rattle.model.specs.Laws.Table.{boardOf}
 use Rattle.validity.specs.Search.{failed, passed}
-use Rattle.engine.specs.Replies.{replied, call-malformed, fuse-board, fuse-stores, fuse-down, fuse-done}
+use Rattle.checks.specs.Entries.{OnBoard, on-small, unreadable-says, noBoard-says, board-says}
+use Rattle.engine.specs.Replies.{refused-replied, done-replied, call-malformed, call-noBoard, fuse-stores, fuse-down, fuse-done}
 use borrow.Author.Needs.{needs}
 use Rattle.engine.proofs.power.fuse.Statement.{statement}
 use Rattle.engine.proofs.power.fuse.Tie as tie
 
--- what the test of the bytes says, once it passed
-known : (c : tie.Else1) → wellFormed (c .before .before .before .before .args .bank .now) ≡ true
-known c = passed (c .before .well-formed .ensures) (c .if1 .left)
+-- the board that was found, with its state
+found : (c : tie.After-state) → OnBoard (c .before .before .before .before .before .args .board) (c .before .before .before .before .before .args .bank .now) (c .state .given .0 .0)
+found c = board-says _ _ (c .before .before .enter .ensures) (c .state .given .1)
 
-whole : (c : tie.Else1) → IsBank (c .before .before .before .before .args .bank .now)
-whole c = isBank-test _ (known c)
+-- the number of stores is one that a fuse may have
+allowed : (c : tie.Else1) → (ltb 0 (c .before .before .before .before .before .before .before .before .args .stores) && ltb (c .before .before .before .before .before .before .before .before .args .stores) noFuse) ≡ true
+allowed c = passed (c .before .settable .ensures) (c .if1 .left)
 
--- the board is one of the bank's
-inside : (c : tie.Else2) → c .before .before .before .before .before .before .before .args .board < length (decode (c .before .before .before .before .before .before .before .args .bank .now) .boards)
-inside c = omega (arith, c .before .board-count .ensures)
+enter-requires : tie.Need-enter-requires
+enter-requires c κs = search needs
 
-outside : (c : tie.Then2) → ltb (c .before .before .before .before .before .before .before .args .board) (length (decode (c .before .before .before .before .before .before .before .args .bank .now) .boards)) ≡ false
-outside c = le-ltb (c .before .before .before .before .before .before .before .args .board) (length (decode (c .before .before .before .before .before .before .before .args .bank .now) .boards)) (omega (arith, c .before .board-count .ensures))
+enum-told : tie.Need-enum-told
+enum-told c = search needs
 
--- and the number of stores one that a fuse may have
-allowed : (c : tie.Else3)
-    → (ltb (c .before .before .before .before .before .before .before .before .before .args .board) (length (decode (c .before .before .before .before .before .before .before .before .before .args .bank .now) .boards)) && (ltb 0 (c .before .before .before .before .before .before .before .before .before .args .stores) && ltb (c .before .before .before .before .before .before .before .before .before .args .stores) noFuse)) ≡ true
-allowed c = and-both (lt-ltb _ _ (inside (c .before .before))) (passed (c .before .settable .ensures) (c .if3 .left))
+refuse-requires : tie.Need-refuse-requires
+refuse-requires c κs = search needs
 
-well-formed-requires : tie.Need-well-formed-requires
-well-formed-requires c κs = search needs
+enum-told-2 : tie.Need-enum-told-2
+enum-told-2 c = search needs
+
+refuse-requires-2 : tie.Need-refuse-requires-2
+refuse-requires-2 c κs = search needs
+
+enum-known-state : tie.Need-enum-known-state
+enum-known-state c = search needs
+
+settable-requires : tie.Need-settable-requires
+settable-requires c κs = search needs
+
+refuse-requires-3 : tie.Need-refuse-requires-3
+refuse-requires-3 c κs = search needs
 
 same-length : tie.Need-same-length
 same-length c = search needs
 
 returns : tie.Need-returns
-unfolding refused
-returns c = replied (call-malformed _ _ (failed (c .before .well-formed .ensures) (c .if1 .taken)))
+returns c = refused-replied (fuse-stores (found (c .before .before .before .before)) _ (failed (c .before .before .settable .ensures) (c .before .if1 .taken))) (c .refuse3 .ensures)
 
-board-count-requires : tie.Need-board-count-requires
-board-count-requires c κs = whole (c .before)
+is-down-requires : tie.Need-is-down-requires
+is-down-requires c κs = search needs
+
+cast-t16 : tie.Need-cast-t16
+cast-t16 c = omega (arith, on-small (found (c .before .before .before .before .before)))
+
+refuse-requires-4 : tie.Need-refuse-requires-4
+refuse-requires-4 c κs = search needs
 
 same-length-2 : tie.Need-same-length-2
 same-length-2 c = search needs
 
 returns-2 : tie.Need-returns-2
-unfolding refused
-returns-2 c = replied (fuse-board _ (known (c .before .before .before)) _ _ (outside c))
+returns-2 c = refused-replied (fuse-down (found (c .before .before .before .before .before .before)) _ (allowed (c .before .before .before)) (sym (c .before .before .is-down .ensures) ∙ c .before .if2 .taken)) (c .refuse4 .ensures)
 
-settable-requires : tie.Need-settable-requires
-settable-requires c κs = search needs
+page-count-requires : tie.Need-page-count-requires
+page-count-requires c κs = found (c .before .before .before .before .before .before) .whole
+
+cast-set-board-fuse : tie.Need-cast-set-board-fuse
+cast-set-board-fuse c =
+    let n = c .before .before .before .before .before .before .before .before .before .before .before .before .before .args .stores in
+    omega (arith, ltb-true n noFuse (and-right (ltb 0 n) (ltb n noFuse) (allowed (c .before .before .before .before .before))))
+
+set-board-fuse-requires : tie.Need-set-board-fuse-requires
+set-board-fuse-requires c κs =
+    let on = found (c .before .before .before .before .before .before .before .before) in
+    (on .whole, c .before .page-count .ensures, omega (arith, on .inside))
 
 same-length-3 : tie.Need-same-length-3
 same-length-3 c = search needs
 
 returns-3 : tie.Need-returns-3
-unfolding refused
-returns-3 c = replied (fuse-stores _ (known (c .before .before .before .before .before)) _ _ (failed (c .before .settable .ensures) (c .if3 .taken)))
-
-page-count-requires : tie.Need-page-count-requires
-page-count-requires c κs = whole (c .before .before .before .before .before .before)
-
-board-down-requires : tie.Need-board-down-requires
-board-down-requires c κs = (whole (c .before .before .before .before .before .before .before .before), c .before .page-count .ensures, inside (c .before .before .before .before .before))
-
-cast-t21 : tie.Need-cast-t21
-cast-t21 c = omega (arith, inside (c .before .before .before .before .before .before .before), whole (c .before .before .before .before .before .before .before .before .before .before) .sizes .boards)
+returns-3 c = refused-replied (call-malformed (Fusing _ _) _ (unreadable-says _ _ (c .before .before .before .enter .ensures) (c .before .enum-told .given .1))) (c .refuse .ensures)
 
 same-length-4 : tie.Need-same-length-4
 same-length-4 c = search needs
 
 returns-4 : tie.Need-returns-4
-unfolding refused
-returns-4 c = replied (fuse-down _ (known (c .before .before .before .before .before .before .before .before .before .before)) _ _ (allowed (c .before .before .before .before .before)) (sym (c .before .board-down .ensures) ∙ c .if4 .taken))
-
-cast-set-fuse : tie.Need-cast-set-fuse
-cast-set-fuse c =
-    let set = passed (c .before .before .before .before .before .before .before .settable .ensures) (c .before .before .before .before .before .before .if3 .left) in
-    omega (arith, ltb-true (c .before .before .before .before .before .before .before .before .before .before .before .before .before .before .before .args .stores) noFuse (and-right (ltb 0 (c .before .before .before .before .before .before .before .before .before .before .before .before .before .before .before .args .stores)) (ltb (c .before .before .before .before .before .before .before .before .before .before .before .before .before .before .before .args .stores) noFuse) set))
-
-set-fuse-requires : tie.Need-set-fuse-requires
-set-fuse-requires c κs = (whole (c .before .before .before .before .before .before .before .before .before .before .before), c .before .before .before .before .page-count .ensures, omega (arith, inside (c .before .before .before .before .before .before .before .before)))
+unfolding boardOf
+returns-4 c = refused-replied (call-noBoard (Fusing _ _) _ (noBoard-says _ _ (c .before .before .before .enter .ensures) (c .before .enum-told2 .given .1))) (c .refuse2 .ensures)
 
 same-length-5 : tie.Need-same-length-5
 same-length-5 c = search needs
 
 returns-5 : tie.Need-returns-5
 returns-5 c =
-    let q = replied (fuse-done _ (known (c .before .before .before .before .before .before .before .before .before .before .before .before .before .before)) _ _ (allowed (c .before .before .before .before .before .before .before .before .before)) (sym (c .before .before .before .before .before .board-down .ensures) ∙ c .before .before .before .before .if4 .left)) in
-    (q .0, c .before .before .set-fuse .ensures ∙ q .1)
+    let tested = c .before .before .before .before .before .before in
+    let set = tested .before .before in
+    done-replied _ (fuse-done (found (set .before .before .before)) _ (allowed set) (sym (tested .before .is-down .ensures) ∙ tested .if2 .left)) (c .before .before .set-board-fuse .ensures)
 
 pub fuse-spec : {M : Type 1} → statement M
 fuse-spec =
     tie.close
     (tie.spec
-    well-formed-requires
+    enter-requires
+    enum-told
+    refuse-requires
+    enum-told-2
+    refuse-requires-2
+    enum-known-state
+    settable-requires
+    refuse-requires-3
     same-length
     returns
-    board-count-requires
+    is-down-requires
+    cast-t16
+    refuse-requires-4
     same-length-2
     returns-2
-    settable-requires
+    page-count-requires
+    cast-set-board-fuse
+    set-board-fuse-requires
     same-length-3
     returns-3
-    page-count-requires
-    board-down-requires
-    cast-t21
     same-length-4
     returns-4
-    cast-set-fuse
-    set-fuse-requires
     same-length-5
     returns-5)

@@ -74,7 +74,7 @@ show-keeps o p r w u m l =
 -- ---- a read fetch
 
 -- the room that the taker's own record needs
-room-taker : (g : CopyOrOwn) (b p : ℕ) (k : Bank) → CanFetch g b p k → RoomFor 1 (boardAt k b)
+pub room-taker : (g : CopyOrOwn) (b p : ℕ) (k : Bank) → CanFetch g b p k → RoomFor 1 (boardAt k b)
 unfolding fetchNeed
 room-taker GotCopy b p k c =
     let l : b < length (k .boards) = up-below k b (c .taker) in

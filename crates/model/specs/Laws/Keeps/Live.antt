@@ -195,43 +195,49 @@ module _ (b : ℕ) (a : Access) (r : Run) (w : WellFormed (r .bank)) (can : CanA
   ready-now t = record { power = λ e. up-not-down (can .up) e; since = can .since; number = can .number; right = t }
 
   module _ (passed : firstOf (liveRefusals b a (r .bank)) ≡ none) where
-    fetched-keeps : lackingOf b a (r .bank) ≡ true → WellFormed (performed b a (fetch (takes a) b (pageNamed a) r) .run .bank)
-    unfolding lacking
-    fetched-keeps t =
+    abbrev k : Bank
+    k = r .bank
+
+    copies-gone : lackingOf b a k ≡ false → copiesOut a k ≡ true → WellFormed (dropCopies (pageNamed a) k)
+    copies-gone t o = dropCopies-keeps (pageNamed a) k w (can .page) (can-drop b a k w can passed t o)
+
+    -- a fetch, or copies dropped, or neither
+    pub prepared-keeps : WellFormed (prepared b a r .bank)
+    unfolding prepared
+    prepared-keeps =
+        cases (λ (s : Run). WellFormed (s .bank)) (lackingOf b a k)
+        (λ t. fetch-keeps (takes a) b (pageNamed a) r w (can-fetch b a k w can passed t))
+        (λ t.
+        cases (λ (s : Run). WellFormed (s .bank)) (copiesOut a k)
+        (λ o. step-keeps (dropCopies (pageNamed a)) r w (λ n. copies-gone t o))
+        (λ o. w))
+
+    -- after it the access finds its right
+    pub prepared-ready : prepared b a r .lost ≡ none → Ready a (boardAt (prepared b a r .bank) b)
+    unfolding prepared lacking droppedIf
+    prepared-ready =
         let p : ℕ = pageNamed a in
-        let f : CanFetch (takes a) b p (r .bank) = can-fetch b a (r .bank) w can passed t in
-        performed-keeps b a (can .values) (fetch (takes a) b p r) (fetch-keeps (takes a) b p r w f)
-        (λ n.
-        let y : Taken (takes a) p (boardAt (r .bank) b) (boardAt (fetch (takes a) b p r .bank) b) = fetch-taken (takes a) b p r w f n in
+        let P : Run → Type 0 = λ s. s .lost ≡ none → Ready a (boardAt (s .bank) b) in
+        cases P (lackingOf b a k)
+        (λ t n.
+        let y : Taken (takes a) p (boardAt k b) (boardAt (fetch (takes a) b p r .bank) b) =
+        fetch-taken (takes a) b p r w (can-fetch b a k w can passed t) n in
         record {
           power = λ e. up-not-down (y .state) e;
           since = rw (y .since) (omega arith);
           number = rw (y .number) (can .number);
           right = ap (lacks a) (y .right) ∙ takes-enough a p;
         })
-
-    dropped-keeps : lackingOf b a (r .bank) ≡ false → copiesOut a (r .bank) ≡ true
-        → WellFormed (performed b a (step (dropCopies (pageNamed a)) r) .run .bank)
-    unfolding droppedIf
-    dropped-keeps t o =
-        let p : ℕ = pageNamed a in
-        let k : Bank = r .bank in
-        let v : WellFormed (dropCopies p k) = dropCopies-keeps p k w (can .page) (can-drop b a k w can passed t o) in
-        performed-keeps b a (can .values) (step (dropCopies p) r) (step-keeps (dropCopies p) r w (λ n. v))
-        (λ n.
-        let e : boardAt (dropCopies p k) b ≡ boardAt k b =
-        cc (boardAt-dropCopies p k b (up-below k b (can .up)), writer-none b a k w can passed t o) in
+        (λ t.
+        cases P (copiesOut a k)
+        (λ o n.
+        let e : boardAt (dropCopies p k) b ≡ boardAt k b = cc (boardAt-dropCopies p k b (up-below k b (can .up)), writer-none b a k w can passed t o) in
         rw (step-done (dropCopies p) r n, e) (ready-now t))
+        (λ o n. ready-now t))
 
-  -- a fetch, or copies dropped, or neither; then the access
+  -- then the access
   pub live-keeps : WellFormed (live b a r .run .bank)
-  unfolding live prepared
+  unfolding live
   live-keeps =
       unless-keeps (liveRefusals b a (r .bank)) r _ w
-      (λ e.
-      cases (λ (s : Run). WellFormed (performed b a s .run .bank)) (lackingOf b a (r .bank))
-      (fetched-keeps e)
-      (λ t.
-      cases (λ (s : Run). WellFormed (performed b a s .run .bank)) (copiesOut a (r .bank))
-      (dropped-keeps e t)
-      (λ o. performed-keeps b a (can .values) r w (λ n. ready-now t))))
+      (λ e. performed-keeps b a (can .values) (prepared b a r) (prepared-keeps e) (prepared-ready e))

@@ -40,7 +40,7 @@ module _ {By : ℕ → Type 0} where
     unfolding performed access
     follows-performed r = follows-finished _ (step (access b a) r) (follows-step (access b a) r (sizes-onBoard b (onWorking (accessed a)) (r .bank)))
 
-    follows-prepared : (r : Run) → By (giver (r .bank) (pageNamed a)) → Follows By r (prepared b a r)
+    pub follows-prepared : (r : Run) → By (giver (r .bank) (pageNamed a)) → Follows By r (prepared b a r)
     unfolding prepared
     follows-prepared r o =
         cases (Follows By r) (lackingOf b a (r .bank))

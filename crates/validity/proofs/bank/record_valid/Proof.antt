@@ -1,13 +1,23 @@
--- `validity::bank::record_valid` meets its contract: what is said of a part that was lent. Assumes nothing.
+-- `validity::bank::record_valid` meets its contract: no record is there, or what is said of a part that was lent. Assumes nothing.
 use borrow.Author.Needs.{needs}
+use borrow.Author.Tests.{lt-ltb, le-ltb}
+use Prim.Native.Nat.{_+_, _*_}
 use Rattle.model.specs.Definitions.Layout.{slotSize}
 use Rattle.model.specs.Definitions.WellFormed.{slotValid}
 use Rattle.fields.proofs.Lent.{lent-read}
+use Rattle.validity.specs.BlockChecks.{recordValid}
 use Rattle.validity.proofs.bank.record_valid.Statement.{statement}
 use Rattle.validity.proofs.bank.record_valid.Tie as tie
 
-record-at-requires : tie.Need-record-at-requires
-record-at-requires c κs = search needs
+returns : tie.Need-returns
+unfolding recordValid
+returns c = rw (le-ltb _ _ (c .if1 .taken))
+
+mul-a : tie.Need-mul-a
+mul-a c = search needs
+
+add-a : tie.Need-add-a
+add-a c = search needs
 
 add-slot-valid : tie.Need-add-slot-valid
 add-slot-valid c = search needs
@@ -24,20 +34,24 @@ part-slot-valid-end c = search needs
 slot-valid-requires : tie.Need-slot-valid-requires
 slot-valid-requires c κs = search needs
 
-returns : tie.Need-returns
-returns c =
-    let start = c .before .before .before .before in
-    let found = c .before .before .record-at in
-    rw (← found .ensures .0) (lent-read (start .args .block .now) (found .result) slotSize (slotValid (start .args .pages)) _ (c .slot-valid .ensures))
+returns-2 : tie.Need-returns-2
+unfolding recordValid
+returns-2 c =
+    let reached = c .before .before in
+    let start = reached .before .before in
+    rw (lt-ltb _ _ (reached .if1 .left))
+    (lent-read (start .args .block .now) (start .args .at + start .args .index * slotSize) slotSize (slotValid (start .args .pages)) _ (c .slot-valid .ensures))
 
 pub record-valid-spec : {M : Type 1} → statement M
 record-valid-spec =
     tie.close
     (tie.spec
-    record-at-requires
+    returns
+    mul-a
+    add-a
     add-slot-valid
     sub-slot-valid
     part-slot-valid-start
     part-slot-valid-end
     slot-valid-requires
-    returns)
+    returns-2)

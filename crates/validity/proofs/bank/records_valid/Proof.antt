@@ -8,13 +8,12 @@ use mathlib.Core.Bool.{true, false}
 use mathlib.Core.List.{List}
 use lib.ListN.{length, take, drop, length-take, length-drop}
 use borrow.Author.Tests.{eq-eqb, ne-eqb}
-use Rattle.model.specs.Definitions.Layout.{slotSize, blockSize, blocksAt}
+use Rattle.model.specs.Definitions.Layout.{slotCount, blockSize, blocksAt}
 use Rattle.model.specs.Definitions.Parts.{part, everyBelow}
-use Rattle.model.specs.Definitions.WellFormed.{slotValid}
 use Rattle.model.specs.Laws.Lists.{everyBelow-at}
 use Rattle.model.specs.Laws.Parts.{index-in}
 use Rattle.validity.specs.Search.{failed, passed, below-none, below-next, below-stop, below-end}
-use Rattle.validity.specs.BlockChecks.{countsValid, recordCount, recordAt, recordsValid}
+use Rattle.validity.specs.BlockChecks.{countsValid, longestLog, slotsValid, recordsValid, longest-few}
 use Rattle.validity.specs.BankChecks.{blockOfPages}
 use Rattle.validity.proofs.bank.records_valid.Statement.{statement}
 use Rattle.validity.proofs.bank.records_valid.Tie as tie
@@ -25,23 +24,23 @@ lent : (s : List ℕ) (pages board a size : ℕ) → a ≡ blocksAt pages + boar
 unfolding blockOfPages part
 lent s pages board a size p q = let e : a + size - a ≡ size = omega arith in rw (e, p, q)
 
--- a block whose records were all passed, and one with a record that failed
-module _ (pages : ℕ) (l : List ℕ) {records : ℕ} (e : records ≡ recordCount pages l) (index : ℕ) where
-  ended : index ≤ records → records ≤ index → everyBelow index (λ j. slotValid pages (part l (recordAt pages l j) slotSize)) ≡ true
+-- a block whose slots were all passed, and one with a record that failed
+module _ (pages : ℕ) (l : List ℕ) {slots : ℕ} (e : slots ≡ longestLog pages l) (index : ℕ) where
+  ended : index ≤ slots → slots ≤ index → everyBelow index (slotsValid pages l) ≡ true
       → recordsValid pages l ≡ true
   unfolding recordsValid
-  ended h k p = rw (← e) (sym (below-end _ records index h k p))
+  ended h k p = rw (← e) (sym (below-end _ slots index h k p))
 
-  stopped : index < records → slotValid pages (part l (recordAt pages l index) slotSize) ≡ false → recordsValid pages l ≡ false
+  stopped : index < slots → slotsValid pages l index ≡ false → recordsValid pages l ≡ false
   unfolding recordsValid
-  stopped h p = rw (← e) (sym (below-stop _ records index h p))
+  stopped h p = rw (← e) (sym (below-stop _ slots index h p))
 
 abbrev Inv-loop : tie.InvT-loop
-Inv-loop bank boards pages size board a block records index₀ index =
-    (index ≤ records) × (everyBelow index (λ j. slotValid pages (part block (recordAt pages block j) slotSize)) ≡ true)
+Inv-loop bank boards pages size board a block slots index₀ index =
+    (index ≤ slots) × (everyBelow index (slotsValid pages block) ≡ true)
 
 abbrev μ-loop : tie.MeasureT-loop
-μ-loop bank boards pages size board a block records index₀ index = records - index
+μ-loop bank boards pages size board a block slots index₀ index = slots - index
 
 abbrev Inv-search : tie.InvT-search
 Inv-search bank boards pages size board₀ board =
@@ -81,6 +80,10 @@ module _ (c : tie.After-block-at Inv-loop μ-loop Inv-search μ-search) where
   counted : countsValid (pagesOf c) (blockOfPages (pagesOf c) (bytes c) (boardOf c)) ≡ true
   counted = everyBelow-at _ (boardOf c) _ (c .before .before .before .before .before .pre .3) (c .before .search-test .taken)
 
+  few : longestLog (pagesOf c) (take (c .block-at .result + c .before .before .before .block-size .result - c .block-at .result) (drop (c .block-at .result) (bytes c)))
+      ≤ slotCount
+  few = rw found (longest-few (pagesOf c) (blockOfPages (pagesOf c) (bytes c) (boardOf c)) counted)
+
 add-block : tie.Need-add-block Inv-loop μ-loop Inv-search μ-search
 add-block c = omega (arith, inside c)
 
@@ -93,19 +96,16 @@ part-block-start c = omega arith
 part-block-end : tie.Need-part-block-end Inv-loop μ-loop Inv-search μ-search
 part-block-end c = omega (arith, inside c)
 
-record-count-requires : tie.Need-record-count-requires Inv-loop μ-loop Inv-search μ-search
-record-count-requires c κs = (simp (length-take, length-drop) (omega (arith, inside (c .before))), omega arith)
+longest-log-requires : tie.Need-longest-log-requires Inv-loop μ-loop Inv-search μ-search
+longest-log-requires c κs = (simp (length-take, length-drop) (omega (arith, inside (c .before))), omega arith)
 
 loop-holds : tie.Need-loop-holds Inv-loop μ-loop Inv-search μ-search
 loop-holds c = (omega arith, below-none _)
 
-record-valid-requires : tie.Need-record-valid-requires Inv-loop μ-loop Inv-search μ-search
-record-valid-requires c κs = (
-  simp (length-take, length-drop) (omega (arith, inside (c .before .before .before .before))),
-  omega arith,
-  rw (found (c .before .before .before .before)) (counted (c .before .before .before .before)),
-  rw (← c .before .before .record-count .ensures) (c .loop-test .taken),
-)
+slots-valid-requires : tie.Need-slots-valid-requires Inv-loop μ-loop Inv-search μ-search
+slots-valid-requires c κs =
+    let here = c .before .before .before .before in
+    (simp (length-take, length-drop) (omega (arith, inside here)), omega arith, omega (arith, few here, c .before .before .longest-log .ensures))
 
 add-index : tie.Need-add-index Inv-loop μ-loop Inv-search μ-search
 add-index c = omega arith
@@ -114,7 +114,7 @@ loop-less : tie.Need-loop-less Inv-loop μ-loop Inv-search μ-search
 loop-less c = omega arith
 
 loop-again : tie.Need-loop-again Inv-loop μ-loop Inv-search μ-search
-loop-again c = (omega arith, below-next _ _ (c .before .before .before .loop .inv .1) (passed (c .before .record-valid .ensures) (c .if1 .left)))
+loop-again c = (omega arith, below-next _ _ (c .before .before .before .loop .inv .1) (passed (c .before .slots-valid .ensures) (c .if1 .left)))
 
 add-board : tie.Need-add-board Inv-loop μ-loop Inv-search μ-search
 add-board c = omega arith
@@ -127,7 +127,7 @@ search-again c = (
   omega arith,
   below-next _ _ (c .before .before .before .before .before .before .search .inv .1)
       (rw (← found (c .before .before .before .before))
-      (ended _ _ (c .before .before .record-count .ensures) (c .before .loop .index) (omega arith) (omega arith) (c .before .loop .inv .1))),
+      (ended _ _ (c .before .before .longest-log .ensures) (c .before .loop .index) (omega arith) (omega arith) (c .before .loop .inv .1))),
 )
 
 returns : tie.Need-returns Inv-loop μ-loop Inv-search μ-search
@@ -156,9 +156,9 @@ records-valid-spec =
     sub-block
     part-block-start
     part-block-end
-    record-count-requires
+    longest-log-requires
     loop-holds
-    record-valid-requires
+    slots-valid-requires
     add-index
     loop-less
     loop-again

@@ -2,27 +2,19 @@
 use borrow.Author.Needs.{needs}
 use Rattle.model.specs.Definitions.Parts.{byteAt}
 use Rattle.model.specs.Definitions.Codec.{decodeEntry}
-use Rattle.model.specs.Definitions.WellFormed.{sameRight}
 use Rattle.validity.specs.BoardChecks.{agrees}
 use Rattle.validity.proofs.block.page_agrees.Statement.{statement}
 use Rattle.validity.proofs.block.page_agrees.Tie as tie
 
-right-of-requires : tie.Need-right-of-requires
-right-of-requires c κs = search needs
-
-right-byte-requires : tie.Need-right-byte-requires
-right-byte-requires c κs = search needs
-
 right-in-requires : tie.Need-right-in-requires
 right-in-requires c κs = search needs
 
-right-byte-requires-2 : tie.Need-right-byte-requires-2
-right-byte-requires-2 c κs = search needs
+stands-for-requires : tie.Need-stands-for-requires
+stands-for-requires c κs = search needs
 
 returns : tie.Need-returns
-unfolding agrees sameRight
-returns c =
-    rw (c .before .before .before .before .if1 .taken, c .right-byte2 .ensures, c .before .right-in .ensures, c .before .before .right-byte .ensures, c .before .before .before .right-of .ensures)
+unfolding agrees
+returns c = rw (c .before .before .if1 .taken, ← c .before .right-in .ensures, c .stands-for .ensures)
 
 shared-slice-read-holds : tie.Need-shared-slice-read-holds
 shared-slice-read-holds c = search needs
@@ -38,10 +30,8 @@ pub page-agrees-spec : {M : Type 1} → statement M
 page-agrees-spec =
     tie.close
     (tie.spec
-    right-of-requires
-    right-byte-requires
     right-in-requires
-    right-byte-requires-2
+    stands-for-requires
     returns
     shared-slice-read-holds
     holds-requires

@@ -26,8 +26,8 @@ returns-2 c =
     let known = c .before .before in
     rw (← known .before .right-byte .ensures, le-leb _ _ (known .if1 .left), ← c .before .right-byte2 .ensures, ne-eqb _ _ (c .if2 .taken))
 
-zero-run-requires : tie.Need-zero-run-requires
-zero-run-requires c κs = search needs
+zero-page-requires : tie.Need-zero-page-requires
+zero-page-requires c κs = search needs
 
 returns-3 : tie.Need-returns-3
 unfolding frameValid decodeFrame byteAt
@@ -39,7 +39,7 @@ returns-3 c =
       le-leb _ _ (known .if1 .left),
       ← empty .before .right-byte2 .ensures,
       eq-eqb _ _ (empty .if2 .left),
-      c .zero-run .ensures,
+      c .zero-page .ensures,
     )
 
 pub frame-valid-spec : {M : Type 1} → statement M
@@ -51,5 +51,5 @@ frame-valid-spec =
     returns
     right-byte-requires-2
     returns-2
-    zero-run-requires
+    zero-page-requires
     returns-3)

@@ -1,48 +1,39 @@
 -- `validity::parts::slot_valid` meets its contract: each return follows the tests in turn. Assumes nothing.
-use borrow.Author.Needs.{needs}
-use borrow.Author.Tests.{lt-ltb, le-ltb, ne-eqb}
-use Rattle.model.specs.Definitions.Parts.{part, byteAt}
-use Rattle.validity.specs.Search.{failed, passed}
-use Rattle.validity.specs.PartChecks.{slot-test}
 use mathlib.Core.Path.{_≡_}
-use mathlib.Core.Bool.{_&&_, _||_}
-use Prim.Native.Nat.{ℕ}
-use mathlib.Core.List.{List}
-use lib.Dec.{eqb}
-use Rattle.model.specs.Definitions.Layout.{pageSize, mark0At, slotZeroAt, slotBytesAt, letterG}
-use Rattle.model.specs.Definitions.WellFormed.{isZero, slotValid}
+use borrow.Author.Needs.{needs}
+use borrow.Author.Tests.{lt-ltb, le-ltb}
+use Rattle.model.specs.Definitions.Layout.{pageSize, mark0At, mark1At, slotBytesAt}
+use Rattle.model.specs.Definitions.Parts.{part, byteAt}
+use Rattle.model.specs.Definitions.WellFormed.{isZero}
+use Rattle.validity.specs.Search.{failed, passed}
+use Rattle.validity.specs.PartChecks.{markFits, slot-test}
 use Rattle.validity.proofs.parts.slot_valid.Statement.{statement}
 use Rattle.validity.proofs.parts.slot_valid.Tie as tie
 
--- what is left to test once mark and page are known
-abbrev bytes : tie.Else2 → List ℕ
-bytes c = c .before .before .before .before .before .before .before .before .args .slot .now
-
-page-known : (c : tie.Else2)
-    → slotValid (c .before .before .before .before .before .before .before .before .args .pages) (bytes c)
-    ≡ (eqb (byteAt (bytes c) slotZeroAt) 0 && (eqb (byteAt (bytes c) mark0At) letterG || isZero (part (bytes c) slotBytesAt pageSize)))
+-- mark and bytes as the definition reads them
+fits : (c : tie.After-mark-fits)
+    → c .mark-fits .result
+    ≡ markFits
+    (byteAt (c .before .before .before .before .before .args .slot .now) mark0At)
+    (byteAt (c .before .before .before .before .before .args .slot .now) mark1At)
+    (isZero (part (c .before .before .before .before .before .args .slot .now) slotBytesAt pageSize))
 unfolding byteAt
-page-known c =
-    let marked = c .before .before .before in
-    rw (
-      slot-test,
-      passed (marked .before .is-mark .ensures) (marked .if1 .left),
-      ← c .before .wide .ensures .0,
-      lt-ltb _ _ (c .if2 .left),
-    )
+fits c = rw (← c .before .before .before .zero-page .ensures) (c .mark-fits .ensures)
 
-shared-slice-read-m0 : tie.Need-shared-slice-read-m0
-shared-slice-read-m0 c = search needs
+zero-page-requires : tie.Need-zero-page-requires
+zero-page-requires c κs = search needs
 
-shared-slice-read-is-mark : tie.Need-shared-slice-read-is-mark
-shared-slice-read-is-mark c = search needs
+shared-slice-read-mark-fits : tie.Need-shared-slice-read-mark-fits
+shared-slice-read-mark-fits c = search needs
 
-is-mark-requires : tie.Need-is-mark-requires
-is-mark-requires c κs = search needs
+shared-slice-read-mark-fits-2 : tie.Need-shared-slice-read-mark-fits-2
+shared-slice-read-mark-fits-2 c = search needs
+
+mark-fits-requires : tie.Need-mark-fits-requires
+mark-fits-requires c κs = search needs
 
 returns : tie.Need-returns
-unfolding byteAt
-returns c = rw (slot-test, failed (c .before .is-mark .ensures) (c .if1 .taken))
+returns c = rw (slot-test, failed (fits (c .before)) (c .if1 .taken))
 
 shared-slice-read-wide : tie.Need-shared-slice-read-wide
 shared-slice-read-wide c = search needs
@@ -54,44 +45,29 @@ returns-2 : tie.Need-returns-2
 unfolding byteAt
 returns-2 c =
     let marked = c .before .before .before in
-    rw (
-      slot-test,
-      passed (marked .before .is-mark .ensures) (marked .if1 .left),
-      ← c .before .wide .ensures .0,
-      le-ltb _ _ (c .if2 .taken),
-    )
+    rw (slot-test, passed (fits (marked .before)) (marked .if1 .left), ← c .before .wide .ensures .0, le-ltb _ _ (c .if2 .taken))
 
-shared-slice-read-if3 : tie.Need-shared-slice-read-if3
-shared-slice-read-if3 c = search needs
+shared-slice-read-result : tie.Need-shared-slice-read-result
+shared-slice-read-result c = search needs
 
 returns-3 : tie.Need-returns-3
 unfolding byteAt
-returns-3 c = rw (page-known (c .before .before), ne-eqb _ _ (c .if3 .taken))
-
-returns-4 : tie.Need-returns-4
-unfolding byteAt
-returns-4 c = rw (page-known (c .before .before .before), c .before .if3 .left, c .if4 .taken)
-
-zero-run-requires : tie.Need-zero-run-requires
-zero-run-requires c κs = search needs
-
-returns-5 : tie.Need-returns-5
-unfolding byteAt
-returns-5 c = rw (page-known (c .before .before .before .before), c .before .before .if3 .left, ne-eqb _ _ (c .before .if4 .left), c .zero-run .ensures)
+returns-3 c =
+    let ranged = c .before in
+    let marked = ranged .before .before .before in
+    rw (slot-test, passed (fits (marked .before)) (marked .if1 .left), ← ranged .before .wide .ensures .0, lt-ltb _ _ (ranged .if2 .left))
 
 pub slot-valid-spec : {M : Type 1} → statement M
 slot-valid-spec =
     tie.close
     (tie.spec
-    shared-slice-read-m0
-    shared-slice-read-is-mark
-    is-mark-requires
+    zero-page-requires
+    shared-slice-read-mark-fits
+    shared-slice-read-mark-fits-2
+    mark-fits-requires
     returns
     shared-slice-read-wide
     wide-requires
     returns-2
-    shared-slice-read-if3
-    returns-3
-    returns-4
-    zero-run-requires
-    returns-5)
+    shared-slice-read-result
+    returns-3)

@@ -1,0 +1,27 @@
+-- What is read of a bank's directory, and the number of a board. Assumes nothing.
+use mathlib.Core.Path.{_≡_}
+use Prim.Native.Nat.{ℕ, _+_, _*_, _-_, _≤_, _<_}
+use native.Mathlib.Omega.{arith}
+use mathlib.Core.List.{List}
+use lib.ListN.{length}
+use Rattle.model.specs.Definitions.Parts.{part}
+use Rattle.model.specs.Definitions.Layout.{mostBoards, headSize, entrySize}
+use Rattle.model.specs.Definitions.Bank.{entryAt}
+use Rattle.model.specs.Definitions.Codec.{decodeEntry, decode}
+use Rattle.exchange.specs.Banks.{OfBank, of-holds, entry-in, entry-read}
+
+module _ {pages b : ℕ} {s : List ℕ} (o : OfBank pages b s) where
+  -- a directory entry of the bank
+  pub entry-at : (p : ℕ) → p < pages → headSize + p * entrySize + entrySize ≤ length s
+  entry-at p h = entry-in (of-holds o) p (rw (o .count) at h)
+
+  pub entry-told : (p : ℕ) → p < pages → decodeEntry (part s (headSize + p * entrySize) entrySize) ≡ entryAt (decode s) p
+  entry-told p h = entry-read (of-holds o) p (rw (o .count) at h)
+
+  -- a board's number fits a byte
+  pub board-small : b < mostBoards
+  board-small = omega (arith, o .board, o .bank .sizes .boards)
+
+  -- another board of the same bank
+  pub of-board : (c : ℕ) → c < length (decode s .boards) → OfBank pages c s
+  of-board c h = record { bank = o .bank; count = o .count; board = h }

@@ -1,0 +1,8 @@
+pub mod Asks
+pub mod Needs
+pub mod Results
+pub mod BlockReplay
+pub mod Ends
+pub mod Lent
+pub mod Prepared
+pub mod Repeated

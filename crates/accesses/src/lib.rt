@@ -1,0 +1,6 @@
+// Reads and writes of a board, on a bank that is known to be well formed: live, or repeated from the log.
+pub mod ask;
+pub mod blocks;
+pub mod live;
+pub mod need;
+pub mod replay;

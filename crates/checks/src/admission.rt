@@ -1,0 +1,71 @@
+// The tests with which an access begins: its numbers, then codes 4 and 5 on its board's block.
+use fields::widths::PAGE_SIZE;
+use format::layout::block_at;
+use format::layout::block_size;
+use steps::access::counters_full;
+use steps::replay::differs;
+ghost use mathlib.Core.Path.{_≡_};
+ghost use Prim.Native.Nat.{ℕ, _<_};
+ghost use Rattle.model.specs.Definitions.Bank.{boardAt};
+ghost use Rattle.model.specs.Definitions.Codec.{decode};
+ghost use Rattle.steps.specs.Blocks.{IsBlock, boardOf};
+ghost use Rattle.steps.specs.Access.{accessOf};
+ghost use Rattle.exchange.specs.Banks.{OfBank};
+ghost use Rattle.checks.specs.Admission.{numbersFit, admissionOf};
+
+// What a byte can hold, as wide as the number that a call is given.
+const BYTE_VALUES: u32 = 256;
+
+// "page ≥ P, offset ≥ 16, value > 255": none of them.
+pub fn numbers_fit(pages: usize, page: u32, offset: u32, value: u32) -> bool
+    ensures { λ r. ⌜ r ≡ numbersFit pages page offset value ⌝ }
+{
+    if pages <= page as usize {
+        return false;
+    }
+    if PAGE_SIZE <= offset as usize {
+        return false;
+    }
+    value < BYTE_VALUES
+}
+
+// What the tests say: the first that holds refuses.
+pub enum Admission {
+    CountersFull,
+    Differs,
+    Pass,
+}
+
+// "access with since 65,535 or number 4,294,967,295", then of a replaying board an access that its log doesn't have.
+fn admit_block(block: &[u8], pages: usize, replaying: bool, page: usize, writes: bool) -> Admission
+    requires { ⌜ IsBlock pages (now block) × (page < pages) ⌝ }
+    ensures { λ r. ⌜ ((o v : ℕ) → r ≡ admissionOf replaying (accessOf writes page o v) (boardOf pages (now (block .entry)))) ⌝ }
+{
+    if counters_full(block, pages) {
+        return Admission::CountersFull;
+    }
+    if !replaying {
+        return Admission::Pass;
+    }
+    if differs(block, pages, page, writes) {
+        return Admission::Differs;
+    }
+    Admission::Pass
+}
+
+// The same of a board of the bank, whose block is lent.
+pub fn admit(
+    bank: &[u8],
+    pages: usize,
+    board: usize,
+    replaying: bool,
+    page: usize,
+    writes: bool,
+) -> Admission
+    requires { ⌜ OfBank pages board (now bank) × (page < pages) ⌝ }
+    ensures { λ r. ⌜ ((o v : ℕ) → r ≡ admissionOf replaying (accessOf writes page o v) (boardAt (decode (now (bank .entry))) board)) ⌝ }
+{
+    let a = block_at(pages, board);
+    let size = block_size(pages);
+    admit_block(&bank[a..a + size], pages, replaying, page, writes)
+}

@@ -1,0 +1,47 @@
+-- `exchange::copies::drop_copies` meets its contract: the holders' blocks, then the entry. Assumes nothing.
+use mathlib.Core.Path.{_∙_, ap}
+use native.Mathlib.Omega.{arith}
+use Rattle.model.specs.Definitions.Bank.{Entry}
+use Rattle.model.specs.Definitions.Steps.{dropAt}
+use Rattle.exchange.specs.Banks.{of-holds, entry-in, entry-read}
+use Rattle.exchange.specs.Exchanges.{copies-dropped}
+use borrow.Author.Needs.{needs}
+use Rattle.exchange.proofs.copies.drop_copies.Statement.{statement}
+use Rattle.exchange.proofs.copies.drop_copies.Tie as tie
+
+read-owner-requires : tie.Need-read-owner-requires
+read-owner-requires c κs = let pre = c .before .before .pre in entry-in (of-holds (pre .0)) _ (omega (arith, pre .0 .count))
+
+read-copies-requires : tie.Need-read-copies-requires
+read-copies-requires c κs = let pre = c .before .before .before .before .pre in entry-in (of-holds (pre .0)) _ (omega (arith, pre .0 .count))
+
+drop-all-requires : tie.Need-drop-all-requires
+drop-all-requires c κs =
+    let start = c .before .before .before .before .before .before in
+    let pre = start .pre in
+    let entry = entry-read (of-holds (pre .0)) (start .args .page) (omega (arith, pre .0 .count)) in
+    let copies = c .before .read-copies .ensures ∙ ap (λ (e : Entry). e .copies) entry in
+    (pre .0, rw copies (pre .2 .copies), pre .1, λ b h t. pre .3 b h (rw copies at t))
+
+write-entry-requires : tie.Need-write-entry-requires
+unfolding dropAt
+write-entry-requires c κs = entry-in (c .before .before .before .drop-all .ensures) _ (omega (arith, c .before .before .before .before .before .before .before .before .before .before .pre .0 .count))
+
+same-length : tie.Need-same-length
+same-length c = search needs
+
+returns : tie.Need-returns
+returns c =
+    let start = c .before .before .before .before .before .before .before .before .before .before .before .before .before in
+    copies-dropped (start .args .page) _ _ (omega (arith, start .pre .0 .count)) (of-holds (start .pre .0)) (c .before .before .before .before .before .before .before .before .before .before .read-owner .ensures) (c .before .before .before .before .before .before .before .before .read-copies .ensures) (c .before .before .before .before .before .before .drop-all .ensures) (c .before .before .write-entry .ensures)
+
+pub drop-copies-spec : {M : Type 1} → statement M
+drop-copies-spec =
+    tie.close
+    (tie.spec
+    read-owner-requires
+    read-copies-requires
+    drop-all-requires
+    write-entry-requires
+    same-length
+    returns)

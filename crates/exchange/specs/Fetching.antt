@@ -1,0 +1,200 @@
+-- Fetches stage by stage: what the bytes hold after each, what the next stage asks for, and how the run goes on or was lost. Assumes nothing.
+use mathlib.Core.Path.{_≡_, refl, sym, ap, _∙_}
+use mathlib.Core.Logic.{_≢_}
+use Prim.Native.Nat.{ℕ, _<_}
+use native.Mathlib.Omega.{arith}
+use mathlib.Core.Bool.{Bool, true, false, _||_}
+use mathlib.Core.Option.{Option, none, some}
+use mathlib.Core.List.{List}
+use lib.ListN.{length}
+use lib.Dec.{eqb}
+use borrow.Author.Tests.{eq-eqb}
+use Rattle.types.specs.declared.CopyOrOwn.{CopyOrOwn}
+use Rattle.types.specs.declared.CopyOrOwn.the-variants.{GotCopy, GotOwn}
+use Rattle.types.specs.declared.Kind.the-variants.{Got, Shown}
+use Rattle.types.specs.declared.State.the-variants.{Up}
+use Rattle.model.specs.Definitions.Parts.{zeros, member}
+use Rattle.model.specs.Definitions.Layout.{pageSize}
+use Rattle.model.specs.Definitions.Bank.{Bank, boardAt, entryAt}
+use Rattle.model.specs.Definitions.Codec.{decode}
+use Rattle.model.specs.Definitions.WellFormed.{EntryOk, WellFormed}
+use Rattle.model.specs.Definitions.Steps.{Run, step, frameOf, giver, show, giveCopy, passOwnership, readFetch, writeFetch}
+use Rattle.model.specs.Laws.Runs.{Changed, entryAt-changed, Follows, follows-trans, follows-step, follows-note-flush, sizes-passOwnership, sizes-giveCopy}
+use Rattle.model.specs.Laws.Runs.Stores.{FlushedWith, show-changed, note-flush-changed}
+use Rattle.model.specs.Laws.BoardFields.{Space}
+use Rattle.model.specs.Laws.Keeps.Clauses.{RoomFor, up-below}
+use Rattle.model.specs.Laws.Keeps.Rights.{entry-at}
+use Rattle.model.specs.Laws.Keeps.Fetches.{CanFetch, show-keeps, room-taker, room-shower, room-owner, got-keeps, room-got}
+use Rattle.exchange.specs.Banks.{Holds, OfBank, holds-bank, holds-decode, holds-wellFormed}
+use Rattle.exchange.specs.Progress.{running, Came, CanShow, getOwn}
+
+-- ---- a run and its bytes
+
+module _ {s : List ℕ} {n : ℕ} {o : Option ℕ} {r : Run} (c : Came s n o r) where
+  pub came-holds : WellFormed (r .bank) → Holds s (r .bank)
+  came-holds w = holds-wellFormed (c .bytes) w
+
+  -- a run that has its power yet goes on from its bytes
+  pub came-on : o ≡ none → WellFormed (r .bank) → running n (decode s) ≡ r
+  came-on e w = λ i. record { bank = holds-decode (came-holds w) i; stores = c .stores i; lost = (sym e ∙ c .lost) i }
+
+  pub came-step : o ≡ none → WellFormed (r .bank) → (f : Bank → Bank) (ys : List ℕ) → Holds ys (f (decode s)) → Came ys n none (step f r)
+  unfolding step
+  came-step e w f ys h = rw (← came-on e w) (record { bytes = h .bytes; stores = refl; lost = refl })
+
+  -- a run that lost it is passed on
+  pub came-lost : {By : ℕ → Type 0} {t : Run} (b : ℕ) → o ≡ some b → Follows By r t → Came s n o t
+  came-lost b e f = rw (f .lost b (sym (c .lost) ∙ e)) c
+
+-- ---- before the first stage
+
+-- code 7's room on the owner's board is enough for its shown
+room-gives : (g : CopyOrOwn) {b p : ℕ} {k : Bank} → WellFormed k → CanFetch g b p k → RoomFor 1 (boardAt k (giver k p))
+room-gives GotCopy {b} {p} {k} w c = room-shower b p (running 0 k) w c
+room-gives GotOwn {b} {p} {k} w c = omega (arith, room-owner b p (running 0 k) w c)
+
+-- what a fetch asks for: page p, of owner o, by board b
+abbrev pub Ready : CopyOrOwn → ℕ → ℕ → ℕ → ℕ → List ℕ → Type 0
+Ready g pages b p o s = OfBank pages b s × WellFormed (decode s) × CanFetch g b p (decode s) × (o ≡ giver (decode s) p)
+
+module _ (g : CopyOrOwn) {s : List ℕ} {pages b p o : ℕ} (ready : Ready g pages b p o s) where
+  pub fetch-page : p < pages
+  fetch-page = omega (arith, ready .0 .count, ready .2 .page)
+
+  pub fetch-other : o ≢ b
+  fetch-other = rw (ready .3) (ready .2 .other)
+
+  owner-up : boardAt (decode s) o .state ≡ Up
+  owner-up = rw (ready .3) (ready .2 .owner)
+
+  pub fetch-owner : o < length (decode s .boards)
+  fetch-owner = up-below (decode s) o owner-up
+
+  pub fetch-of : OfBank pages o s
+  fetch-of = record { bank = ready .0 .bank; count = ready .0 .count; board = fetch-owner }
+
+  -- the owner's part: room for one record
+  pub fetch-shows : CanShow o (decode s)
+  fetch-shows = (owner-up, rw (ready .3) (room-gives g (ready .1) (ready .2)))
+
+  -- every bank that the owner's part leaves is well formed
+  pub shown-keeps : (n : ℕ) → WellFormed (show o p (running n (decode s)) .bank)
+  shown-keeps n = show-keeps o p (running n (decode s)) (ready .1) (λ e. owner-up) (λ e. fetch-shows .1) (λ e. ready .2 .page)
+
+  -- ---- after the owner's part, with power yet
+
+  module _ (n : ℕ) {l : List ℕ} {m : ℕ} {q : Option ℕ} (ran : Came l m q (show o p (running n (decode s)))) (on : q ≡ none) where
+    shown-bank : Holds l (show o p (running n (decode s)) .bank)
+    shown-bank = came-holds ran (shown-keeps n)
+
+    changed : Changed o (FlushedWith (Shown p) (zeros pageSize)) (decode s) (decode l)
+    changed = rw (holds-decode shown-bank) (show-changed o p (running n (decode s)) (sym (ran .lost) ∙ on))
+
+    pub shown-wellFormed : WellFormed (decode l)
+    shown-wellFormed = rw (holds-decode shown-bank) (shown-keeps n)
+
+    pub shown-of : (d : ℕ) → d < length (decode s .boards) → OfBank pages d l
+    shown-of d h = record { bank = holds-bank shown-bank; count = rw (changed .directory) (ready .0 .count); board = rw (changed .boards) h }
+
+    -- the owner's flush leaves the taker alone
+    taker-same : boardAt (decode l) b ≡ boardAt (decode s) b
+    taker-same = changed .others b (λ e. fetch-other (sym e))
+
+    pub shown-taker : boardAt (decode l) b .state ≡ Up
+    shown-taker = rw taker-same (ready .2 .taker)
+
+    pub shown-room : RoomFor 1 (boardAt (decode l) b)
+    shown-room = rw taker-same (room-taker g b p (decode s) (ready .2))
+
+-- ---- a read fetch
+
+module _ {s : List ℕ} {pages b p o : ℕ} (ready : Ready GotCopy pages b p o s) (n : ℕ) {l : List ℕ} {m : ℕ} {q : Option ℕ} (ran : Came l m q (show o p (running n (decode s)))) where
+  pub read-lost : (d : ℕ) → q ≡ some d → Came l m q (readFetch b p (running n (decode s)))
+  unfolding readFetch
+  read-lost d e =
+      let t : Run = show o p (running n (decode s)) in
+      rw (← ready .3) (came-lost ran {By = λ h. h ≡ o} d e (follows-step (giveCopy o b p) t (sizes-giveCopy o b p (t .bank))))
+
+  pub read-given : q ≡ none → (ys : List ℕ) → Holds ys (giveCopy o b p (decode l)) → Came ys m none (readFetch b p (running n (decode s)))
+  unfolding readFetch
+  read-given e ys h = rw (← ready .3) (came-step ran e (shown-keeps GotCopy ready n) (giveCopy o b p) ys h)
+
+-- ---- a write fetch
+
+or-holds : (a : Bool) {t : Bool} → t ≡ true → (a || t) ≡ true
+or-holds true h = refl
+or-holds false h = h
+
+module _ {s : List ℕ} {pages b p o : ℕ} (ready : Ready GotOwn pages b p o s) (n : ℕ) {l : List ℕ} {m : ℕ} {q : Option ℕ} (ran : Came l m q (show o p (running n (decode s)))) where
+  -- power was lost in the owner's part
+  pub write-lost : (d : ℕ) → q ≡ some d → Came l m q (writeFetch b p (running n (decode s)))
+  unfolding writeFetch
+  write-lost d e =
+      let r : Run = show o p (running n (decode s)) in
+      rw (← ready .3)
+      (came-lost ran {By = λ h. h ≡ b} d e
+      (follows-trans
+      (follows-note-flush b (Got GotOwn p) (λ k. frameOf k o p .bytes) r refl)
+      (follows-step (passOwnership o b p) (getOwn o b p r) (sizes-passOwnership o b p (getOwn o b p r .bank)))))
+
+  -- after the writer's part
+  module _ (on : q ≡ none) {j : List ℕ} {t : ℕ} {y : Option ℕ} (took : Came j t y (getOwn o b p (running m (decode l)))) where
+    gave : running m (decode l) ≡ show o p (running n (decode s))
+    gave = came-on ran on (shown-keeps GotOwn ready n)
+
+    got-formed : WellFormed (getOwn o b p (running m (decode l)) .bank)
+    got-formed = rw (gave, ready .3) (got-keeps b p (running n (decode s)) (ready .1) (ready .2))
+
+    -- power was lost there
+    pub got-lost : (d : ℕ) → y ≡ some d → Came j t y (writeFetch b p (running n (decode s)))
+    unfolding writeFetch
+    got-lost d e =
+        let r : Run = getOwn o b p (running m (decode l)) in
+        rw (← ready .3, ← gave) (came-lost took {By = λ h. h ≡ b} d e (follows-step (passOwnership o b p) r (sizes-passOwnership o b p (r .bank))))
+
+    module _ (still : y ≡ none) where
+      pub got-passed : (ys : List ℕ) → Holds ys (passOwnership o b p (decode j)) → Came ys t none (writeFetch b p (running n (decode s)))
+      unfolding writeFetch
+      got-passed ys h = rw (← ready .3, ← gave) (came-step took still got-formed (passOwnership o b p) ys h)
+
+      -- what the passing on asks for
+      got-bank : Holds j (getOwn o b p (running m (decode l)) .bank)
+      got-bank = came-holds took got-formed
+
+      got-changed : Changed b (FlushedWith (Got GotOwn p) (frameOf (decode l) o p .bytes)) (decode l) (decode j)
+      got-changed =
+          rw (holds-decode got-bank)
+          (note-flush-changed b (Got GotOwn p) (λ k. frameOf k o p .bytes) (running m (decode l)) (sym (took .lost) ∙ still))
+
+      gave-changed : Changed o (FlushedWith (Shown p) (zeros pageSize)) (decode s) (decode l)
+      gave-changed = changed GotOwn ready n ran on
+
+      pub got-of : (d : ℕ) → d < length (decode s .boards) → OfBank pages d j
+      got-of d h =
+          record {
+            bank = holds-bank got-bank;
+            count = rw (got-changed .directory, gave-changed .directory) (ready .0 .count);
+            board = rw (got-changed .boards, gave-changed .boards) h;
+          }
+
+      pub got-entry : EntryOk (length (decode j .boards)) (entryAt (decode j) p)
+      got-entry = entry-at (rw (holds-decode got-bank) got-formed) p (rw (got-changed .directory, gave-changed .directory) (ready .2 .page))
+
+      got-space : (d : ℕ) → d < length (decode j .boards) → d ≢ b → (eqb d o || member d (entryAt (decode j) p .copies)) ≡ true
+          → Space (boardAt (decode j) d)
+      got-space d h other loses =
+          let e : entryAt (decode j) p ≡ entryAt (decode s) p = entryAt-changed got-changed p ∙ entryAt-changed gave-changed p in
+          let done : getOwn o b p (show o p (running n (decode s))) .lost ≡ none = rw gave at (sym (took .lost) ∙ still) in
+          let room : RoomFor 1 (boardAt (decode j) d)
+          = rw (holds-decode got-bank, gave, ready .3)
+          (room-got b p (running n (decode s)) (ready .1) (ready .2) d (rw (ready .3) at done) (rw (got-changed .boards, gave-changed .boards) at h) other (rw (e, ready .3) at loses)) in
+          omega arith
+
+      pub got-space-owner : Space (boardAt (decode j) o)
+      got-space-owner =
+          got-space o (got-of o (fetch-owner GotOwn ready) .board) (fetch-other GotOwn ready)
+          (ap (λ (t : Bool). t || member o (entryAt (decode j) p .copies)) (eq-eqb o o refl))
+
+      pub got-space-holder : (d : ℕ) → d < length (decode j .boards) → d ≢ b → member d (entryAt (decode j) p .copies) ≡ true
+          → Space (boardAt (decode j) d)
+      got-space-holder d h other holder = got-space d h other (or-holds (eqb d o) holder)

@@ -1,0 +1,65 @@
+// Steps of a board's block that are parts of an exchange: a copy taken, a page taken over, a right dropped.
+use steps::access::empty_frame;
+use steps::access::set_frame;
+use steps::records::record;
+use types::CopyOrOwn;
+use types::Frame;
+use types::Kind;
+use types::Right;
+ghost use mathlib.Core.Path.{_≡_};
+ghost use Prim.Native.Nat.{_<_};
+ghost use Rattle.model.specs.Definitions.Codec.{encodeBoard};
+ghost use Rattle.model.specs.Definitions.Steps.{dropped};
+ghost use Rattle.model.specs.Definitions.WellFormed.{FrameOk};
+ghost use Rattle.model.specs.Laws.Boards.{tookCopy, tookOwn};
+ghost use Rattle.model.specs.Laws.BoardFields.{Space};
+ghost use Rattle.steps.specs.Blocks.{IsBlock, boardOf};
+
+// "records got copy, gains the copy"; the frame is the giver's.
+pub fn take_copy(block: &mut [u8], pages: usize, page: usize, frame: Frame)
+    requires { ⌜ IsBlock pages (now block) × Space (boardOf pages (now block)) × (page < pages) × FrameOk frame ⌝ }
+    ensures { λ _. ⌜ now (block .exit) ≡ encodeBoard (tookCopy page (frame .bytes) (boardOf pages (now (block .entry)))) ⌝ }
+{
+    let bytes = frame.bytes;
+    record(
+        block,
+        pages,
+        Kind::Got(CopyOrOwn::GotCopy, page as u8),
+        bytes,
+    );
+    set_frame(
+        block,
+        pages,
+        page,
+        Frame {
+            right: Right::Copy,
+            bytes,
+        },
+    );
+}
+
+// "the writer gains right own and the page"; the frame is the old owner's.
+pub fn take_own(block: &mut [u8], pages: usize, page: usize, frame: Frame)
+    requires { ⌜ IsBlock pages (now block) × (page < pages) × FrameOk frame ⌝ }
+    ensures { λ _. ⌜ now (block .exit) ≡ encodeBoard (tookOwn page (frame .bytes) (boardOf pages (now (block .entry)))) ⌝ }
+{
+    let bytes = frame.bytes;
+    set_frame(
+        block,
+        pages,
+        page,
+        Frame {
+            right: Right::Own,
+            bytes,
+        },
+    );
+}
+
+// "record dropped and lose the right"
+pub fn drop_right(block: &mut [u8], pages: usize, page: usize)
+    requires { ⌜ IsBlock pages (now block) × Space (boardOf pages (now block)) × (page < pages) ⌝ }
+    ensures { λ _. ⌜ now (block .exit) ≡ encodeBoard (dropped page (boardOf pages (now (block .entry)))) ⌝ }
+{
+    record(block, pages, Kind::Dropped(page as u8), [0u8; 16]);
+    set_frame(block, pages, page, empty_frame());
+}

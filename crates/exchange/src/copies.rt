@@ -1,0 +1,120 @@
+// Copies and ownership on a bank's bytes: a copy given, copies dropped, a page passed on. Frames go by value from block to block.
+use crate::boards::drop_right;
+use crate::boards::take_copy;
+use crate::boards::take_own;
+use fields::copies::lowest_holder;
+use fields::copies::with_holder;
+use fields::copies::without_holder;
+use format::block::read_page_frame;
+use format::directory::read_copies;
+use format::directory::read_owner;
+use format::directory::write_entry;
+use format::layout::block_at;
+use format::layout::block_size;
+use types::Frame;
+ghost use mathlib.Core.Path.{_≡_};
+ghost use mathlib.Core.Logic.{_≢_};
+ghost use mathlib.Core.Bool.{true};
+ghost use Prim.Native.Nat.{ℕ, _^_, _<_};
+ghost use lib.ListN.{length};
+ghost use Rattle.model.specs.Definitions.Parts.{member};
+ghost use Rattle.model.specs.Definitions.Bank.{boardAt, entryAt, onBoard};
+ghost use Rattle.model.specs.Definitions.Codec.{decode};
+ghost use Rattle.model.specs.Definitions.WellFormed.{FrameOk, EntryOk};
+ghost use Rattle.model.specs.Definitions.Steps.{frameOf, giveCopy, dropped, dropAt, dropCopies, passOwnership};
+ghost use Rattle.model.specs.Laws.Boards.{tookCopy, tookOwn};
+ghost use Rattle.model.specs.Laws.BoardFields.{Space};
+ghost use Rattle.exchange.specs.Banks.{Holds, OfBank};
+
+// A board's frame of a page, by value.
+pub fn page_frame(bank: &[u8], pages: usize, board: usize, page: usize) -> Frame
+    requires { ⌜ OfBank pages board (now bank) × (page < pages) ⌝ }
+    ensures { λ r. ⌜ (r ≡ frameOf (decode (now (bank .entry))) board page) × FrameOk r ⌝ }
+{
+    let a = block_at(pages, board);
+    let size = block_size(pages);
+    read_page_frame(&bank[a..a + size], page)
+}
+
+// ---- a copy given
+
+fn copy_to(bank: &mut [u8], pages: usize, board: usize, page: usize, frame: Frame)
+    requires { ⌜ OfBank pages board (now bank) × Space (boardAt (decode (now bank)) board) × (page < pages) × FrameOk frame ⌝ }
+    ensures { λ _. ⌜ Holds (now (bank .exit)) (onBoard board (tookCopy page (frame .bytes)) (decode (now (bank .entry)))) ⌝ }
+{
+    let a = block_at(pages, board);
+    let size = block_size(pages);
+    take_copy(&mut bank[a..a + size], pages, page, frame);
+}
+
+// "reader records got copy, gains the copy and its bit"
+pub fn give_copy(bank: &mut [u8], pages: usize, owner: usize, board: usize, page: usize)
+    requires { ⌜ OfBank pages board (now bank) × (owner < length (decode (now bank) .boards)) × Space (boardAt (decode (now bank)) board) × (page < pages) ⌝ }
+    ensures { λ _. ⌜ Holds (now (bank .exit)) (giveCopy owner board page (decode (now (bank .entry)))) ⌝ }
+{
+    let frame = page_frame(bank, pages, owner, page);
+    copy_to(bank, pages, board, page, frame);
+    let named = read_owner(bank, page);
+    let copies = read_copies(bank, page);
+    write_entry(bank, page, named, with_holder(board, copies));
+}
+
+// ---- rights dropped
+
+fn drop_at(bank: &mut [u8], pages: usize, board: usize, page: usize)
+    requires { ⌜ OfBank pages board (now bank) × Space (boardAt (decode (now bank)) board) × (page < pages) ⌝ }
+    ensures { λ _. ⌜ Holds (now (bank .exit)) (onBoard board (dropped page) (decode (now (bank .entry)))) ⌝ }
+{
+    let a = block_at(pages, board);
+    let size = block_size(pages);
+    drop_right(&mut bank[a..a + size], pages, page);
+}
+
+// The boards of a set drop their right, the lowest first; no board sees another's drop.
+fn drop_all(bank: &mut [u8], pages: usize, losers: u8, page: usize)
+    requires { ⌜ OfBank pages 0 (now bank) × (losers < 2 ^ length (decode (now bank) .boards)) × (page < pages) × ((c : ℕ) → c < length (decode (now bank) .boards) → member c losers ≡ true → Space (boardAt (decode (now bank)) c)) ⌝ }
+    ensures { λ _. ⌜ Holds (now (bank .exit)) (dropAt (λ c. member c losers) page (decode (now (bank .entry)))) ⌝ }
+{
+    let mut left = losers;
+    while left != 0 {
+        let holder = lowest_holder(left);
+        drop_at(bank, pages, holder, page);
+        left = without_holder(holder, left);
+    }
+}
+
+// "each holder records dropped and loses its copy, the copy-set empties"
+pub fn drop_copies(bank: &mut [u8], pages: usize, page: usize)
+    requires { ⌜ OfBank pages 0 (now bank) × (page < pages) × EntryOk (length (decode (now bank) .boards)) (entryAt (decode (now bank)) page) × ((c : ℕ) → c < length (decode (now bank) .boards) → member c (entryAt (decode (now bank)) page .copies) ≡ true → Space (boardAt (decode (now bank)) c)) ⌝ }
+    ensures { λ _. ⌜ Holds (now (bank .exit)) (dropCopies page (decode (now (bank .entry)))) ⌝ }
+{
+    let owner = read_owner(bank, page);
+    let copies = read_copies(bank, page);
+    drop_all(bank, pages, copies, page);
+    write_entry(bank, page, owner, 0);
+}
+
+// ---- a page passed on
+
+fn own_to(bank: &mut [u8], pages: usize, board: usize, page: usize, frame: Frame)
+    requires { ⌜ OfBank pages board (now bank) × (page < pages) × FrameOk frame ⌝ }
+    ensures { λ _. ⌜ Holds (now (bank .exit)) (onBoard board (tookOwn page (frame .bytes)) (decode (now (bank .entry)))) ⌝ }
+{
+    let a = block_at(pages, board);
+    let size = block_size(pages);
+    take_own(&mut bank[a..a + size], pages, page, frame);
+}
+
+// "then together owner and all copy holders but the writer record dropped and lose the right, the writer gains right own and the page,
+// the directory names the writer, the copy-set empties"; the page is read before the old owner drops it.
+pub fn pass_ownership(bank: &mut [u8], pages: usize, owner: usize, board: usize, page: usize)
+    requires { ⌜ OfBank pages board (now bank) × (owner < length (decode (now bank) .boards)) × (owner ≢ board) × (page < pages) × EntryOk (length (decode (now bank) .boards)) (entryAt (decode (now bank)) page) × (Space (boardAt (decode (now bank)) owner)) × ((c : ℕ) → c < length (decode (now bank) .boards) → c ≢ board → member c (entryAt (decode (now bank)) page .copies) ≡ true → Space (boardAt (decode (now bank)) c)) ⌝ }
+    ensures { λ _. ⌜ Holds (now (bank .exit)) (passOwnership owner board page (decode (now (bank .entry)))) ⌝ }
+{
+    let passed = page_frame(bank, pages, owner, page);
+    let copies = read_copies(bank, page);
+    let losers = with_holder(owner, without_holder(board, copies));
+    drop_all(bank, pages, losers, page);
+    own_to(bank, pages, board, page, passed);
+    write_entry(bank, page, board as u8, 0);
+}

@@ -1,0 +1,4 @@
+pub mod SideBySide
+pub mod Rights
+pub mod Block
+pub mod Fresh

@@ -1,0 +1,49 @@
+-- `validity::bank::longest_log` meets its contract. Assumes nothing.
+use borrow.Author.Needs.{needs}
+use Rattle.validity.specs.BlockChecks.{longestLog}
+use Rattle.validity.proofs.bank.longest_log.Statement.{statement}
+use Rattle.validity.proofs.bank.longest_log.Tie as tie
+
+stored-count-requires : tie.Need-stored-count-requires
+stored-count-requires c κs = search needs
+
+stored-count-requires-2 : tie.Need-stored-count-requires-2
+stored-count-requires-2 c κs = search needs
+
+larger-requires : tie.Need-larger-requires
+larger-requires c κs = search needs
+
+read-volatile-count-requires : tie.Need-read-volatile-count-requires
+read-volatile-count-requires c κs = search needs
+
+wide-requires : tie.Need-wide-requires
+wide-requires c κs = search needs
+
+larger-requires-2 : tie.Need-larger-requires-2
+larger-requires-2 c κs = search needs
+
+returns : tie.Need-returns
+unfolding longestLog
+returns c =
+    let volatile = c .before in
+    let stored = volatile .before .before in
+    rw (
+      c .larger2 .ensures,
+      volatile .wide .ensures .0,
+      volatile .before .read-volatile-count .ensures,
+      stored .larger .ensures,
+      stored .before .stored-count2 .ensures .0,
+      stored .before .before .stored-count .ensures .0,
+    )
+
+pub longest-log-spec : {M : Type 1} → statement M
+longest-log-spec =
+    tie.close
+    (tie.spec
+    stored-count-requires
+    stored-count-requires-2
+    larger-requires
+    read-volatile-count-requires
+    wide-requires
+    larger-requires-2
+    returns)
