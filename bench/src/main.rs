@@ -1,0 +1,200 @@
+//! The same calls on the archive and on the second engine, both optimised, on the same buffers by turns.
+//! `bench` prints nanoseconds for each call; `bench counts` runs every row once, for a tool that counts instructions.
+
+#[path = "../../tests/compare/src/engines.rs"]
+mod engines;
+mod rows;
+
+use engines::{archive, packed, Pair};
+use rows::{rows, Row};
+use second::calls::{call, make};
+use second::fault::Fault;
+use second::layout::{Layout, SLOTS};
+use second::line::Line;
+use second::watch::Watch;
+use std::hint::black_box;
+use std::process::ExitCode;
+use std::time::Instant;
+
+/// N 8, P 16 and N 2, P 1, each with the number of calls that a batch has at least: short enough to go undisturbed.
+const SIZES: [(Layout, usize); 2] = [
+    (
+        Layout {
+            boards: 8,
+            pages: 16,
+        },
+        32,
+    ),
+    (
+        Layout {
+            boards: 2,
+            pages: 1,
+        },
+        128,
+    ),
+];
+
+/// The best of so many batches counts: what disturbs a batch only makes it longer.
+const BATCHES: usize = 400;
+
+/// A copy of a row's bank, and the second engine's notes about it.
+struct Buffer {
+    bank: Box<[u8]>,
+    watch: Watch,
+}
+
+#[derive(Clone, Copy)]
+enum Timed {
+    Archive,
+    Second,
+    /// One pass over the bytes of a bank, which the goal measures the accept by.
+    Sum,
+}
+
+/// What is timed, and what is counted: the calls one after another, each behind a choice of the C function or of the
+/// second engine's call, and nothing else. The state was copied into the buffers before.
+#[no_mangle]
+#[inline(never)]
+fn measured(timed: Timed, buffers: &mut [Buffer], calls: &[Line]) {
+    for buffer in buffers {
+        for line in calls {
+            match timed {
+                Timed::Archive => black_box(archive(&mut buffer.bank, line)),
+                Timed::Second => black_box(second(buffer, line)),
+                Timed::Sum => black_box(sum(black_box(&buffer.bank))),
+            };
+        }
+    }
+}
+
+fn second(buffer: &mut Buffer, line: &Line) -> u64 {
+    match line {
+        Line::Call(asked) => packed(&call(
+            &mut buffer.bank,
+            asked,
+            Fault::None,
+            &mut buffer.watch,
+        )),
+        Line::Make { boards, pages } => packed(&make(&mut buffer.bank, *boards, *pages)),
+    }
+}
+
+fn sum(bank: &[u8]) -> u64 {
+    let mut sum = 0;
+    for byte in bank {
+        sum += *byte as u64;
+    }
+    sum
+}
+
+const TIMED: [Timed; 3] = [Timed::Archive, Timed::Second, Timed::Sum];
+
+/// Copies the row's state into the buffers; outside of what is timed.
+fn prepare(buffers: &mut [Buffer], row: &Row) {
+    let layout = Layout::of(&row.bank);
+    for Buffer { bank, watch } in buffers {
+        bank.copy_from_slice(&row.bank);
+        for board in 0..layout.boards {
+            watch.log_emptied(board);
+            (0..bank[layout.volatile(board)]).for_each(|_| watch.record_made(board, 0));
+        }
+    }
+}
+
+/// The second engine's notes have room for every record, so that no timed call allocates.
+fn buffers(row: &Row, count: usize) -> Vec<Buffer> {
+    let buffer = |_| {
+        let mut watch = Watch::new();
+        for board in 0..Layout::of(&row.bank).boards {
+            (0..SLOTS).for_each(|_| watch.record_made(board, 0));
+        }
+        Buffer {
+            bank: row.bank.clone().into(),
+            watch,
+        }
+    };
+    (0..count).map(buffer).collect()
+}
+
+/// Nanoseconds for each call of a row: the best batch of each, by turns.
+fn nanoseconds(row: &Row, least: usize, timed: &[Timed]) -> Vec<f64> {
+    let count = least.div_ceil(row.calls.len());
+    let mut buffers = buffers(row, count);
+    let mut best = vec![f64::MAX; timed.len()];
+    for _ in 0..BATCHES {
+        for (best, timed) in best.iter_mut().zip(timed) {
+            prepare(&mut buffers, row);
+            let start = Instant::now();
+            measured(*timed, &mut buffers, &row.calls);
+            let batch = start.elapsed().as_nanos() as f64;
+            *best = best.min(batch / (count * row.calls.len()) as f64);
+        }
+    }
+    best
+}
+
+/// Whether both engines answer a row's calls alike and leave the same bytes.
+fn agrees(row: &Row) -> bool {
+    let mut pair = Pair::new(&row.bank, Fault::None);
+    row.calls.iter().all(|line| pair.take(line).is_ok())
+}
+
+fn bench() {
+    for (layout, least) in SIZES {
+        let Layout { boards, pages } = layout;
+        println!("N {boards}, P {pages}: {} bytes", layout.length());
+        println!("nanoseconds a call           archive    second     ratio     calls   of a summing pass");
+        for row in &rows(layout) {
+            let accepts = row.name.starts_with("accept");
+            let timed = if accepts { &TIMED[..] } else { &TIMED[..2] };
+            let best = nanoseconds(row, least, timed);
+            let [archive, second] = [best[0], best[1]];
+            let calls = row.calls.len();
+            print!(
+                "{:26}{archive:>10.0}{second:>10.0}{:>10.2}{calls:>10}",
+                row.name,
+                archive / second
+            );
+            match best.get(2) {
+                Some(sum) => println!("{:>10.2} of {sum:.0}", archive / sum),
+                None => println!(),
+            }
+        }
+        println!();
+    }
+}
+
+/// Each engine once on one buffer, and a line for each row with its number of calls.
+fn counts() {
+    for (layout, _) in SIZES {
+        let rows = rows(layout);
+        let size = format!("N {}, P {}", layout.boards, layout.pages);
+        for row in &rows {
+            let mut buffers = buffers(row, 1);
+            for timed in &TIMED[..2] {
+                prepare(&mut buffers, row);
+                measured(*timed, &mut buffers, &row.calls);
+            }
+            println!("{size}: {}|{}", row.name, row.calls.len());
+        }
+    }
+}
+
+fn main() -> ExitCode {
+    let arguments: Vec<String> = std::env::args().skip(1).collect();
+    for (layout, _) in SIZES {
+        if let Some(row) = rows(layout).iter().find(|row| !agrees(row)) {
+            println!("the engines differ in the row '{}'", row.name);
+            return ExitCode::FAILURE;
+        }
+    }
+    match arguments.iter().map(String::as_str).collect::<Vec<_>>()[..] {
+        [] => bench(),
+        ["counts"] => counts(),
+        _ => {
+            eprintln!("usage: bench [counts]");
+            return ExitCode::from(2);
+        }
+    }
+    ExitCode::SUCCESS
+}

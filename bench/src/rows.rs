@@ -1,0 +1,169 @@
+//! The rows of the bench: a bank in some state, and the calls that are timed on it.
+
+use second::calls::{call, make, Call};
+use second::check::well_formed;
+use second::fault::Fault;
+use second::gen::Generator;
+use second::layout::*;
+use second::line::{read_line, Line};
+use second::trial::Trial;
+use second::watch::Watch;
+
+pub struct Row {
+    pub name: &'static str,
+    pub bank: Vec<u8>,
+    pub calls: Vec<Line>,
+}
+
+const MIXED_LINES: u32 = 600;
+const REPEATS: usize = 32;
+
+fn row(name: &'static str, bank: &[u8], calls: Vec<Line>) -> Row {
+    assert!(well_formed(bank));
+    Row {
+        name,
+        bank: bank.to_vec(),
+        calls,
+    }
+}
+
+/// A call by its line.
+fn line(text: &str) -> Line {
+    read_line(text.as_bytes()).expect("a readable line")
+}
+
+/// Lines that the second engine carries out one after another, as long as each is done.
+fn done(bank: &mut [u8], lines: impl Iterator<Item = String>) -> Vec<Line> {
+    let mut watch = Watch::new();
+    lines
+        .map(|text| line(&text))
+        .take_while(|line| match line {
+            Line::Call(asked) => call(bank, asked, Fault::None, &mut watch).code == 0,
+            Line::Make { .. } => false,
+        })
+        .collect()
+}
+
+fn fresh(layout: Layout) -> Vec<u8> {
+    let mut bank = vec![0; layout.length()];
+    make(&mut bank, layout.boards as u32, layout.pages as u32);
+    bank
+}
+
+/// 32 records in every area, in the order that write fetches leave them.
+fn full_logs(layout: Layout) -> Vec<u8> {
+    let mut bank = fresh(layout);
+    for area in (0..2 * layout.boards).map(|place| layout.area(place / 2, place % 2)) {
+        bank[layout.stored(area)] = SLOTS as u8;
+        for place in 0..SLOTS {
+            let slot = layout.area_slot(area, place);
+            let kind = [GOT_OWN, SHOWN, DROPPED][place % 3];
+            bank[slot..slot + 2].copy_from_slice(&kind);
+            bank[slot + SLOT_PAGE] = (place / 3 % layout.pages) as u8;
+            if kind == GOT_OWN {
+                bank[slot + SLOT_BYTES..slot + SLOT].fill(place as u8);
+            }
+        }
+    }
+    bank
+}
+
+/// Page 0 written by board 1, 0, 1, ..: every write is a fetch.
+fn alternating() -> impl Iterator<Item = String> {
+    (1..=21).map(|turn| format!("W {} 0 0 {turn}", turn % 2))
+}
+
+/// Board 1 is down with 32 stored records; what it did is to be repeated by 11 writes.
+fn full_log_and_down(layout: Layout) -> Vec<u8> {
+    let mut bank = fresh(layout);
+    let more = ["C 0", "R 0 0 0", "K 1"].map(String::from);
+    assert_eq!(done(&mut bank, alternating().chain(more)).len(), 24);
+    assert_eq!(bank[layout.stored(layout.selected(&bank, 1))], SLOTS as u8);
+    bank
+}
+
+/// The calls of a random script from the first seed that makes a bank of this size.
+fn mixed(layout: Layout) -> Vec<Line> {
+    let wanted = Line::Make {
+        boards: layout.boards as u32,
+        pages: layout.pages as u32,
+    };
+    (1..)
+        .map(|seed| script(seed, wanted))
+        .find(|lines| !lines.is_empty())
+        .unwrap_or_default()
+}
+
+/// The readable lines of a seed's script behind its first, if the first is the one wanted.
+fn script(seed: u64, wanted: Line) -> Vec<Line> {
+    let mut generator = Generator::new(seed, MIXED_LINES);
+    let mut trial = Trial::new(Fault::None);
+    let mut lines = Vec::new();
+    for number in 0..MIXED_LINES {
+        let line = generator.next(&trial).read();
+        if number == 0 && line != Some(wanted) {
+            return lines;
+        }
+        trial.take(line);
+        lines.extend(line.filter(|line| matches!(line, Line::Call(_))));
+    }
+    lines
+}
+
+pub fn rows(layout: Layout) -> Vec<Row> {
+    let bank = fresh(layout);
+    let boards = layout.boards;
+    // No board has this number, so the bank is accepted and then the call refused.
+    let accept = vec![Line::Call(Call::Cut { board: u32::MAX }); REPEATS];
+
+    let making = Line::Make {
+        boards: boards as u32,
+        pages: layout.pages as u32,
+    };
+    let mut all_down = fresh(layout);
+    let cuts = done(&mut all_down, (0..boards).map(|board| format!("K {board}")));
+
+    let reads = (0..boards).flat_map(|board| {
+        let others = (0..layout.pages).filter(move |page| page % boards != board);
+        others.map(move |page| format!("R {board} {page} 0"))
+    });
+    let read_fetches = done(&mut fresh(layout), reads);
+    let write_fetches = done(&mut fresh(layout), alternating());
+
+    let mut copies_out = fresh(layout);
+    done(
+        &mut copies_out,
+        (1..boards).map(|board| format!("R {board} 0 0")),
+    );
+
+    let down = full_log_and_down(layout);
+    let mut replaying = down.clone();
+    done(&mut replaying, std::iter::once("S 1".into()));
+    let repeated = alternating().filter(|text| text.starts_with("W 1"));
+
+    vec![
+        row("accept, fresh bank", &bank, accept.clone()),
+        row("accept, all boards down", &all_down, accept.clone()),
+        row("accept, all logs full", &full_logs(layout), accept),
+        row("make", &bank, vec![making; REPEATS]),
+        row("cut", &bank, cuts),
+        row("fuse", &bank, vec![line("F 0 9"); REPEATS]),
+        row("local read", &bank, vec![line("R 0 0 3"); REPEATS]),
+        row("local write", &bank, vec![line("W 0 0 3 7"); REPEATS]),
+        row("read fetch", &bank, read_fetches),
+        row("write fetch", &bank, write_fetches),
+        row(
+            "own write, copies out",
+            &copies_out,
+            vec![line("W 0 0 0 7")],
+        ),
+        row("checkpoint", &bank, vec![line("C 0"); REPEATS]),
+        row("restart, 32 records", &down, vec![line("S 1")]),
+        row(
+            "replay of 32 records",
+            &replaying,
+            done(&mut replaying.clone(), repeated),
+        ),
+        row("mixed script", &bank, mixed(layout)),
+    ]
+}

@@ -1,0 +1,72 @@
+/* The bank of a vending machine, for C and C++: boards that share pages of memory and come back after a power loss.
+ *
+ * A bank is one buffer of BANK_LENGTH(boards, pages) bytes, of any alignment. bank_make fills it; every other call works on
+ * it in place and may be given any bytes and any numbers: what it can't use it refuses, and then it changes nothing.
+ *
+ * The caller promises two things. The pointer is valid for `len` bytes, to read and to write. Nobody else touches these bytes
+ * until the call is back: no second thread, no interrupt, no DMA.
+ *
+ * Link with libengine.a. It allocates nothing and keeps nothing between calls. */
+#ifndef BANK_H
+#define BANK_H
+
+#include <stddef.h>
+#include <stdint.h>
+
+#ifdef __cplusplus
+extern "C" {
+#endif
+
+enum {
+    BANK_MOST_BOARDS = 8,      /* boards are 0 to boards - 1 */
+    BANK_MOST_PAGES = 16,      /* pages are 0 to pages - 1 */
+    BANK_PAGE_BYTES = 16,      /* offsets are 0 to 15 */
+    BANK_LONGEST_FUSE = 65534, /* fuses are 1 to 65,534 stores */
+    BANK_LOG_RECORDS = 32      /* a board's log holds so many */
+};
+
+/* How many bytes a bank has: 2,191 for one board and one page, 23,636 at most. */
+#define BANK_LENGTH(boards, pages) (4 + 2 * (size_t)(pages) + (size_t)(boards) * (2134 + 51 * (size_t)(pages)))
+
+/* What a call says. Under 1 to 7 nothing was done, except that an access which ended a replay keeps that end. */
+enum bank_codes {
+    BANK_DONE = 0,           /* Done. */
+    BANK_MALFORMED = 1,      /* The bytes are no bank, or bank_make was given a wrong length. Sell nothing from it: bring back a good copy, or make a new bank. */
+    BANK_OUT_OF_RANGE = 2,   /* A number is too large, or a fuse or a size is 0. The caller is wrong: mend it. */
+    BANK_WRONG_STATE = 3,    /* Board `who` is down: restart it. Or it is not down and needs no restart. Or it replays: no checkpoint until that is over. */
+    BANK_COUNTERS_FULL = 4,  /* Board `who` made 65,535 accesses since its last record: checkpoint it, then try again. If it stays so, its access number is used up: make a new bank. */
+    BANK_REPLAY_DIFFERS = 5, /* Board `who` replays, and this access isn't the one that its log goes on with: repeat its accesses exactly, in their order. */
+    BANK_OWNER_NOT_UP = 6,   /* The page belongs to board `who`, which is down or replays: restart it, let it repeat its accesses, then try again. */
+    BANK_LOG_FULL = 7,       /* The log of board `who` has no room: checkpoint that board, then try again. */
+    BANK_POWER_LOST = 8      /* The fuse of board `who` blew in this call. It is down; what was stored before stands, this call was not finished. Restart it. */
+};
+
+/* Every call answers one number with four fields. */
+static inline uint32_t bank_code(uint64_t answer) { return (uint32_t)(answer & 255); }           /* one of bank_codes */
+static inline uint32_t bank_who(uint64_t answer) { return (uint32_t)(answer >> 8 & 255); }       /* the board that a code from 3 on speaks of, else 0 */
+static inline uint32_t bank_stores(uint64_t answer) { return (uint32_t)(answer >> 16 & 65535); } /* stores to stable memory in this call, under every code */
+static inline uint32_t bank_value(uint64_t answer) { return (uint32_t)(answer >> 32); }          /* under code 0 of a read or a restart, else 0 */
+
+/* Makes a fresh bank: all boards up, page p owned by board p mod boards, all bytes of all pages 0. */
+uint64_t bank_make(uint8_t *bank, size_t len, uint32_t boards, uint32_t pages);
+
+/* A board reads a byte of a page (the value), or writes one. It fetches the page where it must. */
+uint64_t bank_read(uint8_t *bank, size_t len, uint32_t board, uint32_t page, uint32_t offset);
+uint64_t bank_write(uint8_t *bank, size_t len, uint32_t board, uint32_t page, uint32_t offset, uint32_t value);
+
+/* Stores what a board holds and empties its log: a restart begins here. */
+uint64_t bank_checkpoint(uint8_t *bank, size_t len, uint32_t board);
+
+/* A board loses its power now, or right after its `stores`-th next store. A second fuse takes the place of the first. */
+uint64_t bank_cut(uint8_t *bank, size_t len, uint32_t board);
+uint64_t bank_fuse(uint8_t *bank, size_t len, uint32_t board, uint32_t stores);
+
+/* Power is back. The value is the board's access number at its checkpoint: the board now repeats, from the next access on, what it
+ * did after that, and gets the same bytes from its log. Where the log ends it goes on live. */
+uint64_t bank_restart(uint8_t *bank, size_t len, uint32_t board);
+
+#ifdef __cplusplus
+}
+#endif
+
+#endif

@@ -1,0 +1,37 @@
+# Sourced, with `root` set to the repository: builds what several programs link, each where it is missing or a source is newer.
+
+# newer FILE PATH..: whether FILE is missing or something under PATH.. is newer, edits that must fail apart.
+newer() {
+    made=$1
+    shift
+    [ ! -e "$made" ] || [ -n "$(find "$@" -type f ! -path '*/must-fail/*' -newer "$made" -print -quit)" ]
+}
+
+# quietly COMMAND..: runs it without the standard input and shows what it printed only if it fails.
+quietly() {
+    mkdir -p "$root/target" || exit 2
+    if ! "$@" </dev/null >"$root/target/build.$$.log" 2>&1; then
+        cat "$root/target/build.$$.log" >&2
+        rm -f "$root/target/build.$$.log"
+        exit 2
+    fi
+    rm -f "$root/target/build.$$.log"
+}
+
+# The proved engine for C and Rust to link: $archive. Its proof is checked on the way, which takes a minute or more.
+build_archive() {
+    archive=$root/target/staticlib/libengine.a
+    if newer "$archive" "$root/crates" "$root/crates.txt"; then
+        echo "building target/staticlib/libengine.a" >&2
+        quietly env -C "$root" rt staticlib engine
+    fi
+}
+
+# The second engine as a library of Rust: $second.
+build_second() {
+    second=$root/target/second/libsecond.rlib
+    if newer "$second" "$root/tests/second_engine/src"; then
+        mkdir -p "$root/target/second" || exit 2
+        quietly rustc --edition 2021 -C opt-level=3 --crate-type rlib --crate-name second -o "$second" "$root/tests/second_engine/src/lib.rs"
+    fi
+}

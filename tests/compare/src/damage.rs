@@ -1,0 +1,67 @@
+//! Banks that are damaged: bytes changed, most of them where a rule looks, or a wrong length.
+
+use crate::made::fill;
+use second::layout::*;
+use second::random::Random;
+
+/// A place that some rule of a well-formed bank speaks of.
+fn ruled_place(random: &mut Random, layout: Layout) -> usize {
+    let board = random.below(layout.boards as u32) as usize;
+    let page = random.below(layout.pages as u32) as usize;
+    let slot = random.below(SLOTS as u32) as usize;
+    let area = layout.area(board, random.below(2) as usize);
+    let in_slot = random.pick(&[0, 1, SLOT_PAGE, SLOT_ZERO, SLOT_BYTES, SLOT - 1]);
+    let in_frame = random.pick(&[0, 0, 1, FRAME - 1]);
+    match random.below(8) {
+        0 => random.below(4) as usize,
+        1 => layout.owner(page) + random.below(2) as usize,
+        2 => layout.state(board) + random.below(12) as usize,
+        3 => random.pick(&[layout.place(board), layout.volatile(board)]),
+        4 => layout.frame(board, page) + in_frame,
+        5 => layout.area_frame(area, page) + in_frame,
+        6 => layout.stored(area),
+        _ => {
+            let first = match random.below(2) {
+                0 => layout.volatile_slot(board, 0),
+                _ => layout.area_slot(area, 0),
+            };
+            first + SLOT * slot.min(random.below(4) as usize) + in_slot
+        }
+    }
+}
+
+/// Changes one byte or a few.
+pub fn bytes(random: &mut Random, bank: &mut [u8]) {
+    let layout = Layout::of(bank);
+    let times = random.pick(&[1, 1, 1, 2, 3, 8]);
+    for _ in 0..times {
+        let at = match random.permille(700) {
+            true => ruled_place(random, layout),
+            false => random.below(bank.len() as u32) as usize,
+        };
+        bank[at] = match random.below(6) {
+            0 | 1 => bank[at].wrapping_add(1),
+            2 => bank[at].wrapping_sub(1),
+            3 => bank[at] ^ 1 << random.below(8),
+            4 => random.pick(&[0, 1, 2, 3, 16, 32, 33, 255]),
+            _ => random.below(256) as u8,
+        };
+    }
+}
+
+/// Another length: shorter or longer by little or much, or next to nothing.
+pub fn length(random: &mut Random, bank: &mut Vec<u8>) {
+    let old = bank.len();
+    let block = Layout::of(bank).block(1) - Layout::of(bank).block(0);
+    let by = random.pick(&[1, 1, 2, 51, 2_134, block]);
+    let new = match random.below(4) {
+        0 => old - by.min(old),
+        1 => old + by,
+        2 => random.below(8) as usize,
+        _ => random.below(old as u32) as usize,
+    };
+    bank.resize(new, 0);
+    if new > old && random.permille(500) {
+        fill(random, &mut bank[old..]);
+    }
+}

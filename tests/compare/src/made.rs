@@ -1,0 +1,226 @@
+//! Well-formed banks made by hand, which no run need ever reach: random fields in their ranges, often at a limit.
+//! Slots at or past a count are anything: any bytes, zero or records.
+
+use second::calls::make;
+use second::layout::*;
+use second::random::Random;
+
+/// The smallest and largest sizes often, the others sometimes.
+pub fn size(random: &mut Random) -> Layout {
+    let boards = random.pick(&[1, 2, 2, 2, 3, 3, 4, 5, 8]);
+    let pages = random.pick(&[1, 1, 2, 2, 3, 4, 7, 16]);
+    Layout { boards, pages }
+}
+
+pub fn fresh(layout: Layout) -> Vec<u8> {
+    let mut bank = vec![0; layout.length()];
+    make(&mut bank, layout.boards as u32, layout.pages as u32);
+    bank
+}
+
+/// Any bytes.
+pub fn fill(random: &mut Random, bytes: &mut [u8]) {
+    for four in bytes.chunks_mut(4) {
+        let word = random.below(u32::MAX).to_le_bytes();
+        four.copy_from_slice(&word[..four.len()]);
+    }
+}
+
+pub fn bank(random: &mut Random) -> Vec<u8> {
+    let layout = size(random);
+    let mut bank = fresh(layout);
+    let first_block = layout.block(0);
+    if random.permille(700) {
+        fill(random, &mut bank[first_block..]);
+    }
+    let records_past = random.permille(400);
+    let mut making = Making {
+        random,
+        bank,
+        layout,
+        records_past,
+    };
+    making.states();
+    making.directory();
+    (0..layout.boards).for_each(|board| making.block(board));
+    making.bank
+}
+
+struct Making<'a> {
+    random: &'a mut Random,
+    bank: Vec<u8>,
+    layout: Layout,
+    /// Whether there are records past the counts too.
+    records_past: bool,
+}
+
+impl Making<'_> {
+    fn states(&mut self) {
+        let mostly_up = self.random.permille(600);
+        for board in 0..self.layout.boards {
+            let state = match mostly_up {
+                true => self.random.pick(&[UP, UP, UP, UP, UP, UP, DOWN, REPLAYING]),
+                false => self.random.pick(&[UP, DOWN, REPLAYING, REPLAYING]),
+            };
+            self.bank[self.layout.state(board)] = state;
+        }
+    }
+
+    /// Copy-sets name up boards that aren't the owner.
+    fn directory(&mut self) {
+        for page in 0..self.layout.pages {
+            let owner = self.random.below(self.layout.boards as u32) as usize;
+            let mut copies = 0;
+            let chance = self.random.pick(&[0, 300, 600, 1000]);
+            for board in 0..self.layout.boards {
+                let may_hold = board != owner && self.bank[self.layout.state(board)] == UP;
+                if may_hold && self.random.permille(chance) {
+                    copies |= 1 << board;
+                }
+            }
+            self.bank[self.layout.owner(page)] = owner as u8;
+            self.bank[self.layout.copies(page)] = copies;
+        }
+    }
+
+    fn block(&mut self, board: usize) {
+        let layout = self.layout;
+        let state = self.bank[layout.state(board)];
+        self.bank[layout.selector(board)] = self.random.below(2) as u8;
+        for which in 0..2 {
+            let least = (state == REPLAYING) as u8;
+            self.area(layout.area(board, which), least);
+        }
+        self.frames(board, state);
+        let selected = layout.selected(&self.bank, board);
+        let stored = self.bank[layout.stored(selected)];
+        let (mut fuse, mut number, mut since, mut place, mut volatile) = (NO_FUSE, 0, 0, 0, 0);
+        if state != DOWN {
+            fuse = self.fuse();
+            number = self.number();
+            since = self.since();
+        }
+        if state == UP {
+            volatile = self.count(SLOTS as u8 - stored);
+        }
+        if state == REPLAYING {
+            place = self.random.below(stored as u32) as u8;
+            let next = layout.area_slot(selected, place as usize);
+            if self.random.permille(700) {
+                since = get16(&self.bank, next + SLOT_COUNT);
+            }
+        }
+        put16(&mut self.bank, layout.fuse(board), fuse);
+        put32(&mut self.bank, layout.number(board), number);
+        put16(&mut self.bank, layout.since(board), since);
+        self.bank[layout.place(board)] = place;
+        self.bank[layout.volatile(board)] = volatile;
+        self.records(layout.volatile_slot(board, 0), volatile);
+    }
+
+    fn area(&mut self, area: usize, least: u8) {
+        let number = self.number();
+        put32(&mut self.bank, area, number);
+        let stored = self.count(SLOTS as u8).max(least);
+        self.bank[self.layout.stored(area)] = stored;
+        self.records(self.layout.area_slot(area, 0), stored);
+        for page in 0..self.layout.pages {
+            let right = self.right();
+            self.frame(self.layout.area_frame(area, page), right);
+        }
+    }
+
+    /// An up board's rights are the directory's, a replaying board's any, a down board has none.
+    fn frames(&mut self, board: usize, state: u8) {
+        for page in 0..self.layout.pages {
+            let right = match state {
+                UP if self.bank[self.layout.owner(page)] as usize == board => OWN,
+                UP => self.bank[self.layout.copies(page)] >> board & 1,
+                DOWN => NONE,
+                _ => self.right(),
+            };
+            self.frame(self.layout.frame(board, page), right);
+        }
+    }
+
+    fn frame(&mut self, at: usize, right: u8) {
+        self.bank[at] = right;
+        if right == NONE {
+            self.bank[at + 1..at + FRAME].fill(0);
+        } else {
+            fill(self.random, &mut self.bank[at + 1..at + FRAME]);
+        }
+    }
+
+    /// Valid records in the first slots of a log; many have count 0, so that several are due at once.
+    fn records(&mut self, first: usize, count: u8) {
+        let count = if self.records_past {
+            SLOTS
+        } else {
+            count as usize
+        };
+        for slot in (0..count).map(|slot| first + SLOT * slot) {
+            let kind = self.random.pick(&[GOT_COPY, GOT_OWN, SHOWN, DROPPED]);
+            let page = self.random.below(self.layout.pages as u32) as u8;
+            let since = match self.random.below(4) {
+                0 => self.since(),
+                _ => self.random.below(2) as u16,
+            };
+            self.bank[slot..slot + 2].copy_from_slice(&kind);
+            self.bank[slot + SLOT_PAGE] = page;
+            self.bank[slot + SLOT_ZERO] = 0;
+            put16(&mut self.bank, slot + SLOT_COUNT, since);
+            let bytes = &mut self.bank[slot + SLOT_BYTES..slot + SLOT];
+            match kind {
+                SHOWN | DROPPED => bytes.fill(0),
+                _ => fill(self.random, bytes),
+            }
+        }
+    }
+
+    fn right(&mut self) -> u8 {
+        self.random.pick(&[NONE, NONE, COPY, OWN])
+    }
+
+    fn count(&mut self, most: u8) -> u8 {
+        let most = most as u32;
+        match self.random.below(6) {
+            0 | 1 => 0,
+            2 => most,
+            3 => most - self.random.below(most.min(3) + 1),
+            4 => self.random.below(most.min(3) + 1),
+            _ => self.random.below(most + 1),
+        }
+        .try_into()
+        .unwrap_or(0)
+    }
+
+    fn fuse(&mut self) -> u16 {
+        match self.random.below(8) {
+            0..=3 => NO_FUSE,
+            4 => self.random.pick(&[NO_FUSE - 1, 256, 255]),
+            5 => self.random.between(1, 40) as u16,
+            _ => self.random.between(1, 3) as u16,
+        }
+    }
+
+    fn since(&mut self) -> u16 {
+        match self.random.below(8) {
+            0 => u16::MAX,
+            1 => u16::MAX - 1,
+            2 => self.random.pick(&[255, 256]),
+            3 => self.random.below(65_536) as u16,
+            _ => self.random.below(3) as u16,
+        }
+    }
+
+    fn number(&mut self) -> u32 {
+        match self.random.below(12) {
+            0 => u32::MAX,
+            1 => u32::MAX - 1,
+            2 => self.random.pick(&[255, 65_535, 16_777_215]),
+            3 => self.random.below(u32::MAX),
+            _ => self.random.below(50),
+        }
+    }
+}

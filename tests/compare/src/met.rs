@@ -1,0 +1,100 @@
+//! What a run met: calls by kind and code, calls and banks by source.
+
+use second::calls::Call;
+use second::line::Line;
+
+#[derive(Clone, Copy)]
+pub enum Source {
+    Script,
+    Made,
+    Damaged,
+    Length,
+    Making,
+}
+
+const SOURCES: [&str; 5] = [
+    "random scripts from a fresh bank",
+    "well-formed banks made by hand",
+    "banks with damaged bytes",
+    "banks of a wrong length",
+    "makings in any buffer",
+];
+
+/// The runner's letters, and which codes each call can answer.
+const KINDS: [(&str, &[usize]); 7] = [
+    ("N", &[0, 1, 2]),
+    ("R", &[0, 1, 2, 3, 4, 5, 6, 7, 8]),
+    ("W", &[0, 1, 2, 3, 4, 5, 6, 7, 8]),
+    ("C", &[0, 1, 2, 3, 8]),
+    ("K", &[0, 1, 2, 3]),
+    ("F", &[0, 1, 2, 3]),
+    ("S", &[0, 1, 2, 3]),
+];
+const CODES: usize = 9;
+
+#[derive(Default)]
+pub struct Met {
+    pub calls: u64,
+    answered: [[u64; CODES]; KINDS.len()],
+    /// For each source its banks, its calls and those answered 1.
+    sources: [[u64; 3]; SOURCES.len()],
+}
+
+fn kind_of(line: &Line) -> usize {
+    match line {
+        Line::Make { .. } => 0,
+        Line::Call(Call::Read { .. }) => 1,
+        Line::Call(Call::Write { .. }) => 2,
+        Line::Call(Call::Checkpoint { .. }) => 3,
+        Line::Call(Call::Cut { .. }) => 4,
+        Line::Call(Call::Fuse { .. }) => 5,
+        Line::Call(Call::Restart { .. }) => 6,
+    }
+}
+
+impl Met {
+    pub fn bank(&mut self, source: Source) {
+        self.sources[source as usize][0] += 1;
+    }
+
+    pub fn call(&mut self, source: Source, line: &Line, answer: u64) {
+        let code = (answer & 255) as usize;
+        self.calls += 1;
+        self.answered[kind_of(line)][code.min(CODES - 1)] += 1;
+        self.sources[source as usize][1] += 1;
+        self.sources[source as usize][2] += (code == 1) as u64;
+    }
+
+    pub fn print(&self) {
+        let codes = (0..CODES).map(|code| format!("{:>10}", format!("code {code}")));
+        println!("call       calls{}", codes.collect::<String>());
+        for ((kind, _), codes) in KINDS.iter().zip(&self.answered) {
+            let columns = codes.iter().map(|count| format!("{count:>10}"));
+            let all: u64 = codes.iter().sum();
+            println!("{kind:>4}{all:>12}{}", columns.collect::<String>());
+        }
+        for (name, [banks, calls, malformed]) in SOURCES.iter().zip(&self.sources) {
+            println!("{name}: {banks} banks, {calls} calls, {malformed} of them malformed");
+        }
+        println!("never met: {}", self.never_met());
+    }
+
+    /// Calls with a code that they can answer and didn't.
+    fn never_met(&self) -> String {
+        let missing: Vec<String> = KINDS
+            .iter()
+            .zip(&self.answered)
+            .flat_map(|((kind, codes), met)| {
+                codes
+                    .iter()
+                    .filter(|code| met[**code] == 0)
+                    .map(move |code| format!("{kind} with {code}"))
+            })
+            .collect();
+        if missing.is_empty() {
+            "none".into()
+        } else {
+            missing.join(", ")
+        }
+    }
+}

@@ -1,0 +1,75 @@
+/* How much stack each call takes: every call runs on a painted stack of its own, and the paint that is left is counted. */
+#include <stdint.h>
+#include <stdio.h>
+#include <stdlib.h>
+#include <string.h>
+#include <ucontext.h>
+
+#include "bank.h"
+
+enum { SIZE = 65536, PAINT = 0xa5, CALLS = 300000 };
+
+static uint8_t stack[SIZE] __attribute__((aligned(64)));
+static ucontext_t back, there;
+static uint8_t *bank;
+static size_t len;
+static int kind;
+static uint32_t arg[4];
+static uint64_t answer;
+
+static void call(void) {
+    switch (kind) {
+    case 0: answer = bank_make(bank, len, arg[0], arg[1]); break;
+    case 1: answer = bank_read(bank, len, arg[0], arg[1], arg[2]); break;
+    case 2: answer = bank_write(bank, len, arg[0], arg[1], arg[2], arg[3]); break;
+    case 3: answer = bank_checkpoint(bank, len, arg[0]); break;
+    case 4: answer = bank_cut(bank, len, arg[0]); break;
+    case 5: answer = bank_fuse(bank, len, arg[0], arg[1]); break;
+    case 6: answer = bank_restart(bank, len, arg[0]); break;
+    default: answer = 0; break; /* nothing: what the measuring itself takes */
+    }
+}
+
+/* Bytes of the painted stack that the call wrote. */
+static size_t used(void) {
+    memset(stack, PAINT, SIZE);
+    getcontext(&there);
+    there.uc_stack.ss_sp = stack;
+    there.uc_stack.ss_size = SIZE;
+    there.uc_link = &back;
+    makecontext(&there, call, 0);
+    swapcontext(&back, &there);
+    size_t left = 0;
+    while (left < SIZE && stack[left] == PAINT) left++;
+    return SIZE - left;
+}
+
+static uint64_t seed = 88172645463325252u;
+
+static uint32_t below(uint32_t n) {
+    seed ^= seed << 13;
+    seed ^= seed >> 7;
+    seed ^= seed << 17;
+    return (uint32_t)((seed >> 11) % n);
+}
+
+int main(void) {
+    static const char *names[] = {"bank_make", "bank_read", "bank_write", "bank_checkpoint", "bank_cut", "bank_fuse", "bank_restart"};
+    size_t most[7] = {0};
+    len = BANK_LENGTH(8, 16);
+    bank = malloc(len);
+    kind = 7;
+    size_t none = used();
+    kind = 0, arg[0] = 8, arg[1] = 16;
+    most[0] = used();
+    for (int i = 0; i < CALLS; i++) {
+        uint32_t k = below(16);
+        kind = k < 6 ? 1 : k < 12 ? 2 : k == 12 ? 3 : k == 13 ? 5 : k == 14 && below(4) == 0 ? 4 : 6;
+        arg[0] = below(8), arg[1] = kind == 5 ? 1 + below(40) : below(3), arg[2] = below(16), arg[3] = below(256);
+        size_t n = used();
+        if (n > most[kind]) most[kind] = n;
+    }
+    for (int k = 0; k < 7; k++) printf("%-16s %5zu bytes of stack\n", names[k], most[k] - none);
+    free(bank);
+    return 0;
+}
