@@ -1,0 +1,163 @@
+-- `script::work::do_call` meets its contract: each arm is a case of the definition. Assumes nothing.
+use mathlib.Core.Path.{refl}
+use Rattle.script.specs.Laws.Work.{called, call-worked, line-unread}
+use borrow.Author.Needs.{needs}
+use Rattle.script.proofs.work.do_call.Statement.{statement}
+use Rattle.script.proofs.work.do_call.Tie as tie
+
+enum-told : tie.Need-enum-told
+enum-told c = search needs
+
+not-read-requires : tie.Need-not-read-requires
+not-read-requires c κs = search needs
+
+enum-known-request : tie.Need-enum-known-request
+enum-known-request c = search needs
+
+read-requires : tie.Need-read-requires
+read-requires c κs = search needs
+
+printed-of-requires : tie.Need-printed-of-requires
+printed-of-requires c κs = search needs
+
+enum-known-request-2 : tie.Need-enum-known-request-2
+enum-known-request-2 c = search needs
+
+write-requires : tie.Need-write-requires
+write-requires c κs = search needs
+
+printed-of-requires-2 : tie.Need-printed-of-requires-2
+printed-of-requires-2 c κs = search needs
+
+enum-known-request-3 : tie.Need-enum-known-request-3
+enum-known-request-3 c = search needs
+
+checkpoint-requires : tie.Need-checkpoint-requires
+checkpoint-requires c κs = search needs
+
+printed-of-requires-3 : tie.Need-printed-of-requires-3
+printed-of-requires-3 c κs = search needs
+
+enum-known-request-4 : tie.Need-enum-known-request-4
+enum-known-request-4 c = search needs
+
+cut-requires : tie.Need-cut-requires
+cut-requires c κs = search needs
+
+printed-of-requires-4 : tie.Need-printed-of-requires-4
+printed-of-requires-4 c κs = search needs
+
+enum-known-request-5 : tie.Need-enum-known-request-5
+enum-known-request-5 c = search needs
+
+fuse-requires : tie.Need-fuse-requires
+fuse-requires c κs = search needs
+
+printed-of-requires-5 : tie.Need-printed-of-requires-5
+printed-of-requires-5 c κs = search needs
+
+enum-known-request-6 : tie.Need-enum-known-request-6
+enum-known-request-6 c = search needs
+
+restart-requires : tie.Need-restart-requires
+restart-requires c κs = search needs
+
+printed-of-requires-6 : tie.Need-printed-of-requires-6
+printed-of-requires-6 c κs = search needs
+
+enum-told-2 : tie.Need-enum-told-2
+enum-told-2 c = search needs
+
+not-read-requires-2 : tie.Need-not-read-requires-2
+not-read-requires-2 c κs = search needs
+
+returns : tie.Need-returns
+unfolding called
+returns c = line-unread _ (c .before .enum-told .given .1) (c .not-read .ensures) refl
+
+same-length : tie.Need-same-length
+same-length c = search needs
+
+returns-2 : tie.Need-returns-2
+unfolding called
+returns-2 c = call-worked _ _ (c .before .before .before .before .before .before .request .given .1) (c .before .before .before .read .ensures .0) (c .printed-of .ensures) refl
+
+same-length-2 : tie.Need-same-length-2
+same-length-2 c = search needs
+
+returns-3 : tie.Need-returns-3
+unfolding called
+returns-3 c = call-worked _ _ (c .before .before .before .before .before .before .request2 .given .1) (c .before .before .before .write .ensures .0) (c .printed-of2 .ensures) refl
+
+same-length-3 : tie.Need-same-length-3
+same-length-3 c = search needs
+
+returns-4 : tie.Need-returns-4
+unfolding called
+returns-4 c = call-worked _ _ (c .before .before .before .before .before .before .request3 .given .1) (c .before .before .before .checkpoint .ensures .0) (c .printed-of3 .ensures) refl
+
+same-length-4 : tie.Need-same-length-4
+same-length-4 c = search needs
+
+returns-5 : tie.Need-returns-5
+unfolding called
+returns-5 c = call-worked _ _ (c .before .before .before .before .before .before .request4 .given .1) (c .before .before .before .cut .ensures .0) (c .printed-of4 .ensures) refl
+
+same-length-5 : tie.Need-same-length-5
+same-length-5 c = search needs
+
+returns-6 : tie.Need-returns-6
+unfolding called
+returns-6 c = call-worked _ _ (c .before .before .before .before .before .before .request5 .given .1) (c .before .before .before .fuse .ensures .0) (c .printed-of5 .ensures) refl
+
+same-length-6 : tie.Need-same-length-6
+same-length-6 c = search needs
+
+returns-7 : tie.Need-returns-7
+unfolding called
+returns-7 c = call-worked _ _ (c .before .before .before .before .before .before .request6 .given .1) (c .before .before .before .restart .ensures .0) (c .printed-of6 .ensures) refl
+
+returns-8 : tie.Need-returns-8
+unfolding called
+returns-8 c = line-unread _ (c .before .enum-told2 .given .1) (c .not-read2 .ensures) refl
+
+pub do-call-spec : {M : Type 1} → statement M
+do-call-spec =
+    tie.close
+    (tie.spec
+    enum-told
+    not-read-requires
+    enum-known-request
+    read-requires
+    printed-of-requires
+    enum-known-request-2
+    write-requires
+    printed-of-requires-2
+    enum-known-request-3
+    checkpoint-requires
+    printed-of-requires-3
+    enum-known-request-4
+    cut-requires
+    printed-of-requires-4
+    enum-known-request-5
+    fuse-requires
+    printed-of-requires-5
+    enum-known-request-6
+    restart-requires
+    printed-of-requires-6
+    enum-told-2
+    not-read-requires-2
+    returns
+    same-length
+    returns-2
+    same-length-2
+    returns-3
+    same-length-3
+    returns-4
+    same-length-4
+    returns-5
+    same-length-5
+    returns-6
+    same-length-6
+    returns-7
+    returns-8)

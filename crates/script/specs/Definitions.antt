@@ -1,0 +1,6 @@
+-- Document 01, "Line runner", as definitions. No proof stands here.
+pub mod Numbers
+pub mod Lines
+pub mod Output
+pub mod Runner
+pub mod Feeding

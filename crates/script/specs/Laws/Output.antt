@@ -1,0 +1,81 @@
+-- Bytes put into a buffer one behind the other, and how many a line has. Assumes nothing.
+use mathlib.Core.Path.{_≡_, refl, sym, ap, _∙_}
+use Prim.Native.Nat.{ℕ, _+_, _*_, _/_, _%_, _≤_, _<_}
+use mathlib.Core.List.{List, [], _∷_, _++_}
+use native.Mathlib.Omega.{arith}
+use lib.ListN.{length, set, length-append}
+use Rattle.model.specs.Definitions.Parts.{splice}
+use Rattle.model.specs.Definitions.Layout.{lastNumber}
+use Rattle.model.specs.Laws.Parts.{splice-next, splice-one, length-splice}
+use Rattle.script.specs.Definitions.Numbers.{digitZero, decimal}
+use Rattle.script.specs.Definitions.Output.{field}
+use Rattle.script.specs.Laws.Numbers.{mostDigits, decimal-fits, decimal-one, decimal-more, length-more}
+
+-- the bytes v stand in the buffer from place a on, all else as it was, and b is the place behind them
+pub record Put (before : List ℕ) (a : ℕ) (v after : List ℕ) (b : ℕ) : Type 0 where
+  pub bytes : after ≡ splice before a v
+  pub end : b ≡ a + length v
+
+-- how many bytes a number takes at most with the byte behind it, a line, and the three numbers of the end
+abbrev pub mostField : ℕ
+mostField = mostDigits + 1
+
+abbrev pub mostLine : ℕ
+mostLine = 5 * mostField
+
+abbrev pub mostLast : ℕ
+mostLast = 3 * mostField
+
+pub field-fits : (n end : ℕ) → n ≤ lastNumber → length (field n end) ≤ mostField
+unfolding field
+field-fits n end h = simp length-append (omega (arith, decimal-fits n h))
+
+pub put-length : {l : List ℕ} {a : ℕ} {v m : List ℕ} {b : ℕ} → Put l a v m b → a + length v ≤ length l → length m ≡ length l
+put-length {l} {a} {v} p h = ap length (p .bytes) ∙ length-splice l a v h
+
+-- one behind the other
+pub put-next : {l : List ℕ} {a : ℕ} {v m : List ℕ} {b : ℕ} {w k : List ℕ} {c : ℕ} → Put l a v m b → Put m b w k c → a ≤ length l → Put l a (v ++ w) k c
+put-next {l} {a} {v} {m} {b} {w} {k} {c} p q h =
+    record {
+      bytes = q .bytes ∙ rw (p .bytes) (splice-next l a b v w (sym (p .end)) h);
+      end = simp length-append (omega (arith, p .end, q .end));
+    }
+
+-- one byte
+pub put-byte : (l : List ℕ) (a c : ℕ) → a < length l → Put l a (c ∷ []) (set l a c) (a + 1)
+put-byte l a c h = record { bytes = sym (splice-one l a c h); end = refl }
+
+-- ---- a number's digits
+
+pub digit-room : (l : List ℕ) (a n : ℕ) → n < 10 → a + length (decimal n) ≤ length l → a < length l
+digit-room l a n h k = omega (arith, rw (decimal-one n h) at k)
+
+pub put-digit : (l : List ℕ) (a n d : ℕ) → n < 10 → d ≡ digitZero + n → a + length (decimal n) ≤ length l → Put l a (decimal n) (set l a d) (a + 1)
+put-digit l a n d h e k = rw (decimal-one n h, ← e) (put-byte l a d (digit-room l a n h k))
+
+-- the last digit, behind those of a tenth
+module _ (l : List ℕ) (a n : ℕ) (m : List ℕ) (b : ℕ) (h : 10 ≤ n) (p : Put l a (decimal (n / 10)) m b) (k : a + length (decimal n) ≤ length l) where
+  tenth-room : a + length (decimal (n / 10)) + 1 ≤ length l
+  tenth-room = omega (arith, length-more n h)
+
+  pub last-digit-room : b < length m
+  last-digit-room = omega (arith, p .end, put-length p (omega (arith, tenth-room)), tenth-room)
+
+  pub put-last-digit : (d : ℕ) → d ≡ digitZero + n % 10 → Put l a (decimal n) (set m b d) (b + 1)
+  put-last-digit d e = rw (decimal-more n h, ← e) (put-next p (put-byte m b d last-digit-room) (omega arith))
+
+-- a number and the byte behind it
+module _ (l : List ℕ) (a n : ℕ) (m : List ℕ) (b : ℕ) (h : n ≤ lastNumber) (k : a + mostField ≤ length l) where
+  pub field-room : a + length (decimal n) ≤ length l
+  field-room = omega (arith, decimal-fits n h)
+
+  module _ (p : Put l a (decimal n) m b) where
+    pub behind-room : b < length m
+    behind-room = omega (arith, p .end, put-length p field-room, decimal-fits n h)
+
+    pub put-field : (end : ℕ) → Put l a (field n end) (set m b end) (b + 1)
+    unfolding field
+    put-field end = put-next p (put-byte m b end behind-room) (omega arith)
+
+    pub field-near : b + 1 ≤ a + mostField
+    field-near = omega (arith, p .end, decimal-fits n h)

@@ -1,0 +1,123 @@
+-- One line's work in a buffer that holds the largest bank. Assumes nothing.
+use mathlib.Core.Path.{_≡_, refl, sym, ap, _∙_}
+use Prim.Native.Nat.{ℕ, _+_, _*_, _≤_, _<_}
+use mathlib.Core.Bool.{true, false, _&&_}
+use mathlib.Core.List.{List, [], _∷_, _++_}
+use native.Mathlib.Nat.{mul-le-mul}
+use native.Mathlib.Omega.{arith}
+use lib.ListN.{length, take, length-append, length-replicate}
+use lib.Seq.{take-at}
+use lib.Dec.{eqb, ltb, leb}
+use borrow.Author.Tests.{eq-eqb, ne-eqb}
+use Rattle.types.specs.declared.Answer.the-variants.{OutOfRange, Done}
+use Rattle.types.specs.declared.Outcome.{Outcome}
+use Rattle.script.specs.declared.print.Printed.{Printed}
+use Rattle.script.specs.declared.request.Request.{Request}
+use Rattle.script.specs.declared.request.Request.the-variants.{Make, Read, Write, Checkpoint, Cut, Fuse, Restart, Unreadable}
+use Rattle.script.specs.declared.work.Work.{Work}
+use Rattle.model.specs.Definitions.Parts.{zeros}
+use Rattle.model.specs.Definitions.Layout.{mostBoards, mostPages, blockSize, bankSize}
+use Rattle.model.specs.Definitions.Bank.{fresh}
+use Rattle.model.specs.Definitions.Codec.{encode}
+use Rattle.fresh.specs.Fresh.{sizesAllowed, sizes-say}
+use Rattle.engine.specs.Contracts.{Replied}
+use Rattle.model.specs.Definitions.Answers.{code}
+use Rattle.model.specs.Definitions.Calls.{Call, refused, Reading, Writing, Checkpointing, Cutting, Fusing, Restarting, Reply, call, make}
+use Rattle.script.specs.Definitions.Output.{printedOf, notRead}
+use Rattle.script.specs.Definitions.Runner.{Worked, unread, worked, made, work}
+
+-- "N 8, P 16 has 23,636 bytes": the largest bank
+abbrev pub mostBank : ℕ
+mostBank = bankSize mostBoards mostPages
+
+-- what a line prints and the bank that it leaves, in the first bytes of a buffer
+pub record Works (w : Worked) (r : Work) (buffer : List ℕ) : Type 0 where
+  pub printed : r .printed ≡ w .printed
+  pub bank : take (r .size) buffer ≡ w .bank
+  pub within : r .size ≤ length buffer
+
+-- a line that is not an N on line 1
+unfoldable pub called : Request → List ℕ → Worked
+called (Make n p) s = unread s
+called (Read b p o) s = worked (call (Reading b p o) s)
+called (Write b p o v) s = worked (call (Writing b p o v) s)
+called (Checkpoint b) s = worked (call (Checkpointing b) s)
+called (Cut b) s = worked (call (Cutting b) s)
+called (Fuse b k) s = worked (call (Fusing b k) s)
+called (Restart b) s = worked (call (Restarting b) s)
+called Unreadable s = unread s
+
+pub work-called : (i : ℕ) (r : Request) (s : List ℕ) → (i ≡ 1 → ⊥) → work i r s ≡ called r s
+unfolding work called
+work-called i (Make n p) s h = cc (ne-eqb i 1 h)
+work-called i (Read b p o) s h = refl
+work-called i (Write b p o v) s h = refl
+work-called i (Checkpoint b) s h = refl
+work-called i (Cut b) s h = refl
+work-called i (Fuse b k) s h = refl
+work-called i (Restart b) s h = refl
+work-called i Unreadable s h = refl
+
+-- a call's reply, printed
+pub call-worked : {q q′ : Request} (s : List ℕ) (c : Call) {o : Outcome} {p : Printed} {t : List ℕ} → q ≡ q′ → Replied (call c s) o t → p ≡ printedOf o
+    → called q′ s ≡ worked (call c s) → (p ≡ called q s .printed) × (t ≡ called q s .bank)
+unfolding worked
+call-worked {q} {q′} s c e h f g = (f ∙ rw (h .0, e, g), h .1 ∙ rw (e, g))
+
+pub line-unread : {q q′ : Request} (s : List ℕ) {p : Printed} → q ≡ q′ → p ≡ notRead → called q′ s ≡ unread s → (p ≡ called q s .printed) × (s ≡ called q s .bank)
+unfolding unread
+line-unread {q} {q′} s e f g = (f ∙ rw (e, g), rw (e, g))
+
+-- ---- make: what the buffer held does not matter
+
+pub make-refused : (n p : ℕ) (s : List ℕ) → sizesAllowed n p ≡ false → make n p s ≡ refused OutOfRange s
+unfolding make
+make-refused n p s e = cc e
+
+pub make-done : (n p : ℕ) (s : List ℕ) → sizesAllowed n p ≡ true → length s ≡ bankSize n p
+    → make n p s ≡ record { outcome = record { answer = Done 0; stores = 0 }; bytes = encode (fresh n p) }
+unfolding make
+make-done n p s e h = cc (e, eq-eqb (length s) (bankSize n p) h)
+
+pub bank-sizes : (n p : ℕ) → n ≤ mostBoards → p ≤ mostPages → bankSize n p ≤ mostBank
+bank-sizes n p h k =
+    let block : blockSize p ≤ blockSize mostPages = omega arith in
+    let m : n * blockSize p ≤ mostBoards * blockSize mostPages = mul-le-mul h block in
+    omega arith
+
+-- N on line 1, refused and done, in a buffer that holds the largest bank
+pub make-works-refused : (n p : ℕ) (s : List ℕ) (r : Printed) (buffer : List ℕ) → sizesAllowed n p ≡ false → r ≡ printedOf (record { answer = OutOfRange; stores = 0 })
+    → Works (work 1 (Make n p) s) (record { printed = r; size = 0 }) buffer
+unfolding work made refused code
+make-works-refused n p s r buffer e f =
+    let h : make n p (zeros (bankSize n p)) ≡ refused OutOfRange (zeros (bankSize n p)) = make-refused n p (zeros (bankSize n p)) e in
+    record { printed = f ∙ rw h; bank = rw h; within = omega arith }
+
+work-made : (n p : ℕ) (s : List ℕ) → sizesAllowed n p ≡ true
+    → work 1 (Make n p) s ≡ record { printed = printedOf (record { answer = Done 0; stores = 0 }); bank = encode (fresh n p) }
+unfolding work made code zeros
+work-made n p s e = ap made (make-done n p (zeros (bankSize n p)) e (length-replicate (bankSize n p) 0))
+
+pub make-works-done : (n p : ℕ) (s t : List ℕ) {o : Outcome} (r : Printed) (size : ℕ) (buffer rest : List ℕ) → sizesAllowed n p ≡ true → size ≡ bankSize n p → length t ≡ size
+    → Replied (make n p t) o buffer → r ≡ printedOf o → length buffer ≡ length t
+    → Works (work 1 (Make n p) s) (record { printed = r; size = size }) (buffer ++ rest)
+make-works-done n p s t r size buffer rest e z h g f k =
+    let a : make n p t ≡ record { outcome = record { answer = Done 0; stores = 0 }; bytes = encode (fresh n p) } = make-done n p t e (h ∙ z) in
+    record {
+      printed = f ∙ rw (g .0, a, work-made n p s e);
+      bank = take-at buffer rest size (k ∙ h) ∙ g .1 ∙ rw (a, work-made n p s e);
+      within = simp length-append (omega arith);
+    }
+
+-- the same work in other words
+pub works-as : {w v : Worked} {r : Work} {buffer : List ℕ} → w ≡ v → Works v r buffer → Works w r buffer
+works-as e h = rw e h
+
+pub make-first : (i n p : ℕ) (q : Request) (s t : List ℕ) → i ≡ 1 → q ≡ Make n p → work i q s ≡ work 1 (Make n p) t
+unfolding work
+make-first i n p q s t e f = rw (e, f)
+
+-- a call on the bank's part
+pub call-works : (q : Request) (s : List ℕ) (size : ℕ) (r : Printed) (t rest : List ℕ) → (r ≡ called q s .printed) × (t ≡ called q s .bank) → length t ≡ size
+    → Works (called q s) (record { printed = r; size = size }) (t ++ rest)
+call-works q s size r t rest h k = record { printed = h .0; bank = take-at t rest size k ∙ h .1; within = simp length-append (omega arith) }

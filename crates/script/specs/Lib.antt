@@ -1,0 +1,4 @@
+-- The line runner: definitions, what they compute on document 01's cases.
+pub mod Definitions
+pub mod Laws
+pub mod Cases
