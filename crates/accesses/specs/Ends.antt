@@ -66,7 +66,7 @@ set-member f i (suc n) (suc q) h =
     let e : i + suc q ≡ suc i + q = omega arith in
     rw (digit-half (f i) (setFrom f (suc i) n), e) (set-member f (suc i) n q (omega arith))
 
-pub set-is : (f : ℕ → Bool) (n q : ℕ) → q < n → member q (setFrom f 0 n) ≡ f q
+set-is : (f : ℕ → Bool) (n q : ℕ) → q < n → member q (setFrom f 0 n) ≡ f q
 set-is f n q h = let e : 0 + q ≡ q = omega arith in set-member f 0 n q h ∙ ap f e
 
 -- one page more, below the others
@@ -140,9 +140,9 @@ module _ (b n : ℕ) (k : Bank) (h : b < length (k .boards)) where
 
   -- with the pages that are owned as a set
   pub endReplay-told : (pages owned : ℕ) → pages ≡ length (k .directory) → length (boardAt k b .working .frames) ≡ pages
-      → ((p : ℕ) → p < pages → member p owned ≡ eqb (entryAt k p .owner) b)
+      → owned ≡ setFrom owns 0 pages
       → endReplay b (running n k) ≡ lifted b n k (checkpointOn pages (settled (λ p. member p owned) (boardAt k b)))
   endReplay-told pages owned e f g =
       let q : settled (λ p. member p owned) (boardAt k b) ≡ settled owns (boardAt k b) =
-      settled-same (λ p. member p owned) owns (boardAt k b) (λ p l. g p (rw f at l)) in
+      settled-same (λ p. member p owned) owns (boardAt k b) (λ p l. ap (member p) g ∙ set-is owns pages p (rw f at l)) in
       rw (q, e) endReplay-lifted

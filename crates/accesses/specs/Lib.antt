@@ -3,6 +3,6 @@ pub mod Needs
 pub mod Results
 pub mod BlockReplay
 pub mod Ends
-pub mod Lent
+pub mod Directory
 pub mod Prepared
 pub mod Repeated

@@ -3,4 +3,5 @@ pub mod ask;
 pub mod blocks;
 pub mod live;
 pub mod need;
+pub mod outcome;
 pub mod replay;

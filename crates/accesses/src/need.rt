@@ -7,7 +7,7 @@ use format::layout::block_at;
 use format::layout::block_size;
 use steps::records::room;
 ghost use mathlib.Core.Path.{_≡_};
-ghost use Prim.Native.Nat.{ℕ, _+_, _<_};
+ghost use Prim.Native.Nat.{ℕ, _+_, _≤_, _<_};
 ghost use lib.Dec.{ltb};
 ghost use Rattle.model.specs.Definitions.Layout.{mostBoards, slotCount};
 ghost use Rattle.model.specs.Definitions.Bank.{Bank, boardAt, entryAt};
@@ -83,7 +83,8 @@ fn short_of(bank: &[u8], pages: usize, board: usize, need: usize) -> bool
 // "who: lowest such board"; the number of boards where none is short.
 pub fn short_board(bank: &[u8], boards: usize, pages: usize, ask: Ask, lacks: bool) -> usize
     requires { ⌜ Asks boards pages ask (now bank) × (lacks ≡ lackingOf (ask .board) (asked ask) (decode (now bank))) ⌝ }
-    ensures { λ r. ⌜ foundIn boards r ≡ shortBoard (ask .board) (asked ask) (decode (now (bank .entry))) ⌝ }
+    ensures found { λ r. ⌜ foundIn boards r ≡ shortBoard (ask .board) (asked ask) (decode (now (bank .entry))) ⌝ }
+    ensures within { λ r. ⌜ r ≤ boards ⌝ }
 {
     let page = ask.page;
     let owner = read_owner(bank, page) as usize;

@@ -3,6 +3,7 @@ use crate::ask::Ask;
 use crate::blocks;
 use crate::blocks::Replayed;
 use crate::live::live;
+use crate::outcome::ended;
 use format::directory::read_owner;
 use format::layout::block_at;
 use format::layout::block_size;
@@ -17,8 +18,7 @@ ghost use Prim.Native.Nat.{ℕ, _+_, _*_, _≤_, _<_};
 ghost use lib.ListN.{length};
 ghost use lib.Dec.{eqb};
 ghost use Rattle.types.specs.declared.State.the-variants.{Replaying};
-ghost use Rattle.model.specs.Definitions.Parts.{member};
-ghost use Rattle.model.specs.Definitions.Layout.{mostBoards, pageSize, slotCount};
+ghost use Rattle.model.specs.Definitions.Layout.{pageSize, slotCount};
 ghost use Rattle.model.specs.Definitions.Bank.{boardAt, entryAt, onBoard};
 ghost use Rattle.model.specs.Definitions.Codec.{decode};
 ghost use Rattle.model.specs.Definitions.Replay.{differs, endReplay};
@@ -29,13 +29,14 @@ ghost use Rattle.model.specs.Laws.Keeps.Calls.{Entered};
 ghost use Rattle.exchange.specs.Banks.{OfBank, Holds};
 ghost use Rattle.exchange.specs.Progress.{running, lostBy, Came};
 ghost use Rattle.accesses.specs.Asks.{asked, Asks};
-ghost use Rattle.accesses.specs.Results.{Answered, endedAs};
+ghost use Rattle.accesses.specs.Results.{Answered};
 ghost use Rattle.accesses.specs.BlockReplay.{replayedBoard, replayedTo, Repeats};
+ghost use Rattle.accesses.specs.Ends.{setFrom};
 
 // The pages that the directory gives a board, of which bit p stands for page p.
 fn owned_pages(bank: &[u8], pages: usize, board: usize) -> u16
     requires { ⌜ OfBank pages board (now bank) ⌝ }
-    ensures { λ r. ⌜ ((p : ℕ) → p < pages → member p r ≡ eqb (entryAt (decode (now (bank .entry))) p .owner) board) ⌝ }
+    ensures { λ r. ⌜ r ≡ setFrom (λ p. eqb (entryAt (decode (now (bank .entry))) p .owner) board) 0 pages ⌝ }
 {
     let mut owned: u16 = 0;
     let mut page = pages;
@@ -63,24 +64,6 @@ pub fn end_replay(bank: &mut [u8], pages: usize, board: usize) -> Stored
         forget(bank, pages, board);
     }
     stored
-}
-
-// What a call answers after stores of its board: its value, or that power was lost.
-pub fn ended(value: u32, board: usize, stored: Stored) -> Outcome
-    requires { ⌜ board < mostBoards ⌝ }
-    ensures { λ r. ⌜ (r .answer ≡ endedAs value board (stored .lost)) × (r .stores ≡ stored .stores) ⌝ }
-{
-    let stores = stored.stores;
-    if stored.lost {
-        return Outcome {
-            answer: Answer::PowerLost(board as u8),
-            stores,
-        };
-    }
-    Outcome {
-        answer: Answer::Done(value),
-        stores,
-    }
 }
 
 // The replaying board's block goes through the access.

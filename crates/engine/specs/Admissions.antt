@@ -22,8 +22,8 @@ use Rattle.model.specs.Definitions.Replay.{differs}
 use Rattle.model.specs.Definitions.Calls.{Result, firstOf, unless, live, replaying, accessInRange, countersFull, accessRefusals, accessBank, Call, Reading, Writing, callBank, refused, call}
 use Rattle.model.specs.Laws.Logic.{byBool, and-left, and-right}
 use Rattle.model.specs.Laws.Table.{boardOf}
-use Rattle.model.specs.Laws.Keeps.Live.{CanAccess, isReplaying-replaying, up-left}
-use Rattle.model.specs.Laws.Keeps.Calls.{Entered, entered, fitting}
+use Rattle.model.specs.Laws.Keeps.Live.{CanAccess, isReplaying-replaying}
+use Rattle.model.specs.Laws.Keeps.Calls.{Entered, entered-live, entered, fitting}
 use Rattle.model.specs.Laws.BankSteps.{IsBank}
 use Rattle.steps.specs.Access.{accessOf}
 use Rattle.exchange.specs.Progress.{running}
@@ -156,15 +156,7 @@ module _ {boards pages : ℕ} {q : Ask} {s : List ℕ} (h : Asks boards pages q 
         (enters, isReplaying-replaying (boardAt k (q .board) .state) u, fitting (q .board) (asked q) k (h .formed) none-holds u)
 
     pub can-access : rep ≡ false → CanAccess (q .board) (asked q) k
-    can-access t =
-        let i : Entered (q .board) (asked q) k = enters in
-        record {
-          page = i .page;
-          values = i .values;
-          up = up-left (boardAt k (q .board) .state) (i .power) (sym r ∙ t);
-          since = i .since;
-          number = i .number;
-        }
+    can-access t = entered-live (q .board) (asked q) k enters (sym r ∙ t)
 
     pub answers-repeated : {t : List ℕ} {o : Outcome} → rep ≡ true → Answered t o 0 (replaying (q .board) (asked q) k)
         → Answered t o 0 (accessBank (q .board) (asked q) k)

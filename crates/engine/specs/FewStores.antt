@@ -28,9 +28,9 @@ use Rattle.model.specs.Laws.Boards.{boardAt-out}
 use Rattle.model.specs.Laws.Keeps.Clauses.{RoomFor}
 use Rattle.model.specs.Laws.Keeps.Records.{recordable-plain, note-keeps}
 use Rattle.model.specs.Laws.Keeps.Stores.{step-keeps}
-use Rattle.model.specs.Laws.Keeps.Live.{CanAccess, can-fetch, isReplaying-replaying, up-left}
+use Rattle.model.specs.Laws.Keeps.Live.{CanAccess, can-fetch, isReplaying-replaying}
 use Rattle.model.specs.Laws.Keeps.Replay.{endReplay-keeps}
-use Rattle.model.specs.Laws.Keeps.Calls.{Entered, below-taken, taken-inReplay, live-can, entered, fitting}
+use Rattle.model.specs.Laws.Keeps.Calls.{Entered, entered-live, below-taken, taken-inReplay, live-can, entered, fitting}
 use Rattle.model.specs.Laws.WellFormedTest.{wellFormed-sound}
 use Rattle.model.specs.Laws.Codes.Losses.{finished-run}
 use Rattle.model.specs.Laws.Keeps.Fetches.{CanFetch, room-shower, room-owner, gave-keeps, noted-keeps}
@@ -185,9 +185,7 @@ module _ (b : ℕ) (k : Bank) (w : WellFormed k) where
       let i : Entered b a k = entered b a k w e in
       cases (λ (t : Result). t .run .stores ≤ mostStores) (isReplaying (boardAt k b .state))
       (λ t. replaying-few b a k w i (isReplaying-replaying (boardAt k b .state) t) (fitting b a k w e t))
-      (λ t.
-      let can : CanAccess b a k = record { page = i .page; values = i .values; up = up-left (boardAt k b .state) (i .power) t; since = i .since; number = i .number } in
-      omega (arith, live-few b a (start k) w can)))
+      (λ t. omega (arith, live-few b a (start k) w (entered-live b a k i t))))
 
   checkpointBank-few : checkpointBank b k .run .stores ≤ mostStores
   unfolding checkpointBank start

@@ -1,5 +1,5 @@
 // The call that stores an up board's state: what a restart begins with.
-use accesses::replay::ended;
+use accesses::outcome::ended;
 use checks::bank::page_count;
 use checks::entry::Entry;
 use checks::entry::enter;

@@ -1,6 +1,6 @@
 // The call that gives a board its power again: its checkpoint loaded, and the first records of its log used up.
+use accesses::outcome::ended;
 use accesses::replay::end_replay;
-use accesses::replay::ended;
 use checks::bank::page_count;
 use checks::entry::Entry;
 use checks::entry::enter;

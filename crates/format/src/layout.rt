@@ -8,8 +8,16 @@ ghost use mathlib.Core.Path.{_≡_};
 ghost use Prim.Native.Nat.{_+_, _*_, _≤_};
 ghost use Rattle.model.specs.Definitions.Layout.{mostBoards, mostPages, areaSlotsAt, areaSize, slotsAt, areaAt, blockSize, blocksAt, bankSize};
 
-// The head: two letters, the numbers of boards and of pages; and their limits.
-pub const BOARDS_AT: usize = 2;
+// The head: "bytes 66, 75, then N, P"; and the limits of these two numbers.
+pub const FIRST_LETTER: u8 = b'B';
+
+pub const SECOND_LETTER: u8 = b'K';
+
+pub const FIRST_LETTER_AT: usize = 0;
+
+pub const SECOND_LETTER_AT: usize = FIRST_LETTER_AT + 1;
+
+pub const BOARDS_AT: usize = SECOND_LETTER_AT + 1;
 
 pub const PAGES_AT: usize = BOARDS_AT + 1;
 

@@ -4,7 +4,11 @@ use fields::bytes::clear;
 use fields::bytes::put;
 use format::directory::write_entry;
 use format::layout::BOARDS_AT;
+use format::layout::FIRST_LETTER;
+use format::layout::FIRST_LETTER_AT;
 use format::layout::PAGES_AT;
+use format::layout::SECOND_LETTER;
+use format::layout::SECOND_LETTER_AT;
 use format::layout::block_at;
 use format::layout::block_size;
 ghost use mathlib.Core.Path.{_≡_};
@@ -17,18 +21,13 @@ ghost use Rattle.model.specs.Definitions.Codec.{encode};
 ghost use Rattle.model.specs.Definitions.WellFormed.{SizesOk};
 ghost use Rattle.fresh.specs.Fresh.{freshHead, freshDirectory, freshBlocks, BlocksZero};
 
-// Where the head's two letters stand.
-const FIRST_LETTER_AT: usize = 0;
-
-const SECOND_LETTER_AT: usize = FIRST_LETTER_AT + 1;
-
 // "Head: bytes 66, 75, then N, P."
 fn write_head(bank: &mut [u8], boards: usize, pages: usize)
     requires { ⌜ SizesOk boards pages × (headSize ≤ length (now bank)) ⌝ }
     ensures { λ _. ⌜ now (bank .exit) ≡ splice (now (bank .entry)) 0 (freshHead boards pages) ⌝ }
 {
-    put(bank, FIRST_LETTER_AT, b'B');
-    put(bank, SECOND_LETTER_AT, b'K');
+    put(bank, FIRST_LETTER_AT, FIRST_LETTER);
+    put(bank, SECOND_LETTER_AT, SECOND_LETTER);
     put(bank, BOARDS_AT, boards as u8);
     put(bank, PAGES_AT, pages as u8);
 }

@@ -3,12 +3,14 @@ use crate::print::put_last;
 use crate::runner::Progress;
 use crate::runner::run_line;
 use crate::tally::no_lines;
+use crate::text::MOST_BYTES;
+use crate::text::NEWLINE;
 ghost use mathlib.Core.Path.{_≡_};
 ghost use Prim.Native.Nat.{_+_, _≤_};
 ghost use lib.ListN.{length};
 ghost use Rattle.script.specs.Definitions.Runner.{run};
 ghost use Rattle.script.specs.Definitions.Feeding.{feedByte, feed as feedAll, finish as finishing};
-ghost use Rattle.script.specs.Laws.Machine.{Running, FedTo, RunningFor, FedBy, machineOf, fromNothing, Buffers};
+ghost use Rattle.script.specs.Laws.Machine.{RunningFor, FedBy, machineOf, fromNothing, Buffers};
 ghost use Rattle.script.specs.Laws.Output.{Put, mostLine, mostLast};
 
 // What is kept between two bytes: how many bytes of a line there are, and how far the runner is.
@@ -17,18 +19,13 @@ pub struct Machine {
     pub progress: Progress,
 }
 
-const NEWLINE: u8 = 10;
-
-// "at most 64 bytes": of a longer line one byte more is kept.
-const MOST_BYTES: usize = 64;
-
 // "reading stops after line 4,294,967,295"
 const MOST_LINES: u32 = 4294967295;
 
 // One byte of input.
 pub fn feed_byte(c: u8, line: &mut [u8], bank: &mut [u8], out: &mut [u8], from: Machine) -> Machine
-    requires { ⌜ Running (now line) (now bank) (now out) from ⌝ }
-    ensures { λ r. ⌜ FedTo (feedByte c (machineOf (now (line .entry)) (now (bank .entry)) from)) from r (now (line .exit)) (now (bank .exit)) (now (out .entry)) (now (out .exit)) ⌝ }
+    requires { ⌜ RunningFor 1 (now line) (now bank) (now out) from ⌝ }
+    ensures { λ r. ⌜ FedBy (feedByte c (machineOf (now (line .entry)) (now (bank .entry)) from)) 1 from r (now (line .exit)) (now (bank .exit)) (now (out .entry)) (now (out .exit)) ⌝ }
 {
     let pending = from.pending;
     let progress = from.progress;
@@ -43,6 +40,7 @@ pub fn feed_byte(c: u8, line: &mut [u8], bank: &mut [u8], out: &mut [u8], from: 
             progress: next,
         };
     }
+    // Of a line that is too long one byte more is kept.
     if MOST_BYTES < pending {
         return from;
     }

@@ -5,4 +5,5 @@ pub mod print;
 pub mod request;
 pub mod runner;
 pub mod tally;
+pub mod text;
 pub mod work;

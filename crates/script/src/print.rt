@@ -1,6 +1,8 @@
 // What a line prints, as bytes of a buffer at a place.
 use crate::number::ZERO;
 use crate::tally::Tally;
+use crate::text::NEWLINE;
+use crate::text::SPACE;
 use answers::pack::code_of;
 use answers::pack::value_of;
 use answers::pack::who_of;
@@ -19,10 +21,6 @@ pub struct Printed {
     pub who: u8,
     pub stores: u32,
 }
-
-const SPACE: u8 = 32;
-
-const NEWLINE: u8 = 10;
 
 // What a call's answer prints.
 pub fn printed_of(o: Outcome) -> Printed

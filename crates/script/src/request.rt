@@ -1,6 +1,8 @@
 // What a line's bytes ask for.
 use crate::number::Number;
 use crate::number::read_number;
+use crate::text::MOST_BYTES;
+use crate::text::SPACE;
 ghost use mathlib.Core.Path.{_≡_};
 ghost use Rattle.script.specs.declared.request.Numbers.{Numbers};
 ghost use Rattle.script.specs.Definitions.Lines.{andOne, more, numbersFrom, withOne, withTwo, withThree, withFour, requestOf, request};
@@ -27,11 +29,6 @@ pub enum Numbers {
     Four(u32, u32, u32, u32),
     Wrong,
 }
-
-const SPACE: u8 = 32;
-
-// "at most 64 bytes"
-const MOST_BYTES: usize = 64;
 
 // How many bytes stand before the first space.
 fn word_length(s: &[u8]) -> usize

@@ -8,10 +8,14 @@ use fields::widths::SLOT_SIZE;
 use format::block::read_volatile_count;
 use format::layout::BOARDS_AT;
 use format::layout::ENTRY_SIZE;
+use format::layout::FIRST_LETTER;
+use format::layout::FIRST_LETTER_AT;
 use format::layout::HEAD_SIZE;
 use format::layout::MOST_BOARDS;
 use format::layout::MOST_PAGES;
 use format::layout::PAGES_AT;
+use format::layout::SECOND_LETTER;
+use format::layout::SECOND_LETTER_AT;
 use format::layout::area_at;
 use format::layout::area_slots_at;
 use format::layout::bank_size;
@@ -47,10 +51,10 @@ fn head_valid(bank: &[u8]) -> bool
     if bank.len() < HEAD_SIZE {
         return false;
     }
-    if bank[0] != b'B' {
+    if bank[FIRST_LETTER_AT] != FIRST_LETTER {
         return false;
     }
-    if bank[1] != b'K' {
+    if bank[SECOND_LETTER_AT] != SECOND_LETTER {
         return false;
     }
     let boards = wide(bank[BOARDS_AT]);

@@ -28,10 +28,10 @@ use Rattle.model.specs.Laws.Logic.{byOption, byBool, cases, casesOption,
 use Rattle.model.specs.Laws.Boards.{boards-onBoard, boardAt-other}
 use Rattle.model.specs.Laws.Runs.{SameSizes, sizes-onBoard, follows-step, step-none}
 use Rattle.model.specs.Laws.Runs.Stores.{FlushedWith, show-changed, flush-empties, endReplay-changed}
-use Rattle.model.specs.Laws.Keeps.Calls.{Entered, entered, fitting, live-can}
+use Rattle.model.specs.Laws.Keeps.Calls.{Entered, entered-live, entered, fitting, live-can}
 use Rattle.model.specs.Laws.Keeps.Clauses.{up-below}
 use Rattle.model.specs.Laws.Keeps.Fetches.{CanFetch}
-use Rattle.model.specs.Laws.Keeps.Live.{CanAccess, can-fetch, isReplaying-replaying, up-left}
+use Rattle.model.specs.Laws.Keeps.Live.{CanAccess, can-fetch, isReplaying-replaying}
 use Rattle.model.specs.History.Live.{callOf, first-in}
 use Rattle.model.specs.History.Statement.{giverIn, liveBank, withNumberOf, doneEvent, eventOf, gaveIn, grantedAfter}
 use Rattle.model.specs.History.Banks.{grantsAfter}
@@ -165,9 +165,7 @@ module _ (b : ℕ) (a : Access) (k : Bank) (w : WellFormed k) (h : Counted k) (v
   unfolding start liveBank
   up-grants i t d g =
       let e : some k ≡ liveBank b a k = cc in
-      live-grants b a (start k) w
-      (record { page = i .page; values = i .values; up = up-left (boardAt k b .state) (i .power) t; since = i .since; number = i .number })
-      v o d (ap (giverIn b a) e ∙ g) (λ c l n. h c l .balanced)
+      live-grants b a (start k) w (entered-live b a k i t) v o d (ap (giverIn b a) e ∙ g) (λ c l n. h c l .balanced)
 
   module _ (i : Entered b a k) (rep : boardAt k b .state ≡ Replaying) (same : differs a (boardAt k b) ≡ false) where
     abbrev taken : Bank

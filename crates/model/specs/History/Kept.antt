@@ -28,7 +28,7 @@ use Rattle.model.specs.Laws.Keeps.Stores.{withFuse-keeps}
 use Rattle.model.specs.Laws.Keeps.Replay.{loaded-inReplay, usedUp-inReplay}
 use Rattle.model.specs.History.Rerun.{Rebuilt}
 use Rattle.model.specs.Laws.Keeps.Live.{NoneOf, firstOf-none, CanAccess, isUp-up, isDown-down, isDown-not, isReplaying-replaying, up-left}
-use Rattle.model.specs.Laws.Keeps.Calls.{Entered, taken-inReplay, live-can, replayed-keeps, entered, fitting}
+use Rattle.model.specs.Laws.Keeps.Calls.{Entered, entered-live, taken-inReplay, live-can, replayed-keeps, entered, fitting}
 use Rattle.model.specs.History.Statement.{HistoryEntry, History, ofBoard, entryCount, repeats, withNumberOf, bytesFrom, withEntry, nextEntry, Nothing, doneEvent, eventOf, fed, accessOf}
 use Rattle.model.specs.History.Invariant.{CountsAgree, Explains, ReplayExplains, Holds, Invariant, nobody}
 use Rattle.model.specs.History.View.{SameView, view-holds}
@@ -293,15 +293,7 @@ module _ (b : ℕ) (a : Access) (k : Bank) {h : History} (q : Invariant nobody k
 
     can-start : firstOf (accessRefusals b a k) ≡ none → isReplaying (boardAt k b .state) ≡ false → CanAccess b a (start k .bank)
     unfolding start
-    can-start p t =
-        let i : Entered b a k = entered b a k (q .formed) p in
-        record {
-          page = i .page;
-          values = i .values;
-          up = up-left (boardAt k b .state) (i .power) t;
-          since = i .since;
-          number = i .number;
-        }
+    can-start p t = entered-live b a k (entered b a k (q .formed) p) t
 
     quiet-access : Each (λ t. eventOf (callOf b a) (t .1) ≡ Nothing) (accessRefusals b a k)
     unfolding accessRefusals eventOf

@@ -5,7 +5,7 @@ use mathlib.Core.Bool.{true, false}
 use mathlib.Core.List.{List, [], _∷_, _++_, append-nil}
 use native.Mathlib.Omega.{arith}
 use native.Mathlib.Numerals.{add-one}
-use lib.ListN.{length, take, set, getD, take-append-drop}
+use lib.ListN.{length, take, set, getD}
 use lib.Seq.{length-take-le, take-all, take-suc, take-suc-set}
 use lib.Dec.{eqb, ltb, leb}
 use borrow.Author.Tests.{eq-eqb, ne-eqb, lt-ltb, le-ltb, le-leb, lt-leb}
@@ -15,7 +15,7 @@ use Rattle.script.specs.Definitions.Lines.{mostBytes}
 use Rattle.script.specs.Definitions.Output.{newline, lastLine}
 use Rattle.script.specs.Definitions.Runner.{State, Step, begin, mostLines, line, run}
 use Rattle.script.specs.Definitions.Feeding.{Machine, Fed, withByte, stopped, ended, feedByte, behind, feed, finish, fedWhole, idle}
-use Rattle.model.specs.Definitions.Parts.{splice}
+use Rattle.fields.proofs.Splices.{splice-none}
 use Rattle.script.specs.Laws.Feeding.{feed-append, fed-run, byte-stopped, byte-newline, byte-other}
 use Rattle.script.specs.Laws.Output.{Put, put-next, mostLine, mostLast}
 use Rattle.script.specs.Laws.Tally.{Sums}
@@ -26,32 +26,28 @@ use Rattle.script.specs.Laws.Progress.{stateOf, Ready, Ran}
 unfoldable pub machineOf : List ℕ → List ℕ → Held → Machine
 machineOf line bank m = record { pending = take (m .pending) line; state = stateOf bank (m .progress) }
 
--- a byte may come
-pub record Running (line bank out : List ℕ) (m : Held) : Type 0 where
+-- n bytes may come
+pub record RunningFor (n : ℕ) (line bank out : List ℕ) (m : Held) : Type 0 where
   pub lineBuffer : length line ≡ mostBytes + 1
   pub pendingIn : m .pending ≤ mostBytes + 1
   pub bankBuffer : length bank ≡ mostBank
   pub within : m .progress .size ≤ length bank
   pub sums : Sums (m .progress .tally)
-  pub room : m .progress .at + mostLine ≤ length out
+  pub room : m .progress .at + mostLine * n ≤ length out
 
--- it was fed: the machine it leaves, its output behind what was there
-pub record FedTo (f : Fed) (m r : Held) (line bank before after : List ℕ) : Type 0 where
+-- n bytes were fed: the machine they leave, their output behind what was there
+pub record FedBy (f : Fed) (n : ℕ) (m r : Held) (line bank before after : List ℕ) : Type 0 where
   pub machine : machineOf line bank r ≡ f .machine
   pub output : Put before (m .progress .at) (f .output) after (r .progress .at)
-  pub near : r .progress .at ≤ m .progress .at + mostLine
+  pub near : r .progress .at ≤ m .progress .at + mostLine * n
   pub pendingIn : r .pending ≤ mostBytes + 1
   pub within : r .progress .size ≤ length bank
   pub sums : Sums (r .progress .tally)
 
-splice-none : (l : List ℕ) (a : ℕ) → splice l a [] ≡ l
-unfolding splice
-splice-none l a = let e : a + 0 ≡ a = omega arith in rw e (take-append-drop a l)
-
 put-none : (l : List ℕ) (a : ℕ) → Put l a [] l a
-put-none l a = record { bytes = sym (splice-none l a); end = omega arith }
+put-none l a = record { bytes = splice-none l a; end = omega arith }
 
-module _ (c : ℕ) (line′ bank out : List ℕ) (m : Held) (run : Running line′ bank out m) where
+module _ (c : ℕ) (line′ bank out : List ℕ) (m : Held) (run : RunningFor 1 line′ bank out m) where
   abbrev before : Machine
   before = machineOf line′ bank m
 
@@ -65,7 +61,7 @@ module _ (c : ℕ) (line′ bank out : List ℕ) (m : Held) (run : Running line�
 
   -- nothing is printed, and the machine stays or has one byte more
   quiet : (r : Held) (l : List ℕ) → feedByte c before ≡ record { machine = machineOf l bank r; output = [] } → r .progress ≡ m .progress
-      → r .pending ≤ mostBytes + 1 → FedTo (feedByte c before) m r l bank out out
+      → r .pending ≤ mostBytes + 1 → FedBy (feedByte c before) 1 m r l bank out out
   quiet r l e p k =
       record {
         machine = rw e;
@@ -76,12 +72,12 @@ module _ (c : ℕ) (line′ bank out : List ℕ) (m : Held) (run : Running line�
         sums = rw p (run .sums);
       }
 
-  pub fed-stopped : mostLines ≤ m .progress .tally .read → FedTo (feedByte c before) m m line′ bank out out
+  pub fed-stopped : mostLines ≤ m .progress .tally .read → FedBy (feedByte c before) 1 m m line′ bank out out
   fed-stopped h = quiet m line′ (byte-stopped c before (stops h)) refl (run .pendingIn)
 
   pub fed-line : (r : Progress) (bank′ out′ : List ℕ) → m .progress .tally .read < mostLines → c ≡ newline
       → Ran (line (take (m .pending) line′) (stateOf bank (m .progress))) (m .progress) r bank′ out out′
-      → FedTo (feedByte c before) m (record { pending = 0; progress = r }) line′ bank′ out out′
+      → FedBy (feedByte c before) 1 m (record { pending = 0; progress = r }) line′ bank′ out out′
   unfolding ended machineOf
   fed-line r bank′ out′ h e ran =
       let t : Step = line (take (m .pending) line′) (stateOf bank (m .progress)) in
@@ -98,14 +94,14 @@ module _ (c : ℕ) (line′ bank out : List ℕ) (m : Held) (run : Running line�
   pending-length : length (take (m .pending) line′) ≡ m .pending
   pending-length = length-take-le (m .pending) line′ (omega (arith, run .pendingIn, run .lineBuffer))
 
-  pub fed-long : m .progress .tally .read < mostLines → (c ≡ newline → ⊥) → mostBytes < m .pending → FedTo (feedByte c before) m m line′ bank out out
+  pub fed-long : m .progress .tally .read < mostLines → (c ≡ newline → ⊥) → mostBytes < m .pending → FedBy (feedByte c before) 1 m m line′ bank out out
   unfolding machineOf withByte
   fed-long h e k =
       let w : withByte (take (m .pending) line′) c ≡ take (m .pending) line′ = cc (lt-ltb mostBytes (length (take (m .pending) line′)) (omega (arith, pending-length))) in
       quiet m line′ (byte-other c before (goes-on h) (ne-eqb c newline e) ∙ rw w) refl (run .pendingIn)
 
   pub fed-more : m .progress .tally .read < mostLines → (c ≡ newline → ⊥) → m .pending ≤ mostBytes
-      → FedTo (feedByte c before) m (record { pending = m .pending + 1; progress = m .progress }) (set line′ (m .pending) c) bank out out
+      → FedBy (feedByte c before) 1 m (record { pending = m .pending + 1; progress = m .progress }) (set line′ (m .pending) c) bank out out
   unfolding machineOf withByte
   fed-more h e k =
       let w : withByte (take (m .pending) line′) c ≡ take (m .pending) line′ ++ (c ∷ []) = cc (le-ltb mostBytes (length (take (m .pending) line′)) (omega (arith, pending-length))) in
@@ -113,24 +109,6 @@ module _ (c : ℕ) (line′ bank out : List ℕ) (m : Held) (run : Running line�
       quiet (record { pending = m .pending + 1; progress = m .progress }) (set line′ (m .pending) c) (byte-other c before (goes-on h) (ne-eqb c newline e) ∙ rw (w, s)) refl (omega arith)
 
 -- ---- many bytes
-
--- n bytes were fed: the machine they leave, their output behind what was there
-pub record FedBy (f : Fed) (n : ℕ) (m r : Held) (line bank before after : List ℕ) : Type 0 where
-  pub machine : machineOf line bank r ≡ f .machine
-  pub output : Put before (m .progress .at) (f .output) after (r .progress .at)
-  pub near : r .progress .at ≤ m .progress .at + mostLine * n
-  pub pendingIn : r .pending ≤ mostBytes + 1
-  pub within : r .progress .size ≤ length bank
-  pub sums : Sums (r .progress .tally)
-
--- n bytes may come
-pub record RunningFor (n : ℕ) (line bank out : List ℕ) (m : Held) : Type 0 where
-  pub lineBuffer : length line ≡ mostBytes + 1
-  pub pendingIn : m .pending ≤ mostBytes + 1
-  pub bankBuffer : length bank ≡ mostBank
-  pub within : m .progress .size ≤ length bank
-  pub sums : Sums (m .progress .tally)
-  pub room : m .progress .at + mostLine * n ≤ length out
 
 pub fed-none : (line bank out : List ℕ) (m : Held) (n : ℕ) → RunningFor n line bank out m → FedBy (feed [] (machineOf line bank m)) 0 m m line bank out out
 unfolding feed
@@ -159,7 +137,7 @@ pub record Turn (input line₀ bank₀ out₀ : List ℕ) (m₀ : Held) (i : ℕ
 
 module _ (input line₀ bank₀ out₀ : List ℕ) (m₀ : Held) (run : RunningFor (length input) line₀ bank₀ out₀ m₀) (i : ℕ) (line bank out : List ℕ) (m : Held)
     (t : Turn input line₀ bank₀ out₀ m₀ i line bank out m) (h : i < length input) where
-  pub turn-running : Running line bank out m
+  pub turn-running : RunningFor 1 line bank out m
   turn-running =
       record {
         lineBuffer = t .lineKept ∙ run .lineBuffer;
@@ -171,7 +149,7 @@ module _ (input line₀ bank₀ out₀ : List ℕ) (m₀ : Held) (run : RunningF
       }
 
   pub turn-next : (r : Held) (line′ bank′ out′ : List ℕ)
-      → FedTo (feedByte (getD input i 0) (machineOf line bank m)) m r line′ bank′ out out′
+      → FedBy (feedByte (getD input i 0) (machineOf line bank m)) 1 m r line′ bank′ out out′
       → FedBy (feed (take (i + 1) input) (machineOf line₀ bank₀ m₀)) (i + 1) m₀ r line′ bank′ out₀ out′
   unfolding behind
   turn-next r line′ bank′ out′ f =

@@ -21,6 +21,8 @@ use Rattle.model.specs.Definitions.Bank.{fresh}
 use Rattle.model.specs.Definitions.Codec.{encode}
 use Rattle.fresh.specs.Fresh.{sizesAllowed, sizes-say}
 use Rattle.engine.specs.Contracts.{Replied}
+use Rattle.engine.specs.Replies.{done}
+use Rattle.engine.specs.Making.{make-range, make-done}
 use Rattle.model.specs.Definitions.Answers.{code}
 use Rattle.model.specs.Definitions.Calls.{Call, refused, Reading, Writing, Checkpointing, Cutting, Fusing, Restarting, Reply, call, make}
 use Rattle.script.specs.Definitions.Output.{printedOf, notRead}
@@ -70,15 +72,6 @@ line-unread {q} {q′} s e f g = (f ∙ rw (e, g), rw (e, g))
 
 -- ---- make: what the buffer held does not matter
 
-pub make-refused : (n p : ℕ) (s : List ℕ) → sizesAllowed n p ≡ false → make n p s ≡ refused OutOfRange s
-unfolding make
-make-refused n p s e = cc e
-
-pub make-done : (n p : ℕ) (s : List ℕ) → sizesAllowed n p ≡ true → length s ≡ bankSize n p
-    → make n p s ≡ record { outcome = record { answer = Done 0; stores = 0 }; bytes = encode (fresh n p) }
-unfolding make
-make-done n p s e h = cc (e, eq-eqb (length s) (bankSize n p) h)
-
 pub bank-sizes : (n p : ℕ) → n ≤ mostBoards → p ≤ mostPages → bankSize n p ≤ mostBank
 bank-sizes n p h k =
     let block : blockSize p ≤ blockSize mostPages = omega arith in
@@ -90,19 +83,20 @@ pub make-works-refused : (n p : ℕ) (s : List ℕ) (r : Printed) (buffer : List
     → Works (work 1 (Make n p) s) (record { printed = r; size = 0 }) buffer
 unfolding work made refused code
 make-works-refused n p s r buffer e f =
-    let h : make n p (zeros (bankSize n p)) ≡ refused OutOfRange (zeros (bankSize n p)) = make-refused n p (zeros (bankSize n p)) e in
+    let h : make n p (zeros (bankSize n p)) ≡ refused OutOfRange (zeros (bankSize n p)) = make-range n p (zeros (bankSize n p)) e in
     record { printed = f ∙ rw h; bank = rw h; within = omega arith }
 
 work-made : (n p : ℕ) (s : List ℕ) → sizesAllowed n p ≡ true
-    → work 1 (Make n p) s ≡ record { printed = printedOf (record { answer = Done 0; stores = 0 }); bank = encode (fresh n p) }
-unfolding work made code zeros
-work-made n p s e = ap made (make-done n p (zeros (bankSize n p)) e (length-replicate (bankSize n p) 0))
+    → work 1 (Make n p) s ≡ worked (done (fresh n p))
+unfolding work made worked code zeros
+work-made n p s e = ap made (make-done n p (zeros (bankSize n p)) e (eq-eqb _ _ (length-replicate (bankSize n p) 0)))
 
 pub make-works-done : (n p : ℕ) (s t : List ℕ) {o : Outcome} (r : Printed) (size : ℕ) (buffer rest : List ℕ) → sizesAllowed n p ≡ true → size ≡ bankSize n p → length t ≡ size
     → Replied (make n p t) o buffer → r ≡ printedOf o → length buffer ≡ length t
     → Works (work 1 (Make n p) s) (record { printed = r; size = size }) (buffer ++ rest)
+unfolding worked
 make-works-done n p s t r size buffer rest e z h g f k =
-    let a : make n p t ≡ record { outcome = record { answer = Done 0; stores = 0 }; bytes = encode (fresh n p) } = make-done n p t e (h ∙ z) in
+    let a : make n p t ≡ done (fresh n p) = make-done n p t e (eq-eqb _ _ (h ∙ z)) in
     record {
       printed = f ∙ rw (g .0, a, work-made n p s e);
       bank = take-at buffer rest size (k ∙ h) ∙ g .1 ∙ rw (a, work-made n p s e);

@@ -1,6 +1,6 @@
 -- `accesses::live::live_verdict` meets its contract: code 6, then code 7. Assumes nothing.
 use Rattle.accesses.specs.Prepared.{refuses-owner, refuses-short, refuses-none}
-use Rattle.accesses.specs.Lent as lent
+use Rattle.accesses.specs.Directory as directory
 use Rattle.accesses.specs.Results.{refusal}
 use Rattle.accesses.specs.Asks.{asked}
 use Rattle.steps.specs.Replay.{named-page}
@@ -18,7 +18,7 @@ use Rattle.accesses.proofs.live.live_verdict.Tie as tie
 
 -- the owner that the directory names
 owner-read : (c : tie.After-read-owner) → c .read-owner .result ≡ entryAt (decode (c .before .before .before .args .bank .now)) (c .before .before .before .args .ask .page) .owner
-owner-read c = c .read-owner .ensures ∙ ap (λ (e : Entry). e .owner) (lent.entry-told (c .before .before .before .pre .bank) _ (c .before .before .before .pre .page))
+owner-read c = c .read-owner .ensures ∙ ap (λ (e : Entry). e .owner) (directory.entry-told (c .before .before .before .pre .bank) _ (c .before .before .before .pre .page))
 
 owner-named : (c : tie.After-read-owner) → c .read-owner .result ≡ giver (decode (c .before .before .before .args .bank .now)) (pageNamed (asked (c .before .before .before .args .ask)))
 unfolding giver
@@ -31,13 +31,13 @@ board-lacks-requires : tie.Need-board-lacks-requires
 board-lacks-requires c κs = search needs
 
 read-owner-requires : tie.Need-read-owner-requires
-read-owner-requires c κs = lent.entry-at (c .before .before .pre .bank) _ (c .before .before .pre .page)
+read-owner-requires c κs = directory.entry-at (c .before .before .pre .bank) _ (c .before .before .pre .page)
 
 cast-owner-missing : tie.Need-cast-owner-missing
 cast-owner-missing c = search needs
 
 owner-missing-requires : tie.Need-owner-missing-requires
-owner-missing-requires c κs = lent.of-board (c .before .before .before .pre .bank) _ (owner-in c)
+owner-missing-requires c κs = directory.of-board (c .before .before .before .pre .bank) _ (owner-in c)
 
 returns : tie.Need-returns
 unfolding refusal
@@ -55,13 +55,13 @@ returns-2 : tie.Need-returns-2
 unfolding refusal
 returns-2 c =
     let read = c .before .before .before .before in
-    refuses-short _ _ _ _ _ (read .before .board-lacks .ensures) (owner-named read) _ _ (sym (c .before .before .before .owner-missing .ensures) ∙ c .before .before .if1 .left) (c .if2 .taken) (c .before .short-board .ensures)
+    refuses-short _ _ _ _ _ (read .before .board-lacks .ensures) (owner-named read) _ _ (sym (c .before .before .before .owner-missing .ensures) ∙ c .before .before .if1 .left) (c .if2 .taken) (c .before .short-board .ensures .0)
 
 returns-3 : tie.Need-returns-3
 unfolding refusal
 returns-3 c =
     let read = c .before .before .before .before in
-    refuses-none _ _ _ _ _ (read .before .board-lacks .ensures) (owner-named read) _ _ (sym (c .before .before .before .owner-missing .ensures) ∙ c .before .before .if1 .left) (omega arith) (c .before .short-board .ensures)
+    refuses-none _ _ _ _ _ (read .before .board-lacks .ensures) (owner-named read) _ _ (sym (c .before .before .before .owner-missing .ensures) ∙ c .before .before .if1 .left) (omega arith) (c .before .short-board .ensures .0)
 
 pub live-verdict-spec : {M : Type 1} → statement M
 live-verdict-spec =

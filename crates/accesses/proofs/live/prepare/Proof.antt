@@ -1,6 +1,6 @@
 -- `accesses::live::prepare` meets its contract: a fetch, copies dropped, or nothing. Assumes nothing.
 use Rattle.accesses.specs.Prepared.{prepared-fetch, prepared-own-write, prepared-local-read, holder-space, came-idle}
-use Rattle.accesses.specs.Lent.{entry-at, entry-told, of-board}
+use Rattle.accesses.specs.Directory.{entry-at, entry-told, of-board}
 use Rattle.accesses.specs.Asks.{asked, got-takes}
 use Rattle.steps.specs.Replay.{named-page}
 use Rattle.model.specs.Laws.Keeps.Rights as rights

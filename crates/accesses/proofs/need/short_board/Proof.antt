@@ -1,6 +1,6 @@
 -- `accesses::need::short_board` meets its contract: the loop's invariant says that no lower board is short. Assumes nothing.
 use Rattle.accesses.specs.Needs.{found-at, found-none, search-on, search-begins, search-of}
-use Rattle.accesses.specs.Lent.{entry-at, entry-told, of-board}
+use Rattle.accesses.specs.Directory.{entry-at, entry-told, of-board}
 use Rattle.accesses.specs.Asks.{asked}
 use Rattle.model.specs.Definitions.Calls.{short}
 use Rattle.model.specs.Definitions.Steps.{giver}
@@ -57,7 +57,7 @@ unfolding giver
 returns c =
     let start = c .before .before .before .before .before .before .before .before in
     let loop = c .before .before .before .before .loop in
-    found-at (start .args .boards) (loop .board) _ (loop .inv .1) (omega arith) (sym (told (c .before)) ∙ c .if1 .taken) ∙ search-of (start .args .boards) _ _ _ (start .pre .0 .count)
+    (found-at (start .args .boards) (loop .board) _ (loop .inv .1) (omega arith) (sym (told (c .before)) ∙ c .if1 .taken) ∙ search-of (start .args .boards) _ _ _ (start .pre .0 .count), omega arith)
 
 add-board : tie.Need-add-board Inv-loop μ-loop
 add-board c = omega arith
@@ -75,7 +75,7 @@ returns-2 : tie.Need-returns-2 Inv-loop μ-loop
 returns-2 c =
     let start = c .before .before .before .before .before in
     let loop = c .before .loop in
-    found-none (start .args .boards) (loop .board) _ (loop .inv .1) (omega arith) ∙ search-of (start .args .boards) _ _ _ (start .pre .0 .count)
+    (found-none (start .args .boards) (loop .board) _ (loop .inv .1) (omega arith) ∙ search-of (start .args .boards) _ _ _ (start .pre .0 .count), omega arith)
 
 pub short-board-spec : {M : Type 1} → statement M
 short-board-spec =

@@ -1,7 +1,7 @@
 -- `accesses::replay::go_on_live` meets its contract: power lost in the end of replay, or the access live. Assumes nothing.
 use Rattle.accesses.specs.Repeated.{ended-asks, ended-decode, ended-lost, ended-live}
 use Rattle.accesses.specs.Asks.{asked}
-use Rattle.accesses.specs.Lent.{board-small}
+use Rattle.accesses.specs.Directory.{board-small}
 use Rattle.exchange.specs.Progress.{lostBy}
 use native.Mathlib.Omega.{arith}
 use mathlib.Core.Path.{sym}

@@ -1,9 +1,8 @@
 -- `accesses::replay::owned_pages` meets its contract: the loop goes from the highest page down, and a page's bit comes in at the bottom. Assumes nothing.
-use Rattle.accesses.specs.Ends.{setFrom, set-none, set-is, set-in, set-out, set-fits}
-use Rattle.accesses.specs.Lent.{entry-at, entry-told}
+use Rattle.accesses.specs.Ends.{setFrom, set-none, set-in, set-out, set-fits}
+use Rattle.accesses.specs.Directory.{entry-at, entry-told}
 use Rattle.model.specs.Definitions.Codec.{decode}
 use Rattle.model.specs.Definitions.Bank.{Entry, entryAt}
-use Rattle.model.specs.Definitions.Parts.{member}
 use borrow.Author.Needs.{needs}
 use borrow.Author.Tests.{eq-eqb, ne-eqb}
 use lib.Dec.{eqb}
@@ -62,10 +61,9 @@ returns : tie.Need-returns Inv-loop μ-loop
 returns c =
     let start = c .before .before .before in
     let loop = c .before .loop in
-    λ p h.
     let e : loop .page ≡ 0 = omega arith in
     let z : start .args .pages - 0 ≡ start .args .pages = omega arith in
-    ap (member p) (rw (e, z) at (loop .inv .1)) ∙ set-is _ (start .args .pages) p h
+    rw (e, z) at (loop .inv .1)
 
 pub owned-pages-spec : {M : Type 1} → statement M
 owned-pages-spec =

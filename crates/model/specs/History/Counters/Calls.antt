@@ -30,9 +30,9 @@ use Rattle.model.specs.Laws.Runs.Stores.{FlushedWith, note-flush-changed
 use Rattle.model.specs.Laws.Keeps.Clauses.{up-below}
 use Rattle.model.specs.Laws.Keeps.Rights.{or-cases, holder-up}
 use Rattle.model.specs.Laws.Keeps.Fetches.{CanFetch, fetch-taken}
-use Rattle.model.specs.Laws.Keeps.Live.{CanAccess, can-fetch, firstOf-none, isUp-up, isDown-down, isReplaying-replaying, up-left}
+use Rattle.model.specs.Laws.Keeps.Live.{CanAccess, can-fetch, firstOf-none, isUp-up, isDown-down, isReplaying-replaying}
 use Rattle.model.specs.Laws.Keeps.Replay.{endReplay-keeps}
-use Rattle.model.specs.Laws.Keeps.Calls.{Entered, entered, fitting, board-taken, below-taken, taken-inReplay, live-can}
+use Rattle.model.specs.Laws.Keeps.Calls.{Entered, entered-live, entered, fitting, board-taken, below-taken, taken-inReplay, live-can}
 use Rattle.model.specs.History.Replaying.{going-left}
 use Rattle.model.specs.History.Counters.Runs.{Advances, powerOff-advances, Nobody, Only, advances-less, RunAdvances, run-trans, run-same, step-advances, flush-advances, checkpoint-advances}
 use Rattle.model.specs.History.Counters.Steps.{noted-advances, got-advances, giveCopy-advances, dropCopies-advances, passOwnership-advances, access-advances, withFuse-advances, Over, took-state, restarted-advances, took-advances, replayed-advances, settled-advances}
@@ -268,9 +268,7 @@ module _ (b : ℕ) (a : Access) (k : Bank) (w : WellFormed k) where
       let i : Entered b a k = entered b a k w e in
       cases (λ (t : Result). RunAdvances Nobody Nobody (start k) (t .run)) (isReplaying (boardAt k b .state))
       (λ t. replaying-advances i (isReplaying-replaying (boardAt k b .state) t) (fitting b a k w e t))
-      (λ t.
-      live-advances b a (start k) w
-      (record { page = i .page; values = i .values; up = up-left (boardAt k b .state) (i .power) t; since = i .since; number = i .number })))
+      (λ t. live-advances b a (start k) w (entered-live b a k i t)))
 
 module _ (b : ℕ) (k : Bank) where
   checkpointBank-advances : RunAdvances Nobody Nobody (start k) (checkpointBank b k .run)

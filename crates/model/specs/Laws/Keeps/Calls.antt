@@ -89,6 +89,11 @@ pub record Entered (b : ℕ) (a : Access) (k : Bank) : Type 0 where
   pub since : boardAt k b .working .since < lastSince
   pub number : boardAt k b .working .number < lastNumber
 
+-- a board that entered and isn't replaying is up
+pub entered-live : (b : ℕ) (a : Access) (k : Bank) → Entered b a k → isReplaying (boardAt k b .state) ≡ false → CanAccess b a k
+entered-live b a k i t =
+    record { page = i .page; values = i .values; up = up-left (boardAt k b .state) (i .power) t; since = i .since; number = i .number }
+
 module _ (b : ℕ) (a : Access) (k : Bank) (w : WellFormed k) (i : Entered b a k)
     (rep : boardAt k b .state ≡ Replaying) (same : differs a (boardAt k b) ≡ false) where
   abbrev x : Board
@@ -221,15 +226,7 @@ module _ (b : ℕ) (a : Access) (k : Bank) (w : WellFormed k) where
       let i : Entered b a k = entered e in
       cases (λ (t : Result). WellFormed (t .run .bank)) (isReplaying (boardAt k b .state))
       (λ t. replaying-keeps b a k w i (isReplaying-replaying (boardAt k b .state) t) (fitting e t))
-      (λ t.
-      live-keeps b a (start k) w
-      (record {
-        page = i .page;
-        values = i .values;
-        up = up-left (boardAt k b .state) (i .power) t;
-        since = i .since;
-        number = i .number;
-      })))
+      (λ t. live-keeps b a (start k) w (entered-live b a k i t)))
 
 -- ---- the theorem
 

@@ -1,9 +1,9 @@
--- `accesses::replay::ended` meets its contract. Assumes nothing.
+-- `accesses::outcome::ended` meets its contract. Assumes nothing.
 use Rattle.accesses.specs.Results.{endedAs}
 use mathlib.Core.Path.{refl}
 use borrow.Author.Needs.{needs}
-use Rattle.accesses.proofs.replay.ended.Statement.{statement}
-use Rattle.accesses.proofs.replay.ended.Tie as tie
+use Rattle.accesses.proofs.outcome.ended.Statement.{statement}
+use Rattle.accesses.proofs.outcome.ended.Tie as tie
 
 cast-t6 : tie.Need-cast-t6
 cast-t6 c = search needs
