@@ -27,6 +27,15 @@ build_archive() {
     fi
 }
 
+# The proved line runner: $runner. Its proof is checked on the way too.
+build_runner() {
+    runner=$root/target/bin/runner
+    if newer "$runner" "$root/crates" "$root/crates.txt"; then
+        echo "building target/bin/runner: all proofs below it are checked, which takes minutes" >&2
+        quietly env -C "$root" rt check runner
+    fi
+}
+
 # The second engine as a library of Rust: $second.
 build_second() {
     second=$root/target/second/libsecond.rlib

@@ -8,3 +8,4 @@ pub mod Tally
 pub mod Work
 pub mod Progress
 pub mod Machine
+pub mod Stream

@@ -3,6 +3,7 @@ use crate::print::put_last;
 use crate::runner::Progress;
 use crate::runner::run_line;
 use crate::tally::no_lines;
+use crate::tally::stopped;
 use crate::text::MOST_BYTES;
 use crate::text::NEWLINE;
 ghost use mathlib.Core.Path.{_≡_};
@@ -10,7 +11,7 @@ ghost use Prim.Native.Nat.{_+_, _≤_};
 ghost use lib.ListN.{length};
 ghost use Rattle.script.specs.Definitions.Runner.{run};
 ghost use Rattle.script.specs.Definitions.Feeding.{feedByte, feed as feedAll, finish as finishing};
-ghost use Rattle.script.specs.Laws.Machine.{RunningFor, FedBy, machineOf, fromNothing, Buffers};
+ghost use Rattle.script.specs.Laws.Machine.{InBuffers, RunningFor, FedBy, machineOf, fromNothing, Buffers};
 ghost use Rattle.script.specs.Laws.Output.{Put, mostLine, mostLast};
 
 // What is kept between two bytes: how many bytes of a line there are, and how far the runner is.
@@ -18,9 +19,6 @@ pub struct Machine {
     pub pending: usize,
     pub progress: Progress,
 }
-
-// "reading stops after line 4,294,967,295"
-const MOST_LINES: u32 = 4294967295;
 
 // One byte of input.
 pub fn feed_byte(c: u8, line: &mut [u8], bank: &mut [u8], out: &mut [u8], from: Machine) -> Machine
@@ -30,7 +28,7 @@ pub fn feed_byte(c: u8, line: &mut [u8], bank: &mut [u8], out: &mut [u8], from: 
     let pending = from.pending;
     let progress = from.progress;
     let tally = progress.tally;
-    if MOST_LINES <= tally.read {
+    if stopped(tally) {
         return from;
     }
     if c == NEWLINE {
@@ -89,14 +87,14 @@ pub fn start() -> Machine
 
 // The end of input: a line that has begun ends, then come the three numbers. The answer is the place behind the output.
 pub fn finish(line: &[u8], bank: &mut [u8], out: &mut [u8], from: Machine) -> usize
-    requires { ⌜ RunningFor 1 (now line) (now bank) (now out) from × (from .progress .at + mostLine + mostLast ≤ length (now out)) ⌝ }
+    requires { ⌜ InBuffers (now line) (now bank) from × (from .progress .at + mostLine + mostLast ≤ length (now out)) ⌝ }
     ensures { λ r. ⌜ Put (now (out .entry)) (from .progress .at) (finishing (machineOf (now (line .entry)) (now (bank .entry)) from)) (now (out .exit)) r ⌝ }
 {
     let pending = from.pending;
     let progress = from.progress;
     let tally = progress.tally;
     let at = progress.at;
-    if MOST_LINES <= tally.read {
+    if stopped(tally) {
         return put_last(out, at, tally);
     }
     if pending == 0 {

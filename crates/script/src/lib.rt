@@ -4,6 +4,7 @@ pub mod number;
 pub mod print;
 pub mod request;
 pub mod runner;
+pub mod stream;
 pub mod tally;
 pub mod text;
 pub mod work;

@@ -1,6 +1,7 @@
 // The tally of lines read, done and refused.
 ghost use mathlib.Core.Path.{_≡_};
 ghost use Rattle.script.specs.Definitions.Runner.{counted};
+ghost use Rattle.script.specs.Definitions.Feeding.{stopped};
 ghost use Rattle.script.specs.Laws.Tally.{Counts};
 
 pub struct Tally {
@@ -18,6 +19,15 @@ pub fn no_lines() -> Tally
         done: 0,
         refused: 0,
     }
+}
+
+// "reading stops after line 4,294,967,295"
+const MOST_LINES: u32 = 4294967295;
+
+pub fn stopped(tally: Tally) -> bool
+    ensures { λ r. ⌜ r ≡ stopped tally ⌝ }
+{
+    MOST_LINES <= tally.read
 }
 
 // The tally with one line more: "done is code 0, refused all others".

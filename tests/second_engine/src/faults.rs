@@ -1,5 +1,5 @@
 //! Runs every wrong engine and says what catches it.
-//! The claim is tried on random scripts, the answers on the stored outputs.
+//! The claim is tried on random scripts, the answers on the stored scripts, against what the right engine prints.
 
 use crate::counters::Counters;
 use crate::fault::{Fault, FaultKind, FAULTS};
@@ -12,7 +12,7 @@ use std::path::{Path, PathBuf};
 /// How many random scripts a fault may take to show.
 const SCRIPTS: u64 = 1_000;
 
-/// A script of the corpus and what it must print.
+/// A script of the corpus and what the right engine prints.
 struct Case {
     name: String,
     script: Vec<u8>,
@@ -35,10 +35,13 @@ fn corpus(folder: &Path) -> io::Result<Vec<Case>> {
                 .unwrap_or_default()
                 .to_string_lossy()
                 .into_owned();
+            let script = fs::read(&path)?;
+            let mut output = Vec::new();
+            run(&script[..], &mut output, Fault::None, false)?;
             Ok(Case {
                 name,
-                script: fs::read(&path)?,
-                output: fs::read(path.with_extension("out"))?,
+                script,
+                output,
             })
         })
         .collect()
@@ -63,12 +66,12 @@ fn try_fault(kind: &FaultKind, corpus: &[Case]) -> bool {
         .collect();
     match differing.first() {
         Some(case) => println!(
-            "  {} of {} stored outputs differ, first {}",
+            "  {} of {} scripts differ, first {}",
             differing.len(),
             corpus.len(),
             case.name
         ),
-        None => println!("  no stored output differs"),
+        None => println!("  no script differs"),
     }
     if kind.breaks_claim {
         failure.is_some()
@@ -77,13 +80,9 @@ fn try_fault(kind: &FaultKind, corpus: &[Case]) -> bool {
     }
 }
 
-/// The whole command; false if a fault isn't caught or the right engine is.
+/// The whole command; false if a fault isn't caught.
 pub fn faults(folder: &Path) -> io::Result<bool> {
     let corpus = corpus(folder)?;
-    if corpus.iter().any(|case| differs(case, Fault::None)) {
-        println!("the right engine differs from the stored outputs");
-        return Ok(false);
-    }
     let missed: Vec<&str> = FAULTS
         .iter()
         .filter(|kind| !try_fault(kind, &corpus))

@@ -80,7 +80,7 @@ mod tests {
     /// Case B's own facts: stand point 3, the repeated read 0, 4 stores, then 9 with 2 stores.
     #[test]
     fn case_b() {
-        let script = include_bytes!("../../scripts/case-b.txt");
+        let script = include_bytes!("../../../crates/runner/data/case-b.txt");
         let mut trial = Trial::new(Fault::None);
         let mut answers = Vec::new();
         for line in Lines::new(&script[..]) {

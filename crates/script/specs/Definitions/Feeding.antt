@@ -5,6 +5,7 @@ use mathlib.Core.Bool.{Bool, true, false, _||_}
 use mathlib.Core.List.{List, [], _∷_, _++_}
 use lib.ListN.{length}
 use lib.Dec.{eqb, ltb, leb}
+use Rattle.script.specs.declared.tally.Tally.{Tally}
 use Rattle.script.specs.Definitions.Lines.{mostBytes}
 use Rattle.script.specs.Definitions.Output.{newline, lastLine}
 use Rattle.script.specs.Definitions.Runner.{State, begin, Step, line, mostLines}
@@ -27,8 +28,8 @@ unfoldable pub withByte : List ℕ → ℕ → List ℕ
 withByte w c = elim (ltb mostBytes (length w)) [ true ↦ w | false ↦ w ++ (c ∷ []) ]
 
 -- "reading stops after line 4,294,967,295"
-unfoldable pub stopped : State → Bool
-stopped s = leb mostLines (s .tally .read)
+unfoldable pub stopped : Tally → Bool
+stopped t = leb mostLines (t .read)
 
 -- a line has ended
 unfoldable pub ended : Step → Fed
@@ -36,7 +37,7 @@ ended t = record { machine = record { pending = []; state = t .state }; output =
 
 unfoldable pub feedByte : ℕ → Machine → Fed
 feedByte c m =
-    elim (stopped (m .state)) [
+    elim (stopped (m .state .tally)) [
       | true ↦ record { machine = m; output = [] }
       | false ↦
           elim (eqb c newline) [
@@ -55,7 +56,7 @@ feed (c ∷ cs) m = let f : Fed = feedByte c m in behind (f .output) (feed cs (f
 -- the end of input ends a line that has begun; then the three numbers
 unfoldable pub finish : Machine → List ℕ
 finish m =
-    elim (stopped (m .state) || eqb (length (m .pending)) 0) [
+    elim (stopped (m .state .tally) || eqb (length (m .pending)) 0) [
       | true ↦ lastLine (m .state .tally)
       | false ↦ let t : Step = line (m .pending) (m .state) in t .output ++ lastLine (t .state .tally)
     ]

@@ -73,11 +73,11 @@ line-read l s = counted-read _ (s .tally)
 abbrev left : State → ℕ
 left s = mostLines - s .tally .read
 
-left-line : (l : List ℕ) (s : State) → stopped s ≡ false → left s ≡ suc (left (line l s .state))
+left-line : (l : List ℕ) (s : State) → stopped (s .tally) ≡ false → left s ≡ suc (left (line l s .state))
 unfolding stopped
 left-line l s t = let h : s .tally .read < mostLines = leb-false _ _ t in rw (line-read l s) (omega arith)
 
-left-stopped : (s : State) → stopped s ≡ true → left s ≡ 0
+left-stopped : (s : State) → stopped (s .tally) ≡ true → left s ≡ 0
 unfolding stopped
 left-stopped s t = let h : mostLines ≤ s .tally .read = leb-true _ _ t in omega arith
 
@@ -92,7 +92,7 @@ whole-behind out f = append-assoc out (f .output) (finish (f .machine))
 finish-run : (w : List ℕ) (s : State) → finish (record { pending = kept w; state = s }) ≡ runLines (take (left s) (linesFrom w [])) s
 unfolding finish linesFrom runLines
 finish-run w s =
-    byBool (stopped s)
+    byBool (stopped (s .tally))
     (λ t. cc (left-stopped s t, t))
     (λ t. byBool (eqb (length w) 0)
     (λ e. cc (t, e, kept-empty w, take-none (left s)))
@@ -100,15 +100,15 @@ finish-run w s =
 
 -- one byte, by what it is
 module _ (c : ℕ) (m : Machine) where
-  pub byte-stopped : stopped (m .state) ≡ true → feedByte c m ≡ record { machine = m; output = [] }
+  pub byte-stopped : stopped (m .state .tally) ≡ true → feedByte c m ≡ record { machine = m; output = [] }
   unfolding feedByte
   byte-stopped t = rw (t, feedByte)
 
-  pub byte-newline : stopped (m .state) ≡ false → eqb c newline ≡ true → feedByte c m ≡ ended (line (m .pending) (m .state))
+  pub byte-newline : stopped (m .state .tally) ≡ false → eqb c newline ≡ true → feedByte c m ≡ ended (line (m .pending) (m .state))
   unfolding feedByte
   byte-newline t e = cc (t, e)
 
-  pub byte-other : stopped (m .state) ≡ false → eqb c newline ≡ false
+  pub byte-other : stopped (m .state .tally) ≡ false → eqb c newline ≡ false
       → feedByte c m ≡ record { machine = record { pending = withByte (m .pending) c; state = m .state }; output = [] }
   unfolding feedByte
   byte-other t e = cc (t, e)
@@ -123,7 +123,7 @@ unfolding fedWhole feed linesFrom runLines ended
 fed-from [] w s = finish-run w s
 fed-from (c ∷ cs) w s =
     let m : Machine = record { pending = kept w; state = s } in
-    byBool (stopped s)
+    byBool (stopped (s .tally))
     (λ t. feed-step c cs m _ (byte-stopped c m t) ∙ fed-from cs w s ∙ cc (left-stopped s t))
     (λ t. byBool (eqb c newline)
     (λ e. feed-step c cs m _ (byte-newline c m t e) ∙ rw (kept-line w s) (cc (e, left-line w s t, fed-from cs [] (line w s .state))))

@@ -5,15 +5,15 @@ use mathlib.Core.Bool.{true, false}
 use mathlib.Core.List.{List, [], _∷_, _++_, append-nil}
 use native.Mathlib.Omega.{arith}
 use native.Mathlib.Numerals.{add-one}
-use lib.ListN.{length, take, set, getD}
+use lib.ListN.{length, take, set, getD, length-set}
 use lib.Seq.{length-take-le, take-all, take-suc, take-suc-set}
-use lib.Dec.{eqb, ltb, leb}
-use borrow.Author.Tests.{eq-eqb, ne-eqb, lt-ltb, le-ltb, le-leb, lt-leb}
+use lib.Dec.{eqb, ltb}
+use borrow.Author.Tests.{eq-eqb, ne-eqb, lt-ltb, le-ltb}
 use Rattle.script.specs.declared.feed.Machine.{Machine as Held}
 use Rattle.script.specs.declared.runner.Progress.{Progress}
 use Rattle.script.specs.Definitions.Lines.{mostBytes}
 use Rattle.script.specs.Definitions.Output.{newline, lastLine}
-use Rattle.script.specs.Definitions.Runner.{State, Step, begin, mostLines, line, run}
+use Rattle.script.specs.Definitions.Runner.{State, Step, begin, line, run}
 use Rattle.script.specs.Definitions.Feeding.{Machine, Fed, withByte, stopped, ended, feedByte, behind, feed, finish, fedWhole, idle}
 use Rattle.fields.proofs.Splices.{splice-none}
 use Rattle.script.specs.Laws.Feeding.{feed-append, fed-run, byte-stopped, byte-newline, byte-other}
@@ -26,13 +26,17 @@ use Rattle.script.specs.Laws.Progress.{stateOf, Ready, Ran}
 unfoldable pub machineOf : List ℕ → List ℕ → Held → Machine
 machineOf line bank m = record { pending = take (m .pending) line; state = stateOf bank (m .progress) }
 
--- n bytes may come
-pub record RunningFor (n : ℕ) (line bank out : List ℕ) (m : Held) : Type 0 where
+-- the buffers are as long as they have to be, and the machine is in them
+pub record InBuffers (line bank : List ℕ) (m : Held) : Type 0 where
   pub lineBuffer : length line ≡ mostBytes + 1
   pub pendingIn : m .pending ≤ mostBytes + 1
   pub bankBuffer : length bank ≡ mostBank
   pub within : m .progress .size ≤ length bank
   pub sums : Sums (m .progress .tally)
+
+-- n bytes may come
+pub record RunningFor (n : ℕ) (line bank out : List ℕ) (m : Held) : Type 0 where
+  pub held : InBuffers line bank m
   pub room : m .progress .at + mostLine * n ≤ length out
 
 -- n bytes were fed: the machine they leave, their output behind what was there
@@ -40,9 +44,7 @@ pub record FedBy (f : Fed) (n : ℕ) (m r : Held) (line bank before after : List
   pub machine : machineOf line bank r ≡ f .machine
   pub output : Put before (m .progress .at) (f .output) after (r .progress .at)
   pub near : r .progress .at ≤ m .progress .at + mostLine * n
-  pub pendingIn : r .pending ≤ mostBytes + 1
-  pub within : r .progress .size ≤ length bank
-  pub sums : Sums (r .progress .tally)
+  pub held : InBuffers line bank r
 
 put-none : (l : List ℕ) (a : ℕ) → Put l a [] l a
 put-none l a = record { bytes = splice-none l a; end = omega arith }
@@ -51,62 +53,54 @@ module _ (c : ℕ) (line′ bank out : List ℕ) (m : Held) (run : RunningFor 1 
   abbrev before : Machine
   before = machineOf line′ bank m
 
-  goes-on : m .progress .tally .read < mostLines → stopped (before .state) ≡ false
-  unfolding stopped machineOf stateOf
-  goes-on h = lt-leb mostLines (m .progress .tally .read) h
-
-  stops : mostLines ≤ m .progress .tally .read → stopped (before .state) ≡ true
-  unfolding stopped machineOf stateOf
-  stops h = le-leb mostLines (m .progress .tally .read) h
+  tally-held : before .state .tally ≡ m .progress .tally
+  unfolding machineOf stateOf
+  tally-held = refl
 
   -- nothing is printed, and the machine stays or has one byte more
   quiet : (r : Held) (l : List ℕ) → feedByte c before ≡ record { machine = machineOf l bank r; output = [] } → r .progress ≡ m .progress
-      → r .pending ≤ mostBytes + 1 → FedBy (feedByte c before) 1 m r l bank out out
-  quiet r l e p k =
+      → r .pending ≤ mostBytes + 1 → length l ≡ mostBytes + 1 → FedBy (feedByte c before) 1 m r l bank out out
+  quiet r l e p k n =
       record {
         machine = rw e;
         output = rw (e, p) (put-none out (m .progress .at));
         near = rw p (omega arith);
-        pendingIn = k;
-        within = rw p (run .within);
-        sums = rw p (run .sums);
+        held = record { lineBuffer = n; pendingIn = k; bankBuffer = run .held .bankBuffer; within = rw p (run .held .within); sums = rw p (run .held .sums) };
       }
 
-  pub fed-stopped : mostLines ≤ m .progress .tally .read → FedBy (feedByte c before) 1 m m line′ bank out out
-  fed-stopped h = quiet m line′ (byte-stopped c before (stops h)) refl (run .pendingIn)
+  pub fed-stopped : stopped (m .progress .tally) ≡ true → FedBy (feedByte c before) 1 m m line′ bank out out
+  fed-stopped h = quiet m line′ (byte-stopped c before (rw tally-held h)) refl (run .held .pendingIn) (run .held .lineBuffer)
 
-  pub fed-line : (r : Progress) (bank′ out′ : List ℕ) → m .progress .tally .read < mostLines → c ≡ newline
-      → Ran (line (take (m .pending) line′) (stateOf bank (m .progress))) (m .progress) r bank′ out out′
+  pub fed-line : (r : Progress) (bank′ out′ : List ℕ) → stopped (m .progress .tally) ≡ false → c ≡ newline
+      → Ran (line (take (m .pending) line′) (stateOf bank (m .progress))) (m .progress) r bank′ out out′ → length bank′ ≡ length bank
       → FedBy (feedByte c before) 1 m (record { pending = 0; progress = r }) line′ bank′ out out′
   unfolding ended machineOf
-  fed-line r bank′ out′ h e ran =
+  fed-line r bank′ out′ h e ran k =
       let t : Step = line (take (m .pending) line′) (stateOf bank (m .progress)) in
-      let f : feedByte c before ≡ ended t = byte-newline c before (goes-on h) (eq-eqb c newline e) in
+      let f : feedByte c before ≡ ended t = byte-newline c before (rw tally-held h) (eq-eqb c newline e) in
       record {
         machine = rw (f, ran .state);
         output = rw f (ran .output);
         near = ran .near;
-        pendingIn = omega arith;
-        within = ran .within;
-        sums = ran .sums;
+        held = record { lineBuffer = run .held .lineBuffer; pendingIn = omega arith; bankBuffer = k ∙ run .held .bankBuffer; within = ran .within; sums = ran .sums };
       }
 
   pending-length : length (take (m .pending) line′) ≡ m .pending
-  pending-length = length-take-le (m .pending) line′ (omega (arith, run .pendingIn, run .lineBuffer))
+  pending-length = length-take-le (m .pending) line′ (omega (arith, run .held .pendingIn, run .held .lineBuffer))
 
-  pub fed-long : m .progress .tally .read < mostLines → (c ≡ newline → ⊥) → mostBytes < m .pending → FedBy (feedByte c before) 1 m m line′ bank out out
+  pub fed-long : stopped (m .progress .tally) ≡ false → (c ≡ newline → ⊥) → mostBytes < m .pending → FedBy (feedByte c before) 1 m m line′ bank out out
   unfolding machineOf withByte
   fed-long h e k =
       let w : withByte (take (m .pending) line′) c ≡ take (m .pending) line′ = cc (lt-ltb mostBytes (length (take (m .pending) line′)) (omega (arith, pending-length))) in
-      quiet m line′ (byte-other c before (goes-on h) (ne-eqb c newline e) ∙ rw w) refl (run .pendingIn)
+      quiet m line′ (byte-other c before (rw tally-held h) (ne-eqb c newline e) ∙ rw w) refl (run .held .pendingIn) (run .held .lineBuffer)
 
-  pub fed-more : m .progress .tally .read < mostLines → (c ≡ newline → ⊥) → m .pending ≤ mostBytes
+  pub fed-more : stopped (m .progress .tally) ≡ false → (c ≡ newline → ⊥) → m .pending ≤ mostBytes
       → FedBy (feedByte c before) 1 m (record { pending = m .pending + 1; progress = m .progress }) (set line′ (m .pending) c) bank out out
   unfolding machineOf withByte
   fed-more h e k =
       let w : withByte (take (m .pending) line′) c ≡ take (m .pending) line′ ++ (c ∷ []) = cc (le-ltb mostBytes (length (take (m .pending) line′)) (omega (arith, pending-length))) in
-      let s : take (m .pending + 1) (set line′ (m .pending) c) ≡ take (m .pending) line′ ++ (c ∷ []) = rw (add-one (m .pending)) (take-suc-set line′ (m .pending) c (omega (arith, run .lineBuffer))) in
-      quiet (record { pending = m .pending + 1; progress = m .progress }) (set line′ (m .pending) c) (byte-other c before (goes-on h) (ne-eqb c newline e) ∙ rw (w, s)) refl (omega arith)
+      let s : take (m .pending + 1) (set line′ (m .pending) c) ≡ take (m .pending) line′ ++ (c ∷ []) = rw (add-one (m .pending)) (take-suc-set line′ (m .pending) c (omega (arith, run .held .lineBuffer))) in
+      quiet (record { pending = m .pending + 1; progress = m .progress }) (set line′ (m .pending) c) (byte-other c before (rw tally-held h) (ne-eqb c newline e) ∙ rw (w, s)) refl (omega arith) (simp length-set (run .held .lineBuffer))
 
 -- ---- many bytes
 
@@ -117,9 +111,7 @@ fed-none line bank out m n run =
       machine = refl;
       output = put-none out (m .progress .at);
       near = omega arith;
-      pendingIn = run .pendingIn;
-      within = run .within;
-      sums = run .sums;
+      held = run .held;
     }
 
 -- one byte more at the end
@@ -130,23 +122,13 @@ feed-last xs c m = feed-append xs (c ∷ []) m ∙ rw (append-nil (feedByte c (f
 -- turn i of the loop over an input
 pub record Turn (input line₀ bank₀ out₀ : List ℕ) (m₀ : Held) (i : ℕ) (line bank out : List ℕ) (m : Held) : Type 0 where
   pub inside : i ≤ length input
-  pub lineKept : length line ≡ length line₀
-  pub bankKept : length bank ≡ length bank₀
   pub outKept : length out ≡ length out₀
   pub fed : FedBy (feed (take i input) (machineOf line₀ bank₀ m₀)) i m₀ m line bank out₀ out
 
 module _ (input line₀ bank₀ out₀ : List ℕ) (m₀ : Held) (run : RunningFor (length input) line₀ bank₀ out₀ m₀) (i : ℕ) (line bank out : List ℕ) (m : Held)
     (t : Turn input line₀ bank₀ out₀ m₀ i line bank out m) (h : i < length input) where
   pub turn-running : RunningFor 1 line bank out m
-  turn-running =
-      record {
-        lineBuffer = t .lineKept ∙ run .lineBuffer;
-        pendingIn = t .fed .pendingIn;
-        bankBuffer = t .bankKept ∙ run .bankBuffer;
-        within = t .fed .within;
-        sums = t .fed .sums;
-        room = omega (arith, t .fed .near, t .outKept, run .room);
-      }
+  turn-running = record { held = t .fed .held; room = omega (arith, t .fed .near, t .outKept, run .room) }
 
   pub turn-next : (r : Held) (line′ bank′ out′ : List ℕ)
       → FedBy (feedByte (getD input i 0) (machineOf line bank m)) 1 m r line′ bank′ out out′
@@ -161,9 +143,7 @@ module _ (input line₀ bank₀ out₀ : List ℕ) (m₀ : Held) (run : RunningF
         machine = f .machine ∙ ap (λ (y : Fed). y .machine) g ∙ rw e;
         output = rw e (put-next (t .fed .output) (rw g at (f .output)) (omega (arith, run .room)));
         near = omega (arith, t .fed .near, f .near);
-        pendingIn = f .pendingIn;
-        within = f .within;
-        sums = f .sums;
+        held = f .held;
       }
 
 pub turn-done : (input line₀ bank₀ out₀ : List ℕ) (m₀ : Held) (i : ℕ) (line bank out : List ℕ) (m : Held) → Turn input line₀ bank₀ out₀ m₀ i line bank out m → length input ≤ i
@@ -191,34 +171,37 @@ pub record Buffers (n : ℕ) (line bank out : List ℕ) : Type 0 where
 
 pub starts : (n : ℕ) (line bank out : List ℕ) → Buffers n line bank out → RunningFor n line bank out fromNothing
 starts n line bank out b =
-    record { lineBuffer = b .lineBuffer; pendingIn = omega arith; bankBuffer = b .bankBuffer; within = omega arith; sums = refl; room = omega (arith, b .room) }
+    record {
+      held = record { lineBuffer = b .lineBuffer; pendingIn = omega arith; bankBuffer = b .bankBuffer; within = omega arith; sums = refl };
+      room = omega (arith, b .room);
+    }
 
 module _ (line′ bank : List ℕ) (m : Held) where
   abbrev held : Machine
   held = machineOf line′ bank m
 
-  pub finish-stopped : mostLines ≤ m .progress .tally .read → finish held ≡ lastLine (m .progress .tally)
-  unfolding finish machineOf stateOf stopped
-  finish-stopped h = cc (le-leb mostLines (m .progress .tally .read) h)
+  pub finish-stopped : stopped (m .progress .tally) ≡ true → finish held ≡ lastLine (m .progress .tally)
+  unfolding finish machineOf stateOf
+  finish-stopped h = cc h
 
-  pub finish-empty : m .progress .tally .read < mostLines → m .pending ≡ 0 → finish held ≡ lastLine (m .progress .tally)
-  unfolding finish machineOf stateOf stopped
+  pub finish-empty : stopped (m .progress .tally) ≡ false → m .pending ≡ 0 → finish held ≡ lastLine (m .progress .tally)
+  unfolding finish machineOf stateOf
   finish-empty h e =
       let a : length (take (m .pending) line′) ≡ 0 = rw e in
-      cc (lt-leb mostLines (m .progress .tally .read) h, eq-eqb (length (take (m .pending) line′)) 0 a)
+      cc (h, eq-eqb (length (take (m .pending) line′)) 0 a)
 
-  pub finish-line : m .progress .tally .read < mostLines → (m .pending ≡ 0 → ⊥) → m .pending ≤ length line′
+  pub finish-line : stopped (m .progress .tally) ≡ false → (m .pending ≡ 0 → ⊥) → m .pending ≤ length line′
       → finish held ≡ line (take (m .pending) line′) (stateOf bank (m .progress)) .output ++ lastLine (line (take (m .pending) line′) (stateOf bank (m .progress)) .state .tally)
-  unfolding finish machineOf stateOf stopped
+  unfolding finish machineOf stateOf
   finish-line h e k =
       let a : length (take (m .pending) line′) ≡ m .pending = length-take-le (m .pending) line′ k in
-      cc (lt-leb mostLines (m .progress .tally .read) h, ne-eqb (length (take (m .pending) line′)) 0 (λ z. e (sym a ∙ z)))
+      cc (h, ne-eqb (length (take (m .pending) line′)) 0 (λ z. e (sym a ∙ z)))
 
 pub put-as : {l : List ℕ} {a : ℕ} {v w k : List ℕ} {b : ℕ} → v ≡ w → Put l a w k b → Put l a v k b
 put-as e p = rw e p
 
 -- the last line's output, and the three numbers behind it
-pub put-finish : (line′ bank : List ℕ) (m : Held) (r : Progress) (bank′ before after last : List ℕ) (b : ℕ) → m .progress .tally .read < mostLines → (m .pending ≡ 0 → ⊥)
+pub put-finish : (line′ bank : List ℕ) (m : Held) (r : Progress) (bank′ before after last : List ℕ) (b : ℕ) → stopped (m .progress .tally) ≡ false → (m .pending ≡ 0 → ⊥)
     → m .pending ≤ length line′ → m .progress .at ≤ length before
     → Ran (line (take (m .pending) line′) (stateOf bank (m .progress))) (m .progress) r bank′ before after → Put after (r .at) (lastLine (r .tally)) last b
     → Put before (m .progress .at) (finish (machineOf line′ bank m)) last b
@@ -240,17 +223,5 @@ put-run input line₀ bank₀ out₀ m line bank out last b f p =
 
 -- after a whole input there is room for its end
 pub ends : (n : ℕ) (f : Fed) (line bank out : List ℕ) (m : Held) (line′ bank′ out′ : List ℕ) → Buffers n line bank out → FedBy f n fromNothing m line′ bank′ out out′
-    → length line′ ≡ length line → length bank′ ≡ length bank → length out′ ≡ length out
-    → RunningFor 1 line′ bank′ out′ m × (m .progress .at + mostLine + mostLast ≤ length out′)
-ends n f line bank out m line′ bank′ out′ b g k l o =
-    let near : m .progress .at ≤ 0 + mostLine * n = g .near in (
-      record {
-        lineBuffer = k ∙ b .lineBuffer;
-        pendingIn = g .pendingIn;
-        bankBuffer = l ∙ b .bankBuffer;
-        within = g .within;
-        sums = g .sums;
-        room = omega (arith, b .room);
-      },
-      omega (arith, b .room),
-    )
+    → length out′ ≡ length out → InBuffers line′ bank′ m × (m .progress .at + mostLine + mostLast ≤ length out′)
+ends n f line bank out m line′ bank′ out′ b g o = let near : m .progress .at ≤ 0 + mostLine * n = g .near in (g .held, omega (arith, b .room))

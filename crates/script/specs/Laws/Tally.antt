@@ -3,11 +3,13 @@ use mathlib.Core.Path.{_≡_, refl, sym, _∙_}
 use Prim.Native.Nat.{ℕ, _+_, _<_}
 use mathlib.Core.Bool.{true, false}
 use native.Mathlib.Omega.{arith}
-use lib.Dec.{eqb}
+use lib.Dec.{eqb, leb}
+use borrow.Author.Tests.{leb-false}
 use Rattle.script.specs.declared.tally.Tally.{Tally}
 use Rattle.model.specs.Definitions.Layout.{lastNumber}
 use Rattle.model.specs.Laws.Logic.{byBool}
 use Rattle.script.specs.Definitions.Runner.{counted, mostLines}
+use Rattle.script.specs.Definitions.Feeding.{stopped}
 
 -- done and refused make up read
 abbrev pub Sums : Tally → Type 0
@@ -17,6 +19,10 @@ Sums t = t .done + t .refused ≡ t .read
 pub record Counts (t : Tally) : Type 0 where
   pub sums : Sums t
   pub more : t .read < mostLines
+
+pub counts-on : (t : Tally) → Sums t → stopped t ≡ false → Counts t
+unfolding stopped
+counts-on t s e = record { sums = s; more = leb-false mostLines (t .read) e }
 
 pub counted-read : (c : ℕ) (t : Tally) → counted c t .read ≡ t .read + 1
 unfolding counted

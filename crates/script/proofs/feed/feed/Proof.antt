@@ -1,5 +1,5 @@
 -- `script::feed::feed` meets its contract. The loop's invariant: the bytes before `i` were fed. Assumes nothing.
-use mathlib.Core.Path.{refl, _∙_}
+use mathlib.Core.Path.{refl, sym, _∙_}
 use Prim.Native.Nat.{_-_}
 use native.Mathlib.Omega.{arith}
 use lib.ListN.{length}
@@ -14,7 +14,7 @@ abbrev μ-loop : tie.MeasureT-loop
 μ-loop input line₀ bank₀ out₀ machine₀ i₀ line bank out machine i = length input - i
 
 loop-holds : tie.Need-loop-holds Inv-loop μ-loop
-loop-holds c = record { inside = omega arith; lineKept = refl; bankKept = refl; outKept = refl; fed = fed-none _ _ _ _ _ (c .before .before .before .before .pre) }
+loop-holds c = record { inside = omega arith; outKept = refl; fed = fed-none _ _ _ _ _ (c .before .before .before .before .pre) }
 
 shared-slice-read-feed-byte : tie.Need-shared-slice-read-feed-byte Inv-loop μ-loop
 shared-slice-read-feed-byte c = omega arith
@@ -36,17 +36,15 @@ loop-again c =
     let more = c .before .before .before .before .before .before .before .before .before .before .before .loop-test .taken in
     record {
       inside = omega (arith, more);
-      lineKept = call .kept .1 .0 ∙ turn .inv .lineKept;
-      bankKept = call .kept .1 .1 .0 ∙ turn .inv .bankKept;
       outKept = call .kept .1 .1 .1 .0 ∙ turn .inv .outKept;
       fed = turn-next _ _ _ _ _ (start .pre) (turn .i) (turn .line) (turn .bank) (turn .out) (turn .machine) (turn .inv) more (call .result) _ _ _ (call .ensures);
     }
 
 same-length : tie.Need-same-length Inv-loop μ-loop
-same-length c = c .before .loop .inv .lineKept
+same-length c = c .before .loop .inv .fed .held .lineBuffer ∙ sym (c .before .before .before .before .before .before .pre .held .lineBuffer)
 
 same-length-2 : tie.Need-same-length-2 Inv-loop μ-loop
-same-length-2 c = c .before .loop .inv .bankKept
+same-length-2 c = c .before .loop .inv .fed .held .bankBuffer ∙ sym (c .before .before .before .before .before .before .pre .held .bankBuffer)
 
 same-length-3 : tie.Need-same-length-3 Inv-loop μ-loop
 same-length-3 c = c .before .loop .inv .outKept

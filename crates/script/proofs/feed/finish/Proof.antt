@@ -1,11 +1,15 @@
 -- `script::feed::finish` meets its contract: each return is a case of the definition. Assumes nothing.
-use mathlib.Core.Path.{sym}
+use mathlib.Core.Path.{sym, _∙_}
 use native.Mathlib.Omega.{arith}
 use lib.Seq.{length-take-le}
 use Rattle.script.specs.Laws.Machine.{put-as, finish-stopped, finish-empty, put-finish}
+use Rattle.script.specs.Laws.Tally.{counts-on}
 use borrow.Author.Needs.{needs}
 use Rattle.script.proofs.feed.finish.Statement.{statement}
 use Rattle.script.proofs.feed.finish.Tie as tie
+
+stopped-requires : tie.Need-stopped-requires
+stopped-requires c κs = search needs
 
 put-last-requires : tie.Need-put-last-requires
 put-last-requires c κs = search needs
@@ -16,7 +20,7 @@ same-length c = search needs
 returns : tie.Need-returns
 returns c =
     let start = c .before .before .before .before .before .before .before .before .before .before .before in
-    put-as (finish-stopped (start .args .line .now) (start .args .bank .now) (start .args .from) (c .before .before .before .before .if1 .taken)) (c .before .before .put-last .ensures)
+    put-as (finish-stopped (start .args .line .now) (start .args .bank .now) (start .args .from) (sym (c .before .before .before .before .before .stopped .ensures) ∙ c .before .before .before .before .if1 .taken)) (c .before .before .put-last .ensures)
 
 put-last-requires-2 : tie.Need-put-last-requires-2
 put-last-requires-2 c κs = search needs
@@ -27,7 +31,7 @@ same-length-2 c = search needs
 returns-2 : tie.Need-returns-2
 returns-2 c =
     let start = c .before .before .before .before .before .before .before .before .before .before .before .before in
-    put-as (finish-empty (start .args .line .now) (start .args .bank .now) (start .args .from) (c .before .before .before .before .before .if1 .left) (c .before .before .before .before .if2 .taken)) (c .before .before .put-last2 .ensures)
+    put-as (finish-empty (start .args .line .now) (start .args .bank .now) (start .args .from) (sym (c .before .before .before .before .before .before .stopped .ensures) ∙ c .before .before .before .before .before .if1 .left) (c .before .before .before .before .if2 .taken)) (c .before .before .put-last2 .ensures)
 
 slice-aggregate-run-line : tie.Need-slice-aggregate-run-line
 slice-aggregate-run-line c =
@@ -35,7 +39,14 @@ slice-aggregate-run-line c =
     sym (length-take-le (start .args .from .pending) (start .args .line .now) (omega (arith, start .pre .0 .pendingIn, start .pre .0 .lineBuffer)))
 
 run-line-requires : tie.Need-run-line-requires
-run-line-requires c κs = search needs
+run-line-requires c κs =
+    let start = c .before .before .before .before .before .before .before .before .before .before .before in
+    record {
+      buffer = start .pre .0 .bankBuffer;
+      within = start .pre .0 .within;
+      counts = counts-on _ (start .pre .0 .sums) (sym (c .before .before .before .before .before .stopped .ensures) ∙ c .before .before .before .before .if1 .left);
+      room = omega (arith, start .pre .1);
+    }
 
 put-last-requires-3 : tie.Need-put-last-requires-3
 put-last-requires-3 c κs = search needs
@@ -50,13 +61,14 @@ returns-3 : tie.Need-returns-3
 returns-3 c =
     let start = c .before .before .before .before .before .before .before .before .before .before .before .before .before .before .before .before .before .before .before .before .before in
     let ran = c .before .before .before .before .before .before .before .before .before .run-line in
-    put-finish (start .args .line .now) (start .args .bank .now) (start .args .from) (ran .result) _ (start .args .out .now) _ _ _ (c .before .before .before .before .before .before .before .before .before .before .before .before .before .before .if1 .left) (c .before .before .before .before .before .before .before .before .before .before .before .before .before .if2 .left)
+    put-finish (start .args .line .now) (start .args .bank .now) (start .args .from) (ran .result) _ (start .args .out .now) _ _ _ (sym (c .before .before .before .before .before .before .before .before .before .before .before .before .before .before .before .stopped .ensures) ∙ c .before .before .before .before .before .before .before .before .before .before .before .before .before .before .if1 .left) (c .before .before .before .before .before .before .before .before .before .before .before .before .before .if2 .left)
     (omega (arith, start .pre .0 .pendingIn, start .pre .0 .lineBuffer)) (omega (arith, start .pre .1)) (ran .ensures) (c .before .before .put-last3 .ensures)
 
 pub finish-spec : {M : Type 1} → statement M
 finish-spec =
     tie.close
     (tie.spec
+    stopped-requires
     put-last-requires
     same-length
     returns

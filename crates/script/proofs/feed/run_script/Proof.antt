@@ -13,7 +13,7 @@ feed-requires c κs = rw (c .start .ensures) (starts _ _ _ _ (c .before .before 
 finish-requires : tie.Need-finish-requires
 finish-requires c κs =
     let fed = c .before .before .before .before .before .before .before .before .before .feed in
-    ends _ _ _ _ _ (fed .result) _ _ _ (c .before .before .before .before .before .before .before .before .before .before .before .before .before .before .before .before .before .before .pre) (rw (c .before .before .before .before .before .before .before .before .before .before .start .ensures) at (fed .ensures)) (fed .kept .1 .0) (fed .kept .1 .1 .0) (fed .kept .1 .1 .1 .0)
+    ends _ _ _ _ _ (fed .result) _ _ _ (c .before .before .before .before .before .before .before .before .before .before .before .before .before .before .before .before .before .before .pre) (rw (c .before .before .before .before .before .before .before .before .before .before .start .ensures) at (fed .ensures)) (fed .kept .1 .1 .1 .0)
 
 same-length : tie.Need-same-length
 same-length c = search needs
