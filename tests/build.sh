@@ -1,6 +1,6 @@
 # Sourced, with `root` set to the repository: builds what several programs link, each where it is missing or a source is newer.
 
-# newer FILE PATH..: whether FILE is missing or something under PATH.. is newer, edits that must fail apart.
+# newer FILE PATH.. [TEST..]: whether FILE is missing or something under PATH.. that passes the tests of `find` is newer, edits that must fail apart.
 newer() {
     made=$1
     shift
@@ -19,9 +19,10 @@ quietly() {
 }
 
 # The proved engine for C and Rust to link: $archive. Its proof is checked on the way, which takes a minute or more.
+# It stands on all crates but script and runner.
 build_archive() {
     archive=$root/target/staticlib/libengine.a
-    if newer "$archive" "$root/crates" "$root/crates.txt"; then
+    if newer "$archive" "$root/crates" "$root/crates.txt" ! -path "$root/crates/script/*" ! -path "$root/crates/runner/*"; then
         echo "building target/staticlib/libengine.a" >&2
         quietly env -C "$root" rt staticlib engine
     fi

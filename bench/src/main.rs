@@ -1,6 +1,7 @@
 //! The same calls on the archive and on the second engine, both optimised, on the same buffers by turns.
 //! `bench` prints nanoseconds for each call; `bench counts` runs every row once, for a tool that counts instructions.
 
+#[allow(dead_code)]
 #[path = "../../tests/compare/src/engines.rs"]
 mod engines;
 mod rows;

@@ -8,6 +8,7 @@ use mathlib.Core.List.{List, [], _∷_}
 use lib.ListN.{length}
 use lib.Dec.{eqb}
 use lib.Pow.{pow-mono}
+use Rattle.model.specs.Definitions.Layout.{mostPages}
 use Rattle.model.specs.Definitions.Parts.{update, eachFrom, each, member}
 use Rattle.model.specs.Definitions.Bank.{Board, Bank, boardAt, entryAt, onBoard}
 use Rattle.model.specs.Definitions.Steps.{step}
@@ -89,7 +90,7 @@ module _ (f : ℕ → Bool) (n i owned : ℕ) (h : 0 < i) (l : i ≤ n) (e : own
   unfolding digit
   set-out q = let z : owned * 2 ≡ owned * 2 + 0 = omega arith in z ∙ down false q
 
-  pub set-fits : n ≤ 16 → owned * 2 + 1 < 65536
+  pub set-fits : n ≤ mostPages → owned * 2 + 1 < 65536
   set-fits m = omega (arith, set-room f i (n - i) (omega arith), e)
 
 -- ---- tests that agree on every page settle the same frames

@@ -7,8 +7,8 @@ use exchange::copies::drop_copies;
 use exchange::fetch::fetch;
 use exchange::progress::Loss;
 use exchange::progress::Progress;
+use exchange::state::board_state;
 use fields::copies::count_copies;
-use format::block::read_state;
 use format::directory::read_copies;
 use format::directory::read_owner;
 use format::layout::block_at;
@@ -42,9 +42,7 @@ fn board_up(bank: &[u8], pages: usize, board: usize) -> bool
     requires { ⌜ OfBank pages board (now bank) ⌝ }
     ensures { λ r. ⌜ r ≡ isUp (boardAt (decode (now (bank .entry))) board .state) ⌝ }
 {
-    let a = block_at(pages, board);
-    let size = block_size(pages);
-    is_up(read_state(&bank[a..a + size]))
+    is_up(board_state(bank, pages, board))
 }
 
 // Whether the access lacks its right.

@@ -1,9 +1,9 @@
 // The tests with which an access begins: its numbers, then codes 4 and 5 on its board's block.
-use fields::widths::PAGE_SIZE;
 use format::layout::block_at;
 use format::layout::block_size;
 use steps::access::counters_full;
 use steps::replay::differs;
+use types::PAGE_SIZE;
 ghost use mathlib.Core.Path.{_≡_};
 ghost use Prim.Native.Nat.{ℕ, _<_};
 ghost use Rattle.model.specs.Definitions.Bank.{boardAt};

@@ -1,10 +1,8 @@
 // What every call reads of a bank before it begins: the numbers of boards and pages, and a board's state.
+use exchange::state;
 use fields::bytes::get;
-use format::block::read_state;
 use format::layout::BOARDS_AT;
 use format::layout::PAGES_AT;
-use format::layout::block_at;
-use format::layout::block_size;
 use types::State;
 use validity::parts::wide;
 ghost use mathlib.Core.Path.{_≡_};
@@ -33,8 +31,5 @@ pub fn board_state(bank: &[u8], board: usize) -> State
     requires { ⌜ IsBank (now bank) × (board < length (decode (now bank) .boards)) ⌝ }
     ensures { λ r. ⌜ r ≡ boardAt (decode (now (bank .entry))) board .state ⌝ }
 {
-    let pages = page_count(bank);
-    let a = block_at(pages, board);
-    let size = block_size(pages);
-    read_state(&bank[a..a + size])
+    state::board_state(bank, page_count(bank), board)
 }

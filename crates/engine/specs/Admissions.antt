@@ -21,7 +21,7 @@ use Rattle.model.specs.Definitions.Steps.{start, Access}
 use Rattle.model.specs.Definitions.Replay.{differs}
 use Rattle.model.specs.Definitions.Calls.{Result, firstOf, unless, live, replaying, accessInRange, countersFull, accessRefusals, accessBank, Call, Reading, Writing, callBank, refused, call}
 use Rattle.model.specs.Laws.Logic.{byBool, and-left, and-right}
-use Rattle.model.specs.Laws.Table.{boardOf}
+use Rattle.model.specs.Laws.Codes.Statement.{boardOf}
 use Rattle.model.specs.Laws.Keeps.Live.{CanAccess, isReplaying-replaying}
 use Rattle.model.specs.Laws.Keeps.Calls.{Entered, entered-live, entered, fitting}
 use Rattle.model.specs.Laws.BankSteps.{IsBank}

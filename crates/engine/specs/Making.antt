@@ -9,8 +9,8 @@ use Rattle.types.specs.declared.Answer.the-variants.{Malformed, OutOfRange}
 use Rattle.model.specs.Definitions.Layout.{bankSize}
 use Rattle.model.specs.Definitions.Bank.{fresh}
 use Rattle.model.specs.Definitions.Calls.{refused, make}
-use Rattle.fresh.specs.Fresh.{sizesAllowed}
 use Rattle.engine.specs.Replies.{done}
+use Rattle.model.specs.Definitions.WellFormed.{sizesAllowed}
 
 module _ (boards pages : ℕ) (s : List ℕ) where
   pub make-range : sizesAllowed boards pages ≡ false → make boards pages s ≡ refused OutOfRange s

@@ -14,7 +14,7 @@ use Rattle.types.specs.declared.Outcome.{Outcome}
 use Rattle.model.specs.Definitions.Layout.{bankSize}
 use Rattle.model.specs.Definitions.Bank.{boardAt}
 use Rattle.model.specs.Definitions.Codec.{decode}
-use Rattle.model.specs.Definitions.WellFormed.{SizesOk}
+use Rattle.model.specs.Definitions.WellFormed.{SizesOk, sizesAllowed}
 use Rattle.model.specs.Definitions.Steps.{Access}
 use Rattle.model.specs.Definitions.Answers.{code}
 use Rattle.model.specs.Definitions.Calls.{Call, Reply, refused, call, make}
@@ -23,7 +23,7 @@ use Rattle.model.specs.History.Statement.{HistoryEntry, noHistory, Event, event
 use Rattle.model.specs.History.OnBytes.{make-begins}
 use Rattle.model.specs.History.Theorem.{one-memory}
 use Rattle.engine.specs.Contracts.{Replied}
-use Rattle.fresh.specs.Fresh.{sizesAllowed, sizes-say}
+use Rattle.model.specs.Laws.Fresh.{sizes-say}
 
 -- ==== what a caller sees
 

@@ -18,7 +18,7 @@ use Rattle.model.specs.Definitions.WellFormed.{wellFormed, isUp, isDown}
 use Rattle.model.specs.Definitions.Steps.{Run, start, step, powerOff, withFuse, checkpoint}
 use Rattle.model.specs.Definitions.Calls.{Result, firstOf, unless, finished, accessInRange, accessRefusals, accessBank, checkpointBank, cutBank, fuseBank, restartBank, Call, Reading, Writing, Checkpointing, Cutting, Fusing, Restarting, callBank, Reply, refused, replyOf, call}
 use Rattle.model.specs.Laws.CodecBankBack.{encode-decode}
-use Rattle.model.specs.Laws.Table.{boardOf}
+use Rattle.model.specs.Laws.Codes.Statement.{boardOf}
 use Rattle.exchange.specs.Progress.{lostBy, Came}
 use Rattle.accesses.specs.Results.{Answered, endedAs}
 use Rattle.accesses.specs.Repeated.{finished-ended}

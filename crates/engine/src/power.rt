@@ -3,6 +3,7 @@ use checks::bank::page_count;
 use checks::entry::Entry;
 use checks::entry::enter;
 use checks::entry::refuse;
+use format::layout;
 use format::layout::block_at;
 use format::layout::block_size;
 use steps::fuse::set_fuse;
@@ -25,7 +26,7 @@ ghost use Rattle.answers.specs.Packed.{mostStores};
 ghost use Rattle.engine.specs.Contracts.{Replied};
 
 // "65,535 none", as wide as the number that a call is given.
-const NO_FUSE: u32 = 65535;
+const NO_FUSE: u32 = layout::NO_FUSE as u32;
 
 // "Cut": the board loses its power.
 pub fn cut(bank: &mut [u8], board: u32) -> Outcome

@@ -5,6 +5,7 @@ use steps::records::record;
 use types::CopyOrOwn;
 use types::Frame;
 use types::Kind;
+use types::PAGE_SIZE;
 use types::Right;
 ghost use mathlib.Core.Path.{_≡_};
 ghost use Prim.Native.Nat.{_<_};
@@ -60,6 +61,6 @@ pub fn drop_right(block: &mut [u8], pages: usize, page: usize)
     requires { ⌜ IsBlock pages (now block) × Space (boardOf pages (now block)) × (page < pages) ⌝ }
     ensures { λ _. ⌜ now (block .exit) ≡ encodeBoard (dropped page (boardOf pages (now (block .entry)))) ⌝ }
 {
-    record(block, pages, Kind::Dropped(page as u8), [0u8; 16]);
+    record(block, pages, Kind::Dropped(page as u8), [0u8; PAGE_SIZE]);
     set_frame(block, pages, page, empty_frame());
 }

@@ -8,6 +8,7 @@ use crate::runs::log_through;
 use stores::spend::Stored;
 use types::CopyOrOwn;
 use types::Kind;
+use types::PAGE_SIZE;
 ghost use mathlib.Core.Path.{_≡_};
 ghost use Prim.Native.Nat.{ℕ, _+_, _*_, _≤_, _<_};
 ghost use lib.ListN.{length};
@@ -29,7 +30,13 @@ fn show(bank: &mut [u8], pages: usize, owner: usize, page: usize) -> Stored
     ensures run { λ r. ⌜ ((n : ℕ) → Came (now (bank .exit)) (n + r .stores) (lostBy owner (r .lost)) (show owner page (running n (decode (now (bank .entry)))))) ⌝ }
     ensures few { λ r. ⌜ r .stores ≤ slotCount ⌝ }
 {
-    log_through(bank, pages, owner, Kind::Shown(page as u8), [0u8; 16])
+    log_through(
+        bank,
+        pages,
+        owner,
+        Kind::Shown(page as u8),
+        [0u8; PAGE_SIZE],
+    )
 }
 
 // "owner records shown and flushes; reader records got copy, gains the copy and its bit"

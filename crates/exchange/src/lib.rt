@@ -4,3 +4,4 @@ pub mod copies;
 pub mod fetch;
 pub mod progress;
 pub mod runs;
+pub mod state;

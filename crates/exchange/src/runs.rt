@@ -6,6 +6,7 @@ use stores::checkpoint;
 use stores::flush;
 use stores::spend::Stored;
 use types::Kind;
+use types::PAGE_SIZE;
 ghost use mathlib.Core.Path.{_≡_};
 ghost use mathlib.Core.Logic.{_≢_};
 ghost use Prim.Native.Nat.{ℕ, _+_, _≤_};
@@ -26,7 +27,7 @@ pub fn log_through(
     pages: usize,
     board: usize,
     kind: Kind,
-    bytes: [u8; 16],
+    bytes: [u8; PAGE_SIZE],
 ) -> Stored
     requires { ⌜ OfBank pages board (now bank) × WellFormed (decode (now bank)) × (boardAt (decode (now bank)) board .state ≡ Up) × RoomFor 1 (boardAt (decode (now bank)) board) × Recordable pages kind bytes ⌝ }
     ensures run { λ r. ⌜ ((n : ℕ) → Came (now (bank .exit)) (n + r .stores) (lostBy board (r .lost)) (flush board (step (note board kind bytes) (running n (decode (now (bank .entry))))))) ⌝ }

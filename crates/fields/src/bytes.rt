@@ -1,5 +1,5 @@
 // What stands at a place of a slice, read and written: a byte, a number, a page.
-use crate::widths::PAGE_SIZE;
+use types::PAGE_SIZE;
 ghost use mathlib.Core.Path.{_≡_};
 ghost use mathlib.Core.List.{[], _∷_};
 ghost use Prim.Native.Nat.{_+_, _≤_, _<_};
@@ -51,11 +51,11 @@ pub fn put_u32(s: &mut [u8], at: usize, v: u32)
 }
 
 // The page that stands at a place.
-pub fn read_page(s: &[u8], at: usize) -> [u8; 16]
+pub fn read_page(s: &[u8], at: usize) -> [u8; PAGE_SIZE]
     requires { ⌜ at + pageSize ≤ length (now s) ⌝ }
     ensures { λ r. ⌜ r ≡ part (now (s .entry)) at pageSize ⌝ }
 {
-    let mut page = [0u8; 16];
+    let mut page = [0u8; PAGE_SIZE];
     let mut i = 0;
     while i < PAGE_SIZE {
         page[i] = s[at + i];
@@ -65,7 +65,7 @@ pub fn read_page(s: &[u8], at: usize) -> [u8; 16]
 }
 
 // A page written over what stands at a place; the rest of the slice stays. `width` tells a caller what an array in a struct doesn't.
-pub fn write_page(s: &mut [u8], at: usize, page: [u8; 16])
+pub fn write_page(s: &mut [u8], at: usize, page: [u8; PAGE_SIZE])
     requires { ⌜ at + pageSize ≤ length (now s) ⌝ }
     ensures bytes { λ _. ⌜ now (s .exit) ≡ splice (now (s .entry)) at page ⌝ }
     ensures width { λ _. ⌜ length page ≡ pageSize ⌝ }

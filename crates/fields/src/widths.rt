@@ -1,5 +1,5 @@
 // The widths of the parts and the offsets inside them, as numbers of the code, each once.
-pub const PAGE_SIZE: usize = 16;
+use types::PAGE_SIZE;
 
 pub const SLOT_COUNT: usize = 32;
 

@@ -202,15 +202,7 @@ pub fn write_volatile(block: &mut [u8], pages: usize, index: usize, r: Record)
     write_record_at(block, slots_at(pages) + index * SLOT_SIZE, r);
 }
 
-// "zeroing their slots": one volatile slot, and all of them.
-pub fn clear_volatile(block: &mut [u8], pages: usize, index: usize)
-    requires { ⌜ (pages ≤ mostPages) × (slotsAt pages + index * slotSize + slotSize ≤ length (now block)) ⌝ }
-    ensures { λ _. ⌜ now (block .exit) ≡ splice (now (block .entry)) (slotsAt pages + index * slotSize) (zeros slotSize) ⌝ }
-{
-    let at = slots_at(pages) + index * SLOT_SIZE;
-    clear(&mut block[at..at + SLOT_SIZE]);
-}
-
+// "the volatile log is emptied and zeroed": all its slots.
 pub fn clear_volatiles(block: &mut [u8], pages: usize)
     requires { ⌜ (pages ≤ mostPages) × (slotsAt pages + slotsSize ≤ length (now block)) ⌝ }
     ensures { λ _. ⌜ now (block .exit) ≡ splice (now (block .entry)) (slotsAt pages) (zeros slotsSize) ⌝ }

@@ -61,6 +61,15 @@ pub const VOLATILE_COUNT_AT: usize = PLACE_AT + 1;
 
 pub const FRAMES_AT: usize = VOLATILE_COUNT_AT + 1;
 
+// "N 8, P 16 has 23,636 bytes": the largest bank.
+const MOST_FRAMES_SIZE: usize = MOST_PAGES * FRAME_SIZE;
+
+const MOST_AREA: usize = AREA_FRAMES_AT + MOST_FRAMES_SIZE + SLOTS_SIZE;
+
+const MOST_BLOCK: usize = FRAMES_AT + MOST_FRAMES_SIZE + SLOTS_SIZE + 2 * MOST_AREA;
+
+pub const MOST_BANK: usize = HEAD_SIZE + MOST_PAGES * ENTRY_SIZE + MOST_BOARDS * MOST_BLOCK;
+
 // Where an area's slots stand in it.
 pub fn area_slots_at(pages: usize) -> usize
     requires { ⌜ pages ≤ mostPages ⌝ }

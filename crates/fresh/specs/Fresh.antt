@@ -3,16 +3,12 @@ use mathlib.Core.Path.{_≡_, refl, sym, ap, _∙_}
 use Prim.Native.Nat.{ℕ, _+_, _*_, _-_, _%_, _≤_, _<_}
 use native.Mathlib.Nat.{mul-le-mul-right}
 use native.Mathlib.Omega.{arith}
-use mathlib.Core.Bool.{Bool, true, _&&_}
 use mathlib.Core.List.{List, [], _∷_, _++_}
 use lib.ListN.{length, take, drop}
-use lib.Dec.{ltb, leb}
 use Rattle.model.specs.Definitions.Parts.{part, splice, zeros, encodeAll, tabulate}
-use Rattle.model.specs.Definitions.Layout.{mostBoards, mostPages, entrySize, blockSize, headMark0, headMark1, boardsAt, pagesAt, headSize, blocksAt, bankSize}
+use Rattle.model.specs.Definitions.Layout.{entrySize, blockSize, headMark0, headMark1, boardsAt, pagesAt, headSize, blocksAt, bankSize}
 use Rattle.model.specs.Definitions.Bank.{Entry, freshBoard, fresh}
 use Rattle.model.specs.Definitions.Codec.{encodeEntry, encodeBoard, encode}
-use Rattle.model.specs.Definitions.WellFormed.{SizesOk}
-use Rattle.model.specs.Laws.Tests.{says-and, says-lt, says-le}
 use Rattle.model.specs.Laws.Lists.{length-tabulate}
 use Rattle.model.specs.Laws.Parts.{index-in, length-splice, part-at, part-part, part-splice-after, splice-next}
 use Rattle.model.specs.Laws.Codec.{length-encodeEntry}
@@ -134,14 +130,3 @@ module _ {boards pages : ℕ} {l₀ l : List ℕ} {i a n : ℕ} (b : NextBlock b
       lent-written l ys a n (λ x. encodeBoard (freshBoard boards pages i)) next-in kept e
       ∙ rw (b .place)
       (one-more encodeBoard (blockSize pages) (freshBoard boards pages) (block-wide boards pages) l₀ l (blocksAt pages) i (omega (arith, b .whole)) (b .bytes))
-
--- ---- the reply
-
--- "N or P out of range" fails
-abbrev pub sizesAllowed : ℕ → ℕ → Bool
-sizesAllowed boards pages = ltb 0 boards && (leb boards mostBoards && (ltb 0 pages && leb pages mostPages))
-
-pub sizes-say : (boards pages : ℕ) → sizesAllowed boards pages ≡ true → SizesOk boards pages
-sizes-say boards pages h =
-    let ok = says-and (says-lt 0 boards) (says-and (says-le boards mostBoards) (says-and (says-lt 0 pages) (says-le pages mostPages))) .0 h in
-    record { someBoard = ok .0; boards = ok .1 .0; somePage = ok .1 .1 .0; pages = ok .1 .1 .1 }

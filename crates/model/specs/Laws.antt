@@ -16,7 +16,6 @@ pub mod Fresh
 pub mod Boards
 pub mod Runs
 pub mod Keeps
-pub mod Table
 pub mod Codes
 pub mod Refusals
 pub mod BoardFields

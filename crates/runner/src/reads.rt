@@ -10,13 +10,12 @@ use script::stream::feed_read;
 use script::tally::stopped;
 ghost use Prim.Native.Nat.{_+_, _*_, _≤_};
 ghost use lib.ListN.{length};
-ghost use Rattle.script.specs.Laws.Machine.{InBuffers, Buffers};
-ghost use Rattle.script.specs.Laws.Output.{mostLine, mostLast};
+ghost use Rattle.script.specs.Contracts.{InBuffers, Buffers, mostLine, mostLast};
 
 // How much is read at once.
 const READ_BUFFER: usize = 4096;
 
-// The end of input prints a line and three numbers: less than two bytes more.
+// The end of input prints a line and three numbers: less than two bytes more of input may print.
 const OUT_BUFFER: usize = OUT_PER_BYTE * (READ_BUFFER + 2);
 
 // What comes after a read.
@@ -40,6 +39,7 @@ fn write_out(printed: &[u8]) -> bool {
     is_written
 }
 
+// After a write: nothing more where it failed or where the runner has stopped reading.
 fn next_of(is_written: bool, machine: Machine) -> Next {
     if !is_written {
         return Next::Failed;

@@ -7,7 +7,7 @@ use mathlib.Core.List.{List, [], _∷_}
 use Rattle.model.specs.Cases.Evaluate.{evaluate}
 use Rattle.script.specs.Definitions.Numbers.{digitsIn, decimal, isDigit, valueFrom, leadingZero, digitsFrom, number}
 use Rattle.script.specs.Definitions.Lines.{longer, words, andOne, more, numbersFrom, withOne, withTwo, withThree, withFour, requestOf, requestIn, request}
-use Rattle.script.specs.Definitions.Output.{field, printedOf, notRead, lineOf, lastLine}
+use Rattle.script.specs.Definitions.Output.{field, printedOf, unreadable, lineOf, lastLine}
 use Rattle.script.specs.Definitions.Runner.{unread, worked, made, work, counted, begin, stepOf, line, linesFrom, runLines, run}
 
 -- a text's bytes
@@ -17,7 +17,7 @@ bytes (text._∷_ c s) = code c ∷ bytes s
 
 -- A theorem that says `unfolding evaluate scripts` computes with the definitions of the line runner too
 unfoldable pub scripts : Unit {0}
-unfolding digitsIn decimal isDigit valueFrom leadingZero digitsFrom number longer words andOne more numbersFrom withOne withTwo withThree withFour requestOf requestIn request field printedOf notRead lineOf lastLine unread worked made work counted begin stepOf line linesFrom runLines run bytes
+unfolding digitsIn decimal isDigit valueFrom leadingZero digitsFrom number longer words andOne more numbersFrom withOne withTwo withThree withFour requestOf requestIn request field printedOf unreadable lineOf lastLine unread worked made work counted begin stepOf line linesFrom runLines run bytes
 scripts = tt
 
 pub no-bank : run (bytes "R 0 0 0\nN 2 1\n\nC 9") ≡ bytes "1 1 0 0 0\n2 9 0 0 0\n3 9 0 0 0\n4 1 0 0 0\n4 0 4\n"

@@ -3,4 +3,3 @@ pub mod Numbers
 pub mod Lines
 pub mod Output
 pub mod Runner
-pub mod Feeding

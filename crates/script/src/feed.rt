@@ -1,7 +1,7 @@
 // The runner fed byte by byte, in bounded memory: the bytes of the line that has begun, the bank, and the output.
+use crate::line::Progress;
+use crate::line::run_line;
 use crate::print::put_last;
-use crate::runner::Progress;
-use crate::runner::run_line;
 use crate::tally::no_lines;
 use crate::tally::stopped;
 use crate::text::MOST_BYTES;
@@ -10,9 +10,8 @@ ghost use mathlib.Core.Path.{_≡_};
 ghost use Prim.Native.Nat.{_+_, _≤_};
 ghost use lib.ListN.{length};
 ghost use Rattle.script.specs.Definitions.Runner.{run};
-ghost use Rattle.script.specs.Definitions.Feeding.{feedByte, feed as feedAll, finish as finishing};
-ghost use Rattle.script.specs.Laws.Machine.{InBuffers, RunningFor, FedBy, machineOf, fromNothing, Buffers};
-ghost use Rattle.script.specs.Laws.Output.{Put, mostLine, mostLast};
+ghost use Rattle.script.specs.Feeding.{feedByte, feed as feedBytes, finish as finishing};
+ghost use Rattle.script.specs.Contracts.{InBuffers, RunningFor, FedBy, machineOf, fromNothing, Buffers, Put, mostLine, mostLast};
 
 // What is kept between two bytes: how many bytes of a line there are, and how far the runner is.
 pub struct Machine {
@@ -58,7 +57,7 @@ pub fn feed(
     from: Machine,
 ) -> Machine
     requires { ⌜ RunningFor (length (now input)) (now line) (now bank) (now out) from ⌝ }
-    ensures { λ r. ⌜ FedBy (feedAll (now (input .entry)) (machineOf (now (line .entry)) (now (bank .entry)) from)) (length (now (input .entry))) from r (now (line .exit)) (now (bank .exit)) (now (out .entry)) (now (out .exit)) ⌝ }
+    ensures { λ r. ⌜ FedBy (feedBytes (now (input .entry)) (machineOf (now (line .entry)) (now (bank .entry)) from)) (length (now (input .entry))) from r (now (line .exit)) (now (bank .exit)) (now (out .entry)) (now (out .exit)) ⌝ }
 {
     let mut machine = from;
     let mut i = 0;

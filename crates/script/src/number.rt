@@ -1,7 +1,7 @@
 // Decimal numbers as bytes.
 ghost use mathlib.Core.Path.{_≡_};
 ghost use Prim.Native.Nat.{_<_};
-ghost use Rattle.script.specs.Definitions.Numbers.{digitZero, isDigit, leadingZero, digitsFrom, number};
+ghost use Rattle.script.specs.Definitions.Numbers.{isDigit, leadingZero, digitsFrom, number};
 
 // What a word is, read as a number.
 pub enum Number {

@@ -11,8 +11,8 @@ ghost use mathlib.Core.Path.{_≡_};
 ghost use Prim.Native.Nat.{_+_, _≤_, _<_};
 ghost use lib.ListN.{length};
 ghost use Rattle.script.specs.Definitions.Numbers.{digitZero, decimal};
-ghost use Rattle.script.specs.Definitions.Output.{field, printedOf, notRead, lineOf, lastLine};
-ghost use Rattle.script.specs.Laws.Output.{Put, mostField, mostLine, mostLast};
+ghost use Rattle.script.specs.Definitions.Output.{field, printedOf, unreadable, lineOf, lastLine};
+ghost use Rattle.script.specs.Contracts.{Put, mostField, mostLine, mostLast};
 
 // "code, value, who, stores": what a line prints behind its number.
 pub struct Printed {
@@ -21,6 +21,9 @@ pub struct Printed {
     pub who: u8,
     pub stores: u32,
 }
+
+// How many bytes a line prints at most: five numbers of ten digits, each with the byte behind it.
+pub const MOST_LINE: usize = 5 * (10 + 1);
 
 // What a call's answer prints.
 pub fn printed_of(o: Outcome) -> Printed
@@ -36,8 +39,8 @@ pub fn printed_of(o: Outcome) -> Printed
 }
 
 // "prints code 9", "the last three are 0 under code 9"
-pub fn not_read() -> Printed
-    ensures { λ r. ⌜ r ≡ notRead ⌝ }
+pub fn unreadable() -> Printed
+    ensures { λ r. ⌜ r ≡ unreadable ⌝ }
 {
     Printed {
         code: 9,

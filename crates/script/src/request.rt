@@ -6,7 +6,7 @@ use crate::text::SPACE;
 ghost use mathlib.Core.Path.{_≡_};
 ghost use Rattle.script.specs.declared.request.Numbers.{Numbers};
 ghost use Rattle.script.specs.Definitions.Lines.{andOne, more, numbersFrom, withOne, withTwo, withThree, withFour, requestOf, request};
-ghost use Rattle.script.specs.Laws.Lines.{wordLength, wordsBehind};
+ghost use Rattle.script.specs.Contracts.{wordLength, wordsBehind};
 
 // "N n p; R b p o; W b p o v; C b (checkpoint); K b (cut); F b k; S b (restart)", and anything else.
 pub enum Request {

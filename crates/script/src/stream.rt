@@ -2,22 +2,22 @@
 use crate::feed::Machine;
 use crate::feed::feed;
 use crate::feed::finish;
-use crate::runner::Progress;
+use crate::line::Progress;
+use crate::print::MOST_LINE;
 use crate::text::MOST_BYTES;
+use format::layout::MOST_BANK;
 ghost use mathlib.Core.Path.{_≡_};
 ghost use Prim.Native.Nat.{_+_, _*_, _≤_};
 ghost use lib.ListN.{length};
-ghost use Rattle.script.specs.Definitions.Feeding.{feed as feedAll, finish as finishing};
-ghost use Rattle.script.specs.Laws.Machine.{InBuffers, machineOf};
-ghost use Rattle.script.specs.Laws.Output.{mostLine, mostLast};
-ghost use Rattle.script.specs.Laws.Stream.{emptied, Streamed, Printed};
+ghost use Rattle.script.specs.Feeding.{feed as feedBytes, finish as finishing};
+ghost use Rattle.script.specs.Contracts.{InBuffers, machineOf, mostLine, mostLast, emptied, Streamed, Written};
 
 // What a stream's buffers hold: a line and one byte more, the largest bank, and for each byte of a read the longest line that it can print.
 pub const LINE_BUFFER: usize = MOST_BYTES + 1;
 
-pub const BANK_BUFFER: usize = 23636;
+pub const BANK_BUFFER: usize = MOST_BANK;
 
-pub const OUT_PER_BYTE: usize = 55;
+pub const OUT_PER_BYTE: usize = MOST_LINE;
 
 // All output so far was written out: the next begins the buffer again.
 fn empty_out(from: Machine) -> Machine
@@ -45,7 +45,7 @@ pub fn feed_read(
     from: Machine,
 ) -> Machine
     requires { ⌜ InBuffers (now line) (now bank) from × (mostLine * length (now input) ≤ length (now out)) ⌝ }
-    ensures { λ r. ⌜ Streamed (feedAll (now (input .entry)) (machineOf (now (line .entry)) (now (bank .entry)) from)) r (now (line .exit)) (now (bank .exit)) (now (out .exit)) ⌝ }
+    ensures { λ r. ⌜ Streamed (feedBytes (now (input .entry)) (machineOf (now (line .entry)) (now (bank .entry)) from)) r (now (line .exit)) (now (bank .exit)) (now (out .exit)) ⌝ }
 {
     feed(input, line, bank, out, empty_out(from))
 }
@@ -53,7 +53,7 @@ pub fn feed_read(
 // The end of input. The answer is how many bytes of `out` it prints.
 pub fn end_input(line: &[u8], bank: &mut [u8], out: &mut [u8], from: Machine) -> usize
     requires { ⌜ InBuffers (now line) (now bank) from × (mostLine + mostLast ≤ length (now out)) ⌝ }
-    ensures { λ r. ⌜ Printed (finishing (machineOf (now (line .entry)) (now (bank .entry)) from)) r (now (out .exit)) ⌝ }
+    ensures { λ r. ⌜ Written (finishing (machineOf (now (line .entry)) (now (bank .entry)) from)) r (now (out .exit)) ⌝ }
 {
     finish(line, bank, out, empty_out(from))
 }

@@ -1,8 +1,8 @@
 // The tally of lines read, done and refused.
 ghost use mathlib.Core.Path.{_≡_};
 ghost use Rattle.script.specs.Definitions.Runner.{counted};
-ghost use Rattle.script.specs.Definitions.Feeding.{stopped};
-ghost use Rattle.script.specs.Laws.Tally.{Counts};
+ghost use Rattle.script.specs.Feeding.{stopped};
+ghost use Rattle.script.specs.Contracts.{Counts};
 
 pub struct Tally {
     pub read: u32,

@@ -1,7 +1,7 @@
 // One line's work: the call that it asks for, on the bank's part of a buffer that holds the largest.
 use crate::print::Printed;
-use crate::print::not_read;
 use crate::print::printed_of;
+use crate::print::unreadable;
 use crate::request::Request;
 use engine::access::read;
 use engine::access::write;
@@ -18,7 +18,7 @@ ghost use mathlib.Core.Path.{_≡_};
 ghost use Prim.Native.Nat.{_≤_};
 ghost use lib.ListN.{length, take};
 ghost use Rattle.script.specs.Definitions.Runner.{work};
-ghost use Rattle.script.specs.Laws.Work.{called, mostBank, Works};
+ghost use Rattle.script.specs.Contracts.{called, mostBank, Works};
 ghost use Rattle.script.specs.declared.request.Request.the-variants.{Make};
 
 // What a line prints, and how many bytes the bank has then: 0 where there is none.
@@ -33,14 +33,14 @@ fn do_call(bank: &mut [u8], request: Request) -> Printed
     ensures bytes { λ _. ⌜ now (bank .exit) ≡ called request (now (bank .entry)) .bank ⌝ }
 {
     match request {
-        Request::Make(_, _) => not_read(),
+        Request::Make(_, _) => unreadable(),
         Request::Read(b, p, o) => printed_of(read(bank, b, p, o)),
         Request::Write(b, p, o, v) => printed_of(write(bank, b, p, o, v)),
         Request::Checkpoint(b) => printed_of(checkpoint(bank, b)),
         Request::Cut(b) => printed_of(cut(bank, b)),
         Request::Fuse(b, k) => printed_of(fuse(bank, b, k)),
         Request::Restart(b) => printed_of(restart(bank, b)),
-        Request::Unreadable => not_read(),
+        Request::Unreadable => unreadable(),
     }
 }
 

@@ -12,6 +12,7 @@ use format::block::write_page_frame;
 use format::block::write_since;
 use format::layout::FRAMES_AT;
 use types::Frame;
+use types::PAGE_SIZE;
 use types::Right;
 ghost use mathlib.Core.Path.{_≡_};
 ghost use Prim.Native.Nat.{ℕ, _<_};
@@ -133,7 +134,7 @@ pub fn empty_frame() -> Frame
 {
     Frame {
         right: Right::None,
-        bytes: [0u8; 16],
+        bytes: [0u8; PAGE_SIZE],
     }
 }
 

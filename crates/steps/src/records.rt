@@ -10,6 +10,7 @@ use format::block::write_volatile_count;
 use format::layout::slots_at;
 use format::selected;
 use types::Kind;
+use types::PAGE_SIZE;
 use types::Record;
 ghost use mathlib.Core.Path.{_≡_};
 ghost use Prim.Native.Nat.{ℕ, _+_, _≤_, _<_};
@@ -55,7 +56,7 @@ pub fn room(block: &[u8], pages: usize, need: usize) -> bool
 // ---- one record more
 
 // "takes the board's since as its count, then since becomes 0. It enters the volatile log."
-pub fn record(block: &mut [u8], pages: usize, kind: Kind, bytes: [u8; 16])
+pub fn record(block: &mut [u8], pages: usize, kind: Kind, bytes: [u8; PAGE_SIZE])
     requires { ⌜ IsBlock pages (now block) × (volatileCount (boardOf pages (now block)) < slotCount) × Recordable pages kind bytes ⌝ }
     ensures { λ _. ⌜ now (block .exit) ≡ encodeBoard (onWorking (recorded kind bytes) (boardOf pages (now (block .entry)))) ⌝ }
 {

@@ -14,6 +14,7 @@ use format::selected;
 use types::CopyOrOwn;
 use types::Frame;
 use types::Kind;
+use types::PAGE_SIZE;
 use types::Record;
 use types::Right;
 use types::State;
@@ -99,7 +100,7 @@ fn no_record() -> Record {
     Record {
         count: 0,
         kind: Kind::Shown(0),
-        bytes: [0u8; 16],
+        bytes: [0u8; PAGE_SIZE],
     }
 }
 

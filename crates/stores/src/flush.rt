@@ -7,6 +7,7 @@ use steps::records::end_flush;
 use steps::records::record;
 use steps::records::volatile_count;
 use types::Kind;
+use types::PAGE_SIZE;
 ghost use mathlib.Core.Path.{_≡_};
 ghost use Prim.Native.Nat.{_≤_, _<_};
 ghost use Rattle.model.specs.Definitions.Layout.{slotCount};
@@ -44,7 +45,7 @@ pub fn flush(block: &mut [u8], pages: usize) -> Stored
 }
 
 // A record noted, and the whole log flushed behind it.
-pub fn log_through(block: &mut [u8], pages: usize, kind: Kind, bytes: [u8; 16]) -> Stored
+pub fn log_through(block: &mut [u8], pages: usize, kind: Kind, bytes: [u8; PAGE_SIZE]) -> Stored
     requires { ⌜ IsBlock pages (now block) × RoomFor 1 (boardOf pages (now block)) × Recordable pages kind bytes ⌝ }
     ensures run { λ r. ⌜ (now (block .exit) ≡ encodeBoard (loggedOn kind bytes (boardOf pages (now (block .entry))) .board)) × (r .stores ≡ loggedOn kind bytes (boardOf pages (now (block .entry))) .stores) × (r .lost ≡ loggedOn kind bytes (boardOf pages (now (block .entry))) .lost) ⌝ }
     ensures few { λ r. ⌜ r .stores ≤ slotCount ⌝ }

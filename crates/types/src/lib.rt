@@ -1,5 +1,8 @@
 // The structs and enums that go by value through the engine, and that the definitions of `model` speak of.
 
+// "pages (1 to 16) of 16 bytes"
+pub const PAGE_SIZE: usize = 16;
+
 // What a board may do with a page: "a right (0 none, 1 copy, 2 own)".
 pub enum Right {
     None,
@@ -10,7 +13,7 @@ pub enum Right {
 // "A frame is a right and 16 page bytes."
 pub struct Frame {
     pub right: Right,
-    pub bytes: [u8; 16],
+    pub bytes: [u8; PAGE_SIZE],
 }
 
 // "a got kind says copy or own"
@@ -30,7 +33,7 @@ pub enum Kind {
 pub struct Record {
     pub count: u16,
     pub kind: Kind,
-    pub bytes: [u8; 16],
+    pub bytes: [u8; PAGE_SIZE],
 }
 
 // A board's state: "0 up, 1 dark, 2 replaying". Document 01 says dark for down.

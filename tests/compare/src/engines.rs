@@ -52,15 +52,14 @@ pub fn packed(answer: &Answer) -> u64 {
         + ((answer.value as u64) << 32)
 }
 
-/// The fields of a packed answer, for people.
-pub fn told(answer: u64) -> String {
-    format!(
-        "code {}, value {}, who {}, stores {}",
-        answer & 255,
-        answer >> 32,
-        answer >> 8 & 255,
-        answer >> 16 & 65_535
-    )
+/// The fields of a packed answer.
+pub fn unpacked(answer: u64) -> Answer {
+    Answer {
+        code: answer as u8,
+        who: answer as u32 >> 8 & 255,
+        stores: answer as u32 >> 16,
+        value: (answer >> 32) as u32,
+    }
 }
 
 /// A watch for a bank that it hasn't seen grow: as many notes as there are volatile records.

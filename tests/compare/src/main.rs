@@ -8,8 +8,9 @@ mod made;
 mod met;
 mod place;
 
-use engines::{told, Difference, Pair};
+use engines::{unpacked, Difference, Pair};
 use met::{Met, Source};
+use second::calls::Answer;
 use second::fault::{self, Fault, FAULTS};
 use second::gen::{Generator, LONG_SCRIPT};
 use second::layout::Layout;
@@ -173,6 +174,17 @@ impl Comparing {
         }
         Ok(())
     }
+}
+
+/// The fields of a packed answer, for people.
+fn told(answer: u64) -> String {
+    let Answer {
+        code,
+        value,
+        who,
+        stores,
+    } = unpacked(answer);
+    format!("code {code}, value {value}, who {who}, stores {stores}")
 }
 
 /// Says how the two differ, and leaves the bank from before the call in a file.

@@ -1,5 +1,6 @@
 //! What a run met: calls by kind and code, calls and banks by source.
 
+use crate::engines::unpacked;
 use second::calls::Call;
 use second::line::Line;
 
@@ -58,7 +59,7 @@ impl Met {
     }
 
     pub fn call(&mut self, source: Source, line: &Line, answer: u64) {
-        let code = (answer & 255) as usize;
+        let code = unpacked(answer).code as usize;
         self.calls += 1;
         self.answered[kind_of(line)][code.min(CODES - 1)] += 1;
         self.sources[source as usize][1] += 1;

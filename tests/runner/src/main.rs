@@ -3,7 +3,7 @@
 mod runners;
 mod scripts;
 
-use scripts::{Source, SOURCES};
+use scripts::SOURCES;
 use second::fault::{self, Fault};
 use second::random::Random;
 use std::path::PathBuf;

@@ -133,7 +133,7 @@ impl Judge {
         }
     }
 
-    /// Every stand point is as demanded, never falls, and covers what was given away.
+    /// Every recovery point is as demanded, never falls, and covers what was given away.
     fn recovery(&mut self, bank: &[u8], answer: &Answer, watch: &Watch) -> Result<(), String> {
         let layout = Layout::of(bank);
         if let (Some(owner), 0) = (watch.fetched_from, answer.code) {
@@ -145,18 +145,18 @@ impl Judge {
             let old = std::mem::replace(&mut self.recovery_points[board], point);
             if point != demanded {
                 return Err(format!(
-                    "board {board} has stand point {point}, demanded is {demanded}"
+                    "board {board} has recovery point {point}, demanded is {demanded}"
                 ));
             }
             if point < old {
                 return Err(format!(
-                    "board {board}'s stand point fell from {old} to {point}"
+                    "board {board}'s recovery point fell from {old} to {point}"
                 ));
             }
             if point < self.grants[board] {
                 let number = self.grants[board];
                 return Err(format!(
-                    "board {board} gave a page away at {number}, its stand point is {point}"
+                    "board {board} gave a page away at {number}, its recovery point is {point}"
                 ));
             }
         }

@@ -41,12 +41,7 @@ impl Session {
     }
 
     fn make(&mut self, boards: u32, pages: u32) -> Answer {
-        // Numbers out of range get a buffer too, so that the refusal comes from making itself.
-        let small = Layout {
-            boards: boards.min(MAX_BOARDS as u32) as usize,
-            pages: pages.min(MAX_PAGES as u32) as usize,
-        };
-        let mut bank = vec![0; small.length()];
+        let mut bank = vec![0; length(boards, pages)];
         let answer = make(&mut bank, boards, pages);
         self.bank = (answer.code == 0).then_some(bank);
         answer
@@ -59,6 +54,15 @@ impl Session {
             (hash ^ *byte as u64).wrapping_mul(0x0000_0100_0000_01b3)
         })
     }
+}
+
+/// How many bytes the bank has; numbers out of range get a buffer too, so that the refusal comes from making itself.
+pub fn length(boards: u32, pages: u32) -> usize {
+    let layout = Layout {
+        boards: boards.min(MAX_BOARDS as u32) as usize,
+        pages: pages.min(MAX_PAGES as u32) as usize,
+    };
+    layout.length()
 }
 
 #[derive(Default)]

@@ -77,7 +77,7 @@ mod tests {
     use super::*;
     use crate::layout::recovery_point;
 
-    /// Case B's own facts: stand point 3, the repeated read 0, 4 stores, then 9 with 2 stores.
+    /// Case B's own facts: recovery point 3, the repeated read 0, 4 stores, then 9 with 2 stores.
     #[test]
     fn case_b() {
         let script = include_bytes!("../../../crates/runner/data/case-b.txt");

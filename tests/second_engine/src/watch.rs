@@ -165,7 +165,7 @@ impl Watch {
         self.blown = Some(self.phase.index(self.replay_ended.is_some()));
     }
 
-    /// What the stand point must be: the access number when the last stored record was made
+    /// What the recovery point must be: the access number when the last stored record was made
     /// or, if later, at the last selector store; 0 before either.
     pub fn demanded_recovery_point(&self, board: usize) -> u64 {
         let notes = &self.boards[board];

@@ -1,9 +1,6 @@
-//! A bank's bytes as fields, read as docs/FORMAT.md draws them, from front to back.
+//! A bank's bytes as fields, each read where the second engine's layout has it (docs/FORMAT.md draws it).
 
-const PAGE: usize = 16;
-const SLOTS: usize = 32;
-const SLOT: usize = 6 + PAGE;
-const NO_FUSE: u16 = 65_535;
+use second::layout::*;
 
 pub struct Bank {
     pub pages: Vec<Entry>,
@@ -27,6 +24,8 @@ pub struct Board {
     pub since: u16,
     /// Records used, if it replays.
     pub place: Option<u8>,
+    /// A replay rebuilds the board as it was after so many accesses.
+    pub recovery_point: u64,
     pub frames: Vec<Frame>,
     pub volatile: Vec<Record>,
     pub areas: [Area; 2],
@@ -57,124 +56,93 @@ impl Board {
     pub fn spare(&self) -> &Area {
         &self.areas[1 - self.selector]
     }
-
-    /// A replay rebuilds the board as it was after so many accesses.
-    pub fn recovery_point(&self) -> u64 {
-        let area = self.selected();
-        let counts = area.records.iter().map(|record| record.count as u64);
-        area.number as u64 + counts.sum::<u64>()
-    }
 }
 
-/// What is left of the bytes.
-struct Reader<'a>(&'a [u8]);
+/// The bytes of a bank and the places in them.
+struct Reader<'a> {
+    bank: &'a [u8],
+    layout: Layout,
+}
 
-impl<'a> Reader<'a> {
-    fn take(&mut self, count: usize) -> &'a [u8] {
-        let (taken, rest) = self.0.split_at(count);
-        self.0 = rest;
-        taken
-    }
-
-    /// A little-endian number of so many bytes.
-    fn number(&mut self, bytes: usize) -> u32 {
-        let digits = self.take(bytes).iter().rev();
-        digits.fold(0, |number, byte| number << 8 | *byte as u32)
-    }
-
-    fn byte(&mut self) -> u8 {
-        self.take(1)[0]
-    }
-
-    fn page(&mut self) -> [u8; PAGE] {
-        let mut bytes = [0; PAGE];
-        bytes.copy_from_slice(self.take(PAGE));
-        bytes
-    }
-
-    fn entry(&mut self) -> Entry {
-        let owner = self.byte();
-        let set = self.byte();
+impl Reader<'_> {
+    fn entry(&self, page: usize) -> Entry {
+        let set = self.bank[self.layout.copies(page)];
         Entry {
-            owner,
-            copies: (0..8).filter(|board| set >> board & 1 == 1).collect(),
+            owner: self.bank[self.layout.owner(page)],
+            copies: (0..MAX_BOARDS)
+                .filter(|board| set >> board & 1 == 1)
+                .collect(),
         }
     }
 
-    fn frame(&mut self) -> Frame {
+    fn frame(&self, at: usize) -> Frame {
         Frame {
-            right: ["none", "copy", "own"][self.byte() as usize],
-            bytes: self.page(),
+            right: match self.bank[at] {
+                NONE => "none",
+                COPY => "copy",
+                _ => "own",
+            },
+            bytes: page_at(self.bank, at + 1),
         }
     }
 
-    fn frames(&mut self, pages: usize) -> Vec<Frame> {
-        (0..pages).map(|_| self.frame()).collect()
-    }
-
-    /// The 32 slots of a log, of which the first so many are records.
-    fn records(&mut self, count: usize) -> Vec<Record> {
-        let mut slots = Reader(self.take(SLOTS * SLOT));
-        (0..count).map(|_| slots.record()).collect()
-    }
-
-    fn record(&mut self) -> Record {
-        let kind = match self.take(2) {
-            b"GC" => "got copy",
-            b"GO" => "got own",
-            b"SH" => "shown",
-            _ => "dropped",
-        };
-        let page = self.byte();
-        self.byte();
+    fn record(&self, at: usize) -> Record {
         Record {
-            kind,
-            page,
-            count: self.number(2) as u16,
-            bytes: self.page(),
+            kind: match kind_at(self.bank, at) {
+                GOT_COPY => "got copy",
+                GOT_OWN => "got own",
+                SHOWN => "shown",
+                _ => "dropped",
+            },
+            page: self.bank[at + SLOT_PAGE],
+            count: get16(self.bank, at + SLOT_COUNT),
+            bytes: page_at(self.bank, at + SLOT_BYTES),
         }
     }
 
-    fn area(&mut self, pages: usize) -> Area {
-        let number = self.number(4);
-        let stored = self.byte() as usize;
-        self.frames(pages);
+    fn area(&self, at: usize) -> Area {
+        let stored = self.bank[self.layout.stored(at)] as usize;
+        let record = |slot| self.record(self.layout.area_slot(at, slot));
         Area {
-            number,
-            records: self.records(stored),
+            number: get32(self.bank, at),
+            records: (0..stored).map(record).collect(),
         }
     }
 
-    fn board(&mut self, pages: usize) -> Board {
-        let state = ["up", "down", "replaying"][self.byte() as usize];
-        let selector = self.byte() as usize;
-        let fuse = self.number(2) as u16;
-        let number = self.number(4);
-        let since = self.number(2) as u16;
-        let place = self.byte();
-        let volatile = self.byte() as usize;
+    fn board(&self, board: usize) -> Board {
+        let Reader { bank, layout } = *self;
+        let state = match bank[layout.state(board)] {
+            UP => "up",
+            DOWN => "down",
+            _ => "replaying",
+        };
+        let fuse = get16(bank, layout.fuse(board));
+        let frame = |page| self.frame(layout.frame(board, page));
+        let volatile = bank[layout.volatile(board)] as usize;
+        let record = |slot| self.record(layout.volatile_slot(board, slot));
         Board {
             state,
-            selector,
+            selector: bank[layout.selector(board)] as usize,
             fuse: (fuse != NO_FUSE).then_some(fuse),
-            number,
-            since,
-            place: (state == "replaying").then_some(place),
-            frames: self.frames(pages),
-            volatile: self.records(volatile),
-            areas: [self.area(pages), self.area(pages)],
+            number: get32(bank, layout.number(board)),
+            since: get16(bank, layout.since(board)),
+            place: (state == "replaying").then_some(bank[layout.place(board)]),
+            recovery_point: recovery_point(bank, board),
+            frames: (0..layout.pages).map(frame).collect(),
+            volatile: (0..volatile).map(record).collect(),
+            areas: [0, 1].map(|which| self.area(layout.area(board, which))),
         }
     }
 }
 
 /// Reads the bytes of a well-formed bank.
-pub fn read(bytes: &[u8]) -> Bank {
-    let mut reader = Reader(bytes);
-    reader.take(2);
-    let boards = reader.byte();
-    let pages = reader.byte() as usize;
+pub fn read(bank: &[u8]) -> Bank {
+    let layout = Layout::of(bank);
+    let reader = Reader { bank, layout };
     Bank {
-        pages: (0..pages).map(|_| reader.entry()).collect(),
-        boards: (0..boards).map(|_| reader.board(pages)).collect(),
+        pages: (0..layout.pages).map(|page| reader.entry(page)).collect(),
+        boards: (0..layout.boards)
+            .map(|board| reader.board(board))
+            .collect(),
     }
 }

@@ -8,9 +8,11 @@ mod engines;
 mod table;
 mod words;
 
-use second::calls::Call;
-use second::layout::{Layout, HEAD, MAX_BOARDS, MAX_PAGES};
+use engines::{archive, unpacked};
+use second::calls::{Answer, Call};
+use second::layout::HEAD;
 use second::line::{read_line, Line, Lines};
+use second::runner::length;
 use std::io::{self, Read, Write};
 use std::process::ExitCode;
 
@@ -35,30 +37,20 @@ impl Run {
         self.answer = words::told(line, answer);
     }
 
-    fn answer_to(&mut self, line: Option<Line>) -> u64 {
+    fn answer_to(&mut self, line: Option<Line>) -> Answer {
         match (line, &mut self.bank) {
-            (None, _) => words::UNREADABLE,
-            (Some(Line::Make { .. }), _) if self.lines > 1 => words::UNREADABLE,
+            (None, _) => Answer::refused(words::UNREADABLE),
+            (Some(Line::Make { .. }), _) if self.lines > 1 => Answer::refused(words::UNREADABLE),
             (Some(make @ Line::Make { boards, pages }), _) => {
                 let mut bytes = vec![0; length(boards, pages)];
-                let answer = engines::archive(&mut bytes, &make);
-                self.bank = (answer == 0).then_some(bytes);
+                let answer = unpacked(archive(&mut bytes, &make));
+                self.bank = (answer.code == 0).then_some(bytes);
                 answer
             }
-            (Some(_), None) => 1,
-            (Some(call), Some(bank)) => engines::archive(bank, &call),
+            (Some(_), None) => Answer::refused(1),
+            (Some(call), Some(bank)) => unpacked(archive(bank, &call)),
         }
     }
-}
-
-/// How many bytes the bank has; numbers out of range get a buffer too, so that the engine refuses them.
-fn length(boards: u32, pages: u32) -> usize {
-    let most = |number: u32, limit: usize| (number as usize).min(limit);
-    let layout = Layout {
-        boards: most(boards, MAX_BOARDS),
-        pages: most(pages, MAX_PAGES),
-    };
-    layout.length()
 }
 
 fn input(file: &str) -> Result<Vec<u8>, String> {
@@ -92,7 +84,7 @@ fn run(script: &[u8], last: Option<u32>) -> Result<Run, String> {
 /// The tables of a bank; the engine looks first whether the bytes are one.
 fn tables(bytes: &mut [u8]) -> Result<String, String> {
     let refused_by_any_bank = Line::Call(Call::Cut { board: u32::MAX });
-    match engines::archive(bytes, &refused_by_any_bank) & 255 {
+    match unpacked(archive(bytes, &refused_by_any_bank)).code {
         1 => Err("these bytes begin as a bank does, but they are no well-formed bank".into()),
         _ => Ok(table::print(&bank::read(bytes))),
     }

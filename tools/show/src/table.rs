@@ -100,7 +100,7 @@ fn stable(out: &mut String, bank: &Bank) {
             board.selector.to_string(),
             board.selected().number.to_string(),
             board.selected().records.len().to_string(),
-            board.recovery_point().to_string(),
+            board.recovery_point.to_string(),
             board.spare().number.to_string(),
             board.spare().records.len().to_string(),
         ]

@@ -1,27 +1,23 @@
 //! What a line answered, in words.
 
-use second::calls::Call;
+use second::calls::{Answer, Call};
 use second::line::Line;
 
 /// Code 9: a line that can't be read, or a second making.
-pub const UNREADABLE: u64 = 9;
+pub const UNREADABLE: u8 = 9;
 
-pub fn told(line: Option<Line>, answer: u64) -> String {
-    let code = answer & 255;
-    let stores = match answer >> 16 & 65_535 {
+pub fn told(line: Option<Line>, answer: Answer) -> String {
+    let stores = match answer.stores {
         1 => "1 store".into(),
         stores => format!("{stores} stores"),
     };
-    if code == 0 {
-        return format!("done{}, {stores}", value(line, answer >> 32));
+    match answer.code {
+        0 => format!("done{}, {stores}", value(line, answer.value)),
+        code => format!("code {code}, {}, {stores}", refusal(line, code, answer.who)),
     }
-    format!(
-        "code {code}, {}, {stores}",
-        refusal(line, code, answer >> 8 & 255)
-    )
 }
 
-fn value(line: Option<Line>, value: u64) -> String {
+fn value(line: Option<Line>, value: u32) -> String {
     match line {
         Some(Line::Call(Call::Read { .. })) => format!(", read {value}"),
         Some(Line::Call(Call::Restart { .. })) => format!(", back at access number {value}"),
@@ -29,7 +25,7 @@ fn value(line: Option<Line>, value: u64) -> String {
     }
 }
 
-fn refusal(line: Option<Line>, code: u64, who: u64) -> String {
+fn refusal(line: Option<Line>, code: u8, who: u32) -> String {
     match code {
         1 => "there is no bank".into(),
         2 => "a number is out of range".into(),

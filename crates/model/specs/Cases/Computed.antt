@@ -12,18 +12,19 @@ use Rattle.model.specs.Cases.Evaluate.{evaluate}
 use Rattle.model.specs.Cases.Digest.{taken, digestFrom, digest}
 use Rattle.model.specs.Cases.Table.{agrees, caseA, caseBCut, caseB, boardOutOfRange, restartOfUpBoard, replayDiffers, ownerNotUp, alternating, alternatingWrites, fuseBlows, lastOffset, scripts, lengths}
 use Rattle.model.specs.Cases.Worked.{callsOf, fuseAtReplayEnd, everyEntry, fuseInFlush, fuseAtSelector, givenAfterReplay, takerCut, histories, otherByte, otherByteRepeated, twoDue}
-use Rattle.model.specs.Cases.Running.{leavesOn, passesOn, passesFresh, sizesTest, premisesOn, claimsOn, holdsOn, grantsIn}
+use Rattle.model.specs.Cases.Running.{leavesOn, passesOn, passesFresh, premisesOn, claimsOn, holdsOn, grantsIn}
+use Rattle.model.specs.Definitions.WellFormed.{sizesAllowed}
 
 -- A theorem that says `unfolding evaluate tables` computes with the definitions of the history and of the tables too
 unfoldable pub tables : Unit {0}
-unfolding noHistory ofBoard discard doneEvent eventOf entryCount repeats withNumberOf bytesFrom withEntry fed zeroMemory byteIn written accessOf liveBank giverIn gaveIn grantedAfter nextEntry sameBytes sameAccess doneOrLost repeatsEntry premiseFor oneMemoryTest gaveEntry repeatFor grantsFor historyAfter grantsAfter leavesOn passesOn passesFresh sizesTest premisesOn claimsOn holdsOn grantsIn taken digestFrom digest agrees caseA caseBCut caseB boardOutOfRange restartOfUpBoard replayDiffers ownerNotUp alternating alternatingWrites fuseBlows lastOffset scripts lengths callsOf fuseAtReplayEnd everyEntry fuseInFlush fuseAtSelector givenAfterReplay takerCut histories otherByte otherByteRepeated twoDue
+unfolding noHistory ofBoard discard doneEvent eventOf entryCount repeats withNumberOf bytesFrom withEntry fed zeroMemory byteIn written accessOf liveBank giverIn gaveIn grantedAfter nextEntry sameBytes sameAccess doneOrLost repeatsEntry premiseFor oneMemoryTest gaveEntry repeatFor grantsFor historyAfter grantsAfter leavesOn passesOn passesFresh premisesOn claimsOn holdsOn grantsIn taken digestFrom digest agrees caseA caseBCut caseB boardOutOfRange restartOfUpBoard replayDiffers ownerNotUp alternating alternatingWrites fuseBlows lastOffset scripts lengths callsOf fuseAtReplayEnd everyEntry fuseInFlush fuseAtSelector givenAfterReplay takerCut histories otherByte otherByteRepeated twoDue
 tables = tt
 
 pub lengths-hold : lengths ≡ true
 unfolding evaluate tables
 lengths-hold = refl
 
-pub scripts-sized : every (λ c. sizesTest (c .boards) (c .pages)) scripts ≡ true
+pub scripts-sized : every (λ c. sizesAllowed (c .boards) (c .pages)) scripts ≡ true
 unfolding evaluate tables
 scripts-sized = refl
 
@@ -40,7 +41,7 @@ unfolding evaluate tables
 twoDue-holds = refl
 
 -- two boards and up to three pages are in range
-pub sized : (sizesTest 2 1 ≡ true) × (sizesTest 2 3 ≡ true)
+pub sized : (sizesAllowed 2 1 ≡ true) × (sizesAllowed 2 3 ≡ true)
 unfolding evaluate tables
 sized = (refl, refl)
 

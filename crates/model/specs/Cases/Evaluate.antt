@@ -7,8 +7,8 @@ use Rattle.model.specs.Definitions.WellFormed.{isGot, PlaceOk, rightIn, 
 use Rattle.model.specs.Definitions.Steps.{start, step, poweredOff, forgotten, powerOff, withFuse, burnt, store, appended, recorded, note, movedRecord, storedRecord, storeRecords, flush, storedFrame, storedHead, storedSelector, restedWorking, storeFrames, checkpoint, pageNamed, cellsRead, cellsWritten, lacks, takes, cellByte, withByte, withBytes, valueOf, accessed, access, withFrame, frameOf, giver, show, giveCopy, dropped, dropAt, dropCopies, passOwnership, readFetch, writeFetch, fetch}
 use Rattle.model.specs.Definitions.Replay.{loaded, recordsLeft, used, useUp, usedUp, gotDue, due, sameGot, lacking, needsGot, differs, rightGot, tookGot, tookDue, replayOver, settledFrame, settled, endReplay, endIfOver, replayed, countSum, recoveryPoint}
 use Rattle.model.specs.Definitions.Answers.{code, value, who}
-use Rattle.model.specs.Definitions.Calls.{firstOf, unless, finished, copiesOut, fetchNeed, dropNeed, lackingOf, need, short, shortBoard, isSome, numberIn, liveRefusals, prepared, performed, live, liveAfterEnd, replaying, accessInRange, countersFull, accessRefusals, accessBank, checkpointBank, cutBank, fuseBank, restartBank, callBank, refused, replyOf, call, make, read, write, checkpointCall, cut, fuse, restart}
+use Rattle.model.specs.Definitions.Calls.{firstOf, unless, finished, copiesOut, fetchNeed, dropNeed, lackingOf, need, short, shortBoard, isSome, numberIn, liveRefusals, prepared, performed, live, liveAfterEnd, replaying, accessInRange, countersFull, accessRefusals, accessBank, checkpointBank, cutBank, fuseBank, restartBank, callBank, refused, replyOf, call, make}
 
 unfoldable pub evaluate : Unit {0}
-unfolding bytesOf numberOf part splice byteAt zeros encodeAll decodeAll update eachFrom each tabulateFrom tabulate every everyFrom everyBelow firstFrom firstBelow member withMember withoutMember emptyFrame emptyLog noBoard boardAt entryAt frameAt onBoard onEntry onWorking onSpare onFrames freshFrames freshBoard fresh encodeEntry decodeEntry rightByte rightOf encodeFrame decodeFrame mark0 mark1 pageOf kindOf encodeRecord decodeRecord encodeLog decodeLog encodeArea decodeFrames decodeArea stateByte stateOf selectorByte encodeFixed encodeStable decodeStable encodeBoard decodeBoard encode decode isGot PlaceOk rightIn isZero sameRight frameValid framesValid isMark slotValid logValid areaValid blockReadable placeValid isUp isDown isReplaying noVolatile isEmpty isBlank pageAgrees boardCoherent entryValid headValid blockOf blockValid wellFormed start step poweredOff forgotten powerOff withFuse burnt store appended recorded note movedRecord storedRecord storeRecords flush storedFrame storedHead storedSelector restedWorking storeFrames checkpoint pageNamed cellsRead cellsWritten lacks takes cellByte withByte withBytes valueOf accessed access withFrame frameOf giver show giveCopy dropped dropAt dropCopies passOwnership readFetch writeFetch fetch loaded recordsLeft used useUp usedUp gotDue due sameGot lacking needsGot differs rightGot tookGot tookDue replayOver settledFrame settled endReplay endIfOver replayed countSum recoveryPoint code value who firstOf unless finished copiesOut fetchNeed dropNeed lackingOf need short shortBoard isSome numberIn liveRefusals prepared performed live liveAfterEnd replaying accessInRange countersFull accessRefusals accessBank checkpointBank cutBank fuseBank restartBank callBank refused replyOf call make read write checkpointCall cut fuse restart
+unfolding bytesOf numberOf part splice byteAt zeros encodeAll decodeAll update eachFrom each tabulateFrom tabulate every everyFrom everyBelow firstFrom firstBelow member withMember withoutMember emptyFrame emptyLog noBoard boardAt entryAt frameAt onBoard onEntry onWorking onSpare onFrames freshFrames freshBoard fresh encodeEntry decodeEntry rightByte rightOf encodeFrame decodeFrame mark0 mark1 pageOf kindOf encodeRecord decodeRecord encodeLog decodeLog encodeArea decodeFrames decodeArea stateByte stateOf selectorByte encodeFixed encodeStable decodeStable encodeBoard decodeBoard encode decode isGot PlaceOk rightIn isZero sameRight frameValid framesValid isMark slotValid logValid areaValid blockReadable placeValid isUp isDown isReplaying noVolatile isEmpty isBlank pageAgrees boardCoherent entryValid headValid blockOf blockValid wellFormed start step poweredOff forgotten powerOff withFuse burnt store appended recorded note movedRecord storedRecord storeRecords flush storedFrame storedHead storedSelector restedWorking storeFrames checkpoint pageNamed cellsRead cellsWritten lacks takes cellByte withByte withBytes valueOf accessed access withFrame frameOf giver show giveCopy dropped dropAt dropCopies passOwnership readFetch writeFetch fetch loaded recordsLeft used useUp usedUp gotDue due sameGot lacking needsGot differs rightGot tookGot tookDue replayOver settledFrame settled endReplay endIfOver replayed countSum recoveryPoint code value who firstOf unless finished copiesOut fetchNeed dropNeed lackingOf need short shortBoard isSome numberIn liveRefusals prepared performed live liveAfterEnd replaying accessInRange countersFull accessRefusals accessBank checkpointBank cutBank fuseBank restartBank callBank refused replyOf call make
 evaluate = tt

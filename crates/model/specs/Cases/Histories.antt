@@ -5,16 +5,17 @@ use Prim.Native.Nat.{ℕ}
 use mathlib.Core.Bool.{true, false, _&&_}
 use Rattle.words.specs.Bytes.{Each}
 use Rattle.model.specs.Definitions.Bank.{fresh}
-use Rattle.model.specs.Definitions.WellFormed.{SizesOk}
+use Rattle.model.specs.Definitions.WellFormed.{sizesAllowed, SizesOk}
 use Rattle.model.specs.Laws.Logic.{and-left, and-right}
 use Rattle.model.specs.Laws.Lists.{every-each}
 use Rattle.model.specs.History.Statement.{noHistory, begin, Premises, Claims}
 use Rattle.model.specs.History.Tests.{premisesTest, claimsTest, says-premises, says-claims}
 use Rattle.model.specs.Cases.Table.{passes}
 use Rattle.model.specs.Cases.Worked.{Worked, histories, otherByte, otherByteRepeated, twoDue}
-use Rattle.model.specs.Cases.Running.{sizesTest, premisesOn, claimsOn, holdsOn}
+use Rattle.model.specs.Cases.Running.{premisesOn, claimsOn, holdsOn}
 use Rattle.model.specs.Cases.Computed.{histories-hold, sized, twoDue-holds, otherByte-breaks, otherByteRepeated-breaks}
-use Rattle.model.specs.Cases.OnBank.{passes-fresh, premises-fresh, claims-fresh, sizes-ok}
+use Rattle.model.specs.Cases.OnBank.{passes-fresh, premises-fresh, claims-fresh}
+use Rattle.model.specs.Laws.Fresh.{sizes-say}
 
 -- premise and claim hold throughout, as the statement says them
 pub record Kept (h : Worked) : Type 0 where
@@ -26,8 +27,8 @@ unfolding holdsOn
 kept h t =
     let n : ℕ = h .boards in
     let p : ℕ = h .pages in
-    let s : SizesOk n p = sizes-ok n p (and-left (sizesTest n p) _ t) in
-    let u : (premisesOn (h .calls) (fresh n p) noHistory && claimsOn (h .calls) (fresh n p) noHistory (λ b. 0)) ≡ true = and-right (sizesTest n p) _ t in
+    let s : SizesOk n p = sizes-say n p (and-left (sizesAllowed n p) _ t) in
+    let u : (premisesOn (h .calls) (fresh n p) noHistory && claimsOn (h .calls) (fresh n p) noHistory (λ b. 0)) ≡ true = and-right (sizesAllowed n p) _ t in
     record {
       premise = says-premises (h .calls) (begin n p) .0 (premises-fresh n p s (h .calls) ∙ and-left _ _ u);
       claim = says-claims (h .calls) (begin n p) .0 (claims-fresh n p s (h .calls) ∙ and-right (premisesOn (h .calls) (fresh n p) noHistory) _ u);
@@ -39,12 +40,12 @@ histories-kept = every-each holdsOn histories kept histories-hold
 -- two records that are due at once are used at once
 pub two-due : passes twoDue ≡ true
 unfolding twoDue
-two-due = passes-fresh twoDue (sizes-ok 2 3 (sized .1)) ∙ twoDue-holds
+two-due = passes-fresh twoDue (sizes-say 2 3 (sized .1)) ∙ twoDue-holds
 
 -- without the premise the claim is false: the premise is needed
 pub premise-needed : (premisesTest otherByte (begin 2 1) ≡ false) × (claimsTest otherByte (begin 2 1) ≡ false)
 premise-needed =
-    (premises-fresh 2 1 (sizes-ok 2 1 (sized .0)) otherByte ∙ otherByte-breaks .0, claims-fresh 2 1 (sizes-ok 2 1 (sized .0)) otherByte ∙ otherByte-breaks .1)
+    (premises-fresh 2 1 (sizes-say 2 1 (sized .0)) otherByte ∙ otherByte-breaks .0, claims-fresh 2 1 (sizes-say 2 1 (sized .0)) otherByte ∙ otherByte-breaks .1)
 
 pub repeat-needed : claimsTest otherByteRepeated (begin 2 1) ≡ false
-repeat-needed = claims-fresh 2 1 (sizes-ok 2 1 (sized .0)) otherByteRepeated ∙ otherByteRepeated-breaks
+repeat-needed = claims-fresh 2 1 (sizes-say 2 1 (sized .0)) otherByteRepeated ∙ otherByteRepeated-breaks

@@ -1,11 +1,10 @@
 -- Scripts run on bytes answer as scripts run on the bank: the codec and the laws of well-formedness let the tables be computed without bytes. Assumes nothing.
 use mathlib.Core.Path.{_≡_, refl, ap, ap₂, _∙_}
 use Prim.Native.Nat.{ℕ}
-use mathlib.Core.Bool.{Bool, true, _&&_}
+use mathlib.Core.Bool.{Bool, _&&_}
 use mathlib.Core.List.{List, [], _∷_}
 use lib.ListN.{length, length-replicate}
-use lib.Dec.{ltb, leb}
-use borrow.Author.Tests.{lt-ltb, le-leb, eq-eqb, ltb-true, leb-true}
+use borrow.Author.Tests.{lt-ltb, le-leb, eq-eqb}
 use Rattle.words.specs.Bytes.{Each}
 use Rattle.types.specs.declared.Answer.the-variants.{Done}
 use Rattle.model.specs.Definitions.Parts.{zeros, every}
@@ -15,7 +14,6 @@ use Rattle.model.specs.Definitions.Codec.{encode, decode}
 use Rattle.model.specs.Definitions.WellFormed.{WellFormed, SizesOk}
 use Rattle.model.specs.Definitions.Calls.{Call, Reply, callBank, replyOf, call, make}
 use Rattle.model.specs.Definitions.Answers.{code, value, who}
-use Rattle.model.specs.Laws.Logic.{and-left, and-right}
 use Rattle.model.specs.Laws.Lists.{each-head, each-tail}
 use Rattle.model.specs.Laws.Fresh.{fresh-wellFormed}
 use Rattle.model.specs.Laws.Keeps.Calls.{call-keeps}
@@ -23,7 +21,7 @@ use Rattle.model.specs.History.Statement.{History, noHistory, System, be
 use Rattle.model.specs.History.Tests.{premiseFor, oneMemoryTest, repeatFor, grantsFor, premiseTest, claimTest, premisesTest, claimsTest}
 use Rattle.model.specs.History.Banks.{systemOf, historyAfter, grantsAfter}
 use Rattle.model.specs.History.OnBytes.{decoded, call-encode, after-system, begin-system}
-use Rattle.model.specs.Cases.Running.{leavesOn, passesOn, passesFresh, sizesTest, premisesOn, claimsOn}
+use Rattle.model.specs.Cases.Running.{leavesOn, passesOn, passesFresh, premisesOn, claimsOn}
 use Rattle.model.specs.Cases.Table.{Line, Left, Anything, Digest, RecoveryPoint, Script, agrees, leaves, passesLines, passesMade, passes}
 
 -- ---- the table of answers
@@ -67,18 +65,6 @@ pub every-fresh : (cs : List Script) → Each (λ c. SizesOk (c .boards) (c .pag
 unfolding every
 every-fresh [] s = refl
 every-fresh (c ∷ cs) s = rw (passes-fresh c (each-head s), every-fresh cs (each-tail s))
-
-pub sizes-ok : (n p : ℕ) → sizesTest n p ≡ true → SizesOk n p
-unfolding sizesTest
-sizes-ok n p t =
-    let u : (leb n mostBoards && (ltb 0 p && leb p mostPages)) ≡ true = and-right (ltb 0 n) _ t in
-    let v : (ltb 0 p && leb p mostPages) ≡ true = and-right (leb n mostBoards) _ u in
-    record {
-      someBoard = ltb-true 0 n (and-left (ltb 0 n) _ t);
-      boards = leb-true n mostBoards (and-left (leb n mostBoards) _ u);
-      somePage = ltb-true 0 p (and-left (ltb 0 p) _ v);
-      pages = leb-true p mostPages (and-right (ltb 0 p) _ v);
-    }
 
 -- ---- premise and claim
 

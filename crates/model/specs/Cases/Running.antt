@@ -2,8 +2,7 @@
 use Prim.Native.Nat.{ℕ}
 use mathlib.Core.Bool.{Bool, true, _&&_}
 use mathlib.Core.List.{List, [], _∷_}
-use lib.Dec.{eqb, ltb, leb}
-use Rattle.model.specs.Definitions.Layout.{mostBoards, mostPages}
+use lib.Dec.{eqb}
 use Rattle.model.specs.Definitions.Bank.{Bank, boardAt, fresh}
 use Rattle.model.specs.Definitions.Codec.{encode}
 use Rattle.model.specs.Definitions.Replay.{recoveryPoint}
@@ -14,6 +13,7 @@ use Rattle.model.specs.History.Banks.{historyAfter, grantsAfter}
 use Rattle.model.specs.Cases.Digest.{digest}
 use Rattle.model.specs.Cases.Table.{Line, Left, Anything, Digest, RecoveryPoint, Script, agrees}
 use Rattle.model.specs.Cases.Worked.{Worked}
+use Rattle.model.specs.Definitions.WellFormed.{sizesAllowed}
 
 -- ---- the table of answers
 
@@ -30,10 +30,6 @@ passesOn (l ∷ ls) left k =
 
 unfoldable pub passesFresh : Script → Bool
 passesFresh c = passesOn (c .lines) (c .left) (fresh (c .boards) (c .pages))
-
--- the sizes of a script, by computation
-unfoldable pub sizesTest : ℕ → ℕ → Bool
-sizesTest n p = ltb 0 n && (leb n mostBoards && (ltb 0 p && leb p mostPages))
 
 -- ---- premise and claim
 
@@ -52,7 +48,7 @@ claimsOn (c ∷ cs) k h granted =
 -- the sizes are in range, and premise and claim hold throughout
 unfoldable pub holdsOn : Worked → Bool
 holdsOn h =
-    sizesTest (h .boards) (h .pages)
+    sizesAllowed (h .boards) (h .pages)
     && (premisesOn (h .calls) (fresh (h .boards) (h .pages)) noHistory && claimsOn (h .calls) (fresh (h .boards) (h .pages)) noHistory (λ b. 0))
 
 -- what each board gave in a list of calls

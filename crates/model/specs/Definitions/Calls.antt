@@ -5,17 +5,17 @@ use mathlib.Core.Bool.{Bool, true, false, _&&_, _||_, not}
 use mathlib.Core.Option.{Option, none, some}
 use mathlib.Core.List.{List, [], _∷_}
 use lib.ListN.{length}
-use lib.Dec.{eqb, ltb, leb}
+use lib.Dec.{eqb, ltb}
 use Rattle.types.specs.declared.CopyOrOwn.{CopyOrOwn}
 use Rattle.types.specs.declared.CopyOrOwn.the-variants.{GotCopy, GotOwn}
 use Rattle.types.specs.declared.Answer.{Answer}
 use Rattle.types.specs.declared.Answer.the-variants.{Done, Malformed, OutOfRange, WrongState, CountersFull, ReplayDiffers, OwnerNotUp, LogFull, PowerLost}
 use Rattle.types.specs.declared.Outcome.{Outcome}
 use Rattle.model.specs.Definitions.Parts.{firstBelow, member}
-use Rattle.model.specs.Definitions.Layout.{byteValues, mostBoards, mostPages, pageSize, slotCount, noFuse, lastSince, lastNumber, bankSize}
+use Rattle.model.specs.Definitions.Layout.{byteValues, pageSize, slotCount, noFuse, lastSince, lastNumber, bankSize}
 use Rattle.model.specs.Definitions.Bank.{Board, Bank, boardAt, entryAt, onBoard, fresh}
 use Rattle.model.specs.Definitions.Codec.{encode, decode}
-use Rattle.model.specs.Definitions.WellFormed.{wellFormed, isUp, isDown, isReplaying}
+use Rattle.model.specs.Definitions.WellFormed.{wellFormed, isUp, isDown, isReplaying, sizesAllowed}
 use Rattle.model.specs.Definitions.Steps.{Run, start, step, powerOff, withFuse, checkpoint, Access, Read, Write, pageNamed, takes, valueOf, access, giver, dropCopies, fetch}
 use Rattle.model.specs.Definitions.Replay.{loaded, usedUp, lacking, differs, tookDue, replayOver, endReplay, endIfOver, replayed}
 
@@ -214,7 +214,7 @@ call c s = elim (wellFormed s) [ false ↦ refused Malformed s | true ↦ replyO
 -- "making a bank checks 2 before 1": "N or P out of range", then "wrong length"
 unfoldable pub make : ℕ → ℕ → List ℕ → Reply
 make boards pages s =
-    elim (ltb 0 boards && (leb boards mostBoards && (ltb 0 pages && leb pages mostPages))) [
+    elim (sizesAllowed boards pages) [
       | false ↦ refused OutOfRange s
       | true ↦
           elim (eqb (length s) (bankSize boards pages)) [
@@ -222,22 +222,3 @@ make boards pages s =
             | true ↦ record { outcome = record { answer = Done 0; stores = 0 }; bytes = encode (fresh boards pages) }
           ]
     ]
-
--- with make, the seven calls of document 01
-unfoldable pub read : ℕ → ℕ → ℕ → List ℕ → Reply
-read b p o s = call (Reading b p o) s
-
-unfoldable pub write : ℕ → ℕ → ℕ → ℕ → List ℕ → Reply
-write b p o v s = call (Writing b p o v) s
-
-unfoldable pub checkpointCall : ℕ → List ℕ → Reply
-checkpointCall b s = call (Checkpointing b) s
-
-unfoldable pub cut : ℕ → List ℕ → Reply
-cut b s = call (Cutting b) s
-
-unfoldable pub fuse : ℕ → ℕ → List ℕ → Reply
-fuse b n s = call (Fusing b n) s
-
-unfoldable pub restart : ℕ → List ℕ → Reply
-restart b s = call (Restarting b) s

@@ -15,10 +15,10 @@ use Rattle.types.specs.declared.Kind.{Kind}
 use Rattle.types.specs.declared.Kind.the-variants.{Got, Shown, Dropped}
 use Rattle.types.specs.declared.Record.{Record}
 use Rattle.types.specs.declared.State.the-variants.{Down}
-use Rattle.model.specs.Definitions.Parts.{zeros, each, member, withMember, withoutMember, encodeAll}
+use Rattle.model.specs.Definitions.Parts.{zeros, each, member, withMember, withoutMember}
 use Rattle.model.specs.Definitions.Layout.{pageSize, slotSize, noFuse}
 use Rattle.model.specs.Definitions.Bank.{Entry, Log, Working, Board, Bank, emptyFrame, emptyLog, boardAt, entryAt, frameAt, onBoard, onEntry, onWorking, onSpare, onFrames}
-use Rattle.model.specs.Definitions.Codec.{encodeRecord}
+use Rattle.model.specs.Definitions.Codec.{encodeLog}
 
 -- ==== a call in progress
 
@@ -150,7 +150,7 @@ storedHead x =
     record {
       number = x .working .number;
       frames = a .frames;
-      log = record { records = []; rest = encodeAll encodeRecord (a .log .records) ++ a .log .rest };
+      log = record { records = []; rest = encodeLog (a .log) };
     })
     x
 

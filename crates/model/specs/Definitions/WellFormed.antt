@@ -243,6 +243,10 @@ boardCoherent k b =
 unfoldable pub entryValid : ℕ → Entry → Bool
 entryValid boards e = ltb (e .owner) boards && (ltb (e .copies) (2 ^ boards) && not (member (e .owner) (e .copies)))
 
+-- N and P in range
+abbrev pub sizesAllowed : ℕ → ℕ → Bool
+sizesAllowed boards pages = ltb 0 boards && (leb boards mostBoards && (ltb 0 pages && leb pages mostPages))
+
 -- "that length", and the head
 unfoldable pub headValid : List ℕ → Bool
 headValid s =
@@ -250,7 +254,7 @@ headValid s =
     let pages : ℕ = byteAt s pagesAt in
     eqb (byteAt s 0) headMark0
     && (eqb (byteAt s 1) headMark1
-    && (ltb 0 boards && (leb boards mostBoards && (ltb 0 pages && (leb pages mostPages && eqb (length s) (bankSize boards pages))))))
+    && (sizesAllowed boards pages && eqb (length s) (bankSize boards pages)))
 
 -- "A board's block is handed on as its own part of the buffer."
 unfoldable pub blockOf : List ℕ → ℕ → List ℕ

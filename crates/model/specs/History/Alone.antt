@@ -23,7 +23,7 @@ use Rattle.model.specs.Laws.Lists.{each-head, each-tail}
 use Rattle.model.specs.Laws.Boards.{boardAt-out}
 use Rattle.model.specs.Laws.Runs.{lost-not, SameSizes, sizes-same}
 use Rattle.model.specs.Laws.Runs.Calls.{call-follows}
-use Rattle.model.specs.Laws.Table.{boardOf}
+use Rattle.model.specs.Laws.Codes.Statement.{boardOf}
 use Rattle.model.specs.Laws.Codes.Power.{byBoard}
 use Rattle.model.specs.Laws.Keeps.Clauses.{up-not-replaying, Fits, fits}
 use Rattle.model.specs.Laws.Keeps.Live.{isReplaying-replaying}

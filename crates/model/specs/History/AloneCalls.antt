@@ -19,7 +19,7 @@ use Rattle.model.specs.Definitions.Calls.{Result, firstOf, unless, finis
 use Rattle.model.specs.Laws.Logic.{byBool, byOption, clash, and-left}
 use Rattle.model.specs.Laws.Boards.{boards-onBoard, boardAt-same}
 use Rattle.model.specs.Laws.Runs.{lost-not, SameSizes}
-use Rattle.model.specs.Laws.Table.{afterReplay, LiveOn, up, replayEnded}
+use Rattle.model.specs.Laws.Codes.Statement.{afterReplay, LiveOn, up, replayEnded}
 use Rattle.model.specs.Laws.Tests.{Says}
 use Rattle.model.specs.Laws.Codes.Order.{fails}
 use Rattle.model.specs.Laws.Codes.Tests.{replay-other, LastDue, last-due}

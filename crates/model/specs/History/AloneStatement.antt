@@ -18,7 +18,7 @@ use Rattle.model.specs.Definitions.WellFormed.{isReplaying, WellFormed}
 use Rattle.model.specs.Definitions.Steps.{Run, Access}
 use Rattle.model.specs.Definitions.Replay.{tookDue, replayOver}
 use Rattle.model.specs.Definitions.Calls.{firstOf, accessRefusals, Call, Restarting, callBank}
-use Rattle.model.specs.Laws.Table.{boardOf, afterReplay}
+use Rattle.model.specs.Laws.Codes.Statement.{boardOf, afterReplay}
 use Rattle.model.specs.History.Statement.{accessOf}
 
 -- ==== what a call gives

@@ -18,7 +18,7 @@ use Rattle.model.specs.Definitions.Calls.{Result, firstOf, unless, live,
 use Rattle.model.specs.Laws.Logic.{cases, casesOption}
 use Rattle.model.specs.Laws.Boards.{storedRecord-cases, boardAt-same, settle}
 use Rattle.model.specs.Laws.Runs.Stores.{burnt-state}
-use Rattle.model.specs.Laws.Table.{boardOf}
+use Rattle.model.specs.Laws.Codes.Statement.{boardOf}
 use Rattle.model.specs.Laws.Keeps.Live.{isReplaying-replaying}
 use Rattle.model.specs.Laws.Keeps.Calls.{Entered, entered, fitting, live-can}
 use Rattle.model.specs.History.Counters.Calls.{ended-formed}

@@ -18,7 +18,7 @@ use Rattle.model.specs.Laws.Logic.{byOption, byEq, clash}
 use Rattle.model.specs.Laws.WrittenTests.{log-count}
 use Rattle.model.specs.Laws.Boards.{frameAt-same, frameAt-other, onBoard-onBoard}
 use Rattle.model.specs.Laws.Runs.{lost-not, follows-none, follows-store, follows-storeFrames, follows-checkpoint, Changed, changed-store}
-use Rattle.model.specs.Laws.Runs.Stores.{burnt-state, burnt-working, burnt-stable, Headed, storeFrames-changed, storedHead-changed, Checkpointed, checkpoint-changed}
+use Rattle.model.specs.Laws.Runs.Stores.{burnt-state, burnt-working, burnt-stable, Headed, storeFrames-changed, storedHead-changed}
 use Rattle.model.specs.Laws.Keeps.Clauses.{Fits, fits, up-below, up-not-replaying, onBoard-keeps}
 use Rattle.model.specs.Laws.Keeps.Checkpoint.{storedFrame-fits, storedHead-fits, storedSelector-fits, rested-fits}
 use Rattle.model.specs.History.Statement.{HistoryEntry, History, ofBoard, discard}
@@ -31,7 +31,7 @@ use Rattle.model.specs.History.Lift.{onBoard-invariant}
 use Rattle.model.specs.History.Logging.{checkpoint-rebuilt, checkpoint-stable, checkpoint-volatile}
 use Rattle.model.specs.History.PowerLoss.{StableHolds}
 use Rattle.model.specs.History.Records.{counts-up, up-counts, up-explained, owner-frame}
-use Rattle.model.specs.History.Runs.{RunHolds, OnlyAhead, run-formed, MayLosePower, step-meets, store-meets, store-holds, onBoard-may-lose, all-stable, none-unstable, Secured}
+use Rattle.model.specs.History.Runs.{RunHolds, OnlyAhead, run-formed, MayLosePower, step-meets, store-meets, store-holds, onBoard-may-lose, none-unstable}
 
 -- ==== what the spare area holds
 
@@ -287,29 +287,3 @@ module _ {g : ℕ → Option Rebuilt} {h : History} (b : ℕ) (a : OnlyAhead g b
       byOption (r .lost)
       going-holds
       (λ c e. rw (follows-checkpoint {By = λ c. c ≡ b} b r refl .lost c e) (record { going = λ n. lost-not n e; lost = q .lost }))
-
-  pub checkpoint-leaves : checkpoint b r .lost ≡ none → Changed b (Secured (ofBoard b (h .entries))) (r .bank) (checkpoint b r .bank)
-  unfolding restedWorking emptyLog
-  checkpoint-leaves e =
-      let n : r .lost ≡ none = follows-none (follows-checkpoint {By = λ c. c ≡ b} b r refl) e in
-      let l : b < length (r .bank .boards) = up-below (r .bank) b (u n) in
-      let y : Board = boardAt (checkpoint b r .bank) b in
-      let c : Changed b Checkpointed (r .bank) (checkpoint b r .bank) = checkpoint-changed b r e in
-      let t : Checkpointed (boardAt (r .bank) b) y = c .this l in
-      let up : y .state ≡ Up = t .state ∙ u n in
-      let v : y .working .log .records ≡ [] = ap (λ (w : Working). w .log .records) (t .working) in
-      let z : y .working .since ≡ 0 = ap (λ (w : Working). w .since) (t .working) in
-      record {
-        directory = c .directory;
-        boards = c .boards;
-        others = c .others;
-        this = λ m.
-            record {
-              up = up;
-              number = ap (λ (w : Working). w .number) (t .working);
-              frames = ap (λ (w : Working). w .frames) (t .working);
-              since = z;
-              volatile = v;
-              point = all-stable (checkpoint-holds .going e .boards b (rw (c .boards) l)) up v z;
-            };
-      }

@@ -52,23 +52,6 @@ pub ofBoard-snoc-other : (b : ℕ) (es : List HistoryEntry) (e : HistoryEntry) �
 unfolding ofBoard
 ofBoard-snoc-other b es e h = cc (ofBoard-append b es (e ∷ []), ne-eqb (e .board) b h, append-nil (ofBoard b es))
 
--- every entry is its board's
-pub ofBoard-board : (b : ℕ) (es : List HistoryEntry) → Each (λ e. e .board ≡ b) (ofBoard b es)
-unfolding ofBoard
-ofBoard-board b [] = each-nil
-ofBoard-board b (e ∷ es) =
-    byBool (eqb (e .board) b)
-    (λ t. rw (t, ofBoard) (each-cons (eqb-true (e .board) b t) (ofBoard-board b es)))
-    (λ t. rw (t, ofBoard) (ofBoard-board b es))
-
-pub each-ofBoard : {P : HistoryEntry → Type 0} (b : ℕ) (es : List HistoryEntry) → Each P es → Each P (ofBoard b es)
-unfolding ofBoard
-each-ofBoard b [] h = each-nil
-each-ofBoard b (e ∷ es) h =
-    byBool (eqb (e .board) b)
-    (λ t. rw (t, ofBoard) (each-cons (each-head h) (each-ofBoard b es (each-tail h))))
-    (λ t. rw (t, ofBoard) (each-ofBoard b es (each-tail h)))
-
 -- ---- discarded: what stays of each board
 
 pub ofBoard-discard-same : (b n : ℕ) (es : List HistoryEntry) → ofBoard b (discard b n es) ≡ take n (ofBoard b es)

@@ -6,12 +6,11 @@ use Prim.Native.Nat.{ℕ, zero, suc, _+_, _-_, _≤_}
 use native.Mathlib.Omega.{arith}
 use mathlib.Core.Bool.{true, false, _||_}
 use mathlib.Core.List.{List, [], _∷_, _++_, map}
-use lib.ListN.{length, take, drop, set, length-set}
+use lib.ListN.{take, drop, set}
 use lib.Seq.{take-nil, drop-nil}
 use lib.Dec.{eqb}
 use borrow.Author.Tests.{eqb-false, eq-eqb, ne-eqb}
-use Rattle.words.specs.Bytes.{Each}
-use Rattle.model.specs.Laws.Logic.{cases, byBool}
+use Rattle.model.specs.Laws.Logic.{byBool}
 use Rattle.model.specs.Laws.Lists.{each-head, each-tail}
 use Rattle.model.specs.Definitions.Steps.{Cell, cellsRead, cellsWritten}
 use Rattle.model.specs.History.Statement.{HistoryEntry, ofBoard, discard, Memory, byteIn, written, OneMemory}
@@ -40,13 +39,6 @@ written-untouched (w ∷ ws) m p h =
     let u : eqb p (w .0 .page) ≡ false = ne-eqb p (w .0 .page) (λ q. eqb-false (w .0 .page) p t (sym q)) in
     cc (written-untouched ws (onWrite w m) p (or-false-right (eqb (w .0 .page) p) (anyWrite ws p) h))
 
-pub length-written : (ws : List (Cell × ℕ)) (m : Memory) (p : ℕ) → length (written ws m p) ≡ length (m p)
-unfolding written
-length-written [] m p = refl
-length-written (w ∷ ws) m p =
-    length-written ws (onWrite w m) p
-    ∙ cases (λ (l : List ℕ). length l ≡ length (m p)) (eqb p (w .0 .page)) (λ t. length-set (m p) (w .0 .offset) (w .1)) (λ t. refl)
-
 -- ---- entries, page by page
 
 pub memoryAfter-append : (m : Memory) (xs ys : List HistoryEntry) → memoryAfter m (xs ++ ys) ≡ memoryAfter (memoryAfter m xs) ys
@@ -66,19 +58,6 @@ pub written-unless : (e : HistoryEntry) (m : Memory) (p : ℕ) → writesPage e 
 unfolding writesPage
 written-unless e m p h = written-untouched (cellsWritten (e .access)) m p h
 
-pub memoryAfter-untouched : (m : Memory) (es : List HistoryEntry) (p : ℕ) → Each (λ e. writesPage e p ≡ false) es → memoryAfter m es p ≡ m p
-unfolding memoryAfter
-memoryAfter-untouched m [] p h = refl
-memoryAfter-untouched m (e ∷ es) p h =
-    memoryAfter-untouched (written (cellsWritten (e .access)) m) es p (each-tail h) ∙ written-unless e m p (each-head h)
-
-pub length-memoryAfter : (m : Memory) (es : List HistoryEntry) (p : ℕ) → length (memoryAfter m es p) ≡ length (m p)
-unfolding memoryAfter
-length-memoryAfter m [] p = refl
-length-memoryAfter m (e ∷ es) p =
-    let ws : List (Cell × ℕ) = cellsWritten (e .access) in
-    length-memoryAfter (written ws m) es p ∙ length-written ws m p
-
 pub memoryAfter-snoc : (m : Memory) (es : List HistoryEntry) (e : HistoryEntry) → memoryAfter m (es ++ (e ∷ [])) ≡ written (cellsWritten (e .access)) (memoryAfter m es)
 unfolding memoryAfter
 memoryAfter-snoc m es e = memoryAfter-append m es (e ∷ [])
@@ -93,16 +72,6 @@ pub oneMemory-append : (m : Memory) (xs ys : List HistoryEntry) → OneMemory m 
 unfolding OneMemory memoryAfter
 oneMemory-append m [] ys h k = k
 oneMemory-append m (e ∷ xs) ys h k = (h .0, oneMemory-append (written (cellsWritten (e .access)) m) xs ys (h .1) k)
-
-pub oneMemory-left : (m : Memory) (xs ys : List HistoryEntry) → OneMemory m (xs ++ ys) → OneMemory m xs
-unfolding OneMemory
-oneMemory-left m [] ys h = tt
-oneMemory-left m (e ∷ xs) ys h = (h .0, oneMemory-left (written (cellsWritten (e .access)) m) xs ys (h .1))
-
-pub oneMemory-right : (m : Memory) (xs ys : List HistoryEntry) → OneMemory m (xs ++ ys) → OneMemory (memoryAfter m xs) ys
-unfolding OneMemory memoryAfter
-oneMemory-right m [] ys h = h
-oneMemory-right m (e ∷ xs) ys h = oneMemory-right (written (cellsWritten (e .access)) m) xs ys (h .1)
 
 pub oneMemory-snoc : (m : Memory) (es : List HistoryEntry) (e : HistoryEntry) → OneMemory m es
     → e .bytesRead ≡ map (byteIn (memoryAfter m es)) (cellsRead (e .access)) → OneMemory m (es ++ (e ∷ []))

@@ -4,15 +4,14 @@ use Prim.Native.Nat.{ℕ}
 use mathlib.Core.List.{List}
 use Rattle.types.specs.declared.Answer.the-variants.{Done}
 use native.Mathlib.Omega.{arith}
-use mathlib.Core.Bool.{_&&_}
-use lib.Dec.{eqb, ltb, leb}
-use Rattle.model.specs.Definitions.Layout.{mostBoards, mostPages, bankSize}
+use lib.Dec.{eqb}
+use Rattle.model.specs.Definitions.Layout.{bankSize}
 use Rattle.model.specs.Definitions.Calls.{make, refused, Reply}
 use Rattle.model.specs.Laws.Logic.{cases}
 use lib.ListN.{length}
 use Rattle.model.specs.Definitions.Bank.{Bank, fresh}
 use Rattle.model.specs.Definitions.Codec.{encode, decode}
-use Rattle.model.specs.Definitions.WellFormed.{WellFormed}
+use Rattle.model.specs.Definitions.WellFormed.{WellFormed, sizesAllowed}
 use Rattle.model.specs.Definitions.Calls.{Call, callBank, replyOf, call}
 use Rattle.model.specs.Laws.CodecBank.{decode-encode}
 use Rattle.model.specs.Laws.WellFormedTest.{wellFormed-complete, fields-of}
@@ -41,7 +40,7 @@ pub make-begins : (n p : ℕ) (s : List ℕ) (v : ℕ) → make n p s .outcome .
 unfolding make refused begin
 make-begins n p s v h =
     let P : Reply → Type 0 = λ r. r .outcome .answer ≡ Done v → r .bytes ≡ encode (fresh n p) in
-    cases P (ltb 0 n && (leb n mostBoards && (ltb 0 p && leb p mostPages)))
+    cases P (sizesAllowed n p)
     (λ _.
     cases P (eqb (length s) (bankSize n p))
     (λ _ _. refl)

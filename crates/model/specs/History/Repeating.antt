@@ -87,10 +87,6 @@ module _ (a : Access) (x : Board) (fitting : differs a x ≡ false) where
   pub due-fits : (r : Record) → due x ≡ some r → Fits a (r .kind)
   due-fits r h = needs-fits a (x .working .frames) (r .kind) (due-needed r h)
 
-  pub none-due-has : due x ≡ none → lacking a (x .working .frames) ≡ false
-  unfolding differs
-  none-due-has h = cc
-
 -- ==== the got taken
 
 -- what the access in progress has taken

@@ -17,7 +17,7 @@ use Rattle.model.specs.Definitions.Replay.{loaded, usedUp, differs, took
 use Rattle.model.specs.Definitions.Calls.{Result, firstOf, unless, finished, live, liveAfterEnd, replaying, accessRefusals, accessBank, restartBank}
 use Rattle.model.specs.Laws.Logic.{byOption}
 use Rattle.model.specs.Laws.Boards.{boards-onBoard}
-use Rattle.model.specs.Laws.Table.{afterReplay}
+use Rattle.model.specs.Laws.Codes.Statement.{afterReplay}
 use Rattle.model.specs.Laws.Keeps.Clauses.{Fits, but, onBoard-but, InReplay, WellFormedBut}
 use Rattle.model.specs.Laws.Keeps.Live.{isReplaying-replaying}
 use Rattle.model.specs.Laws.Keeps.Replay.{loaded-inReplay, usedUp-inReplay}

@@ -22,7 +22,7 @@ use Rattle.model.specs.Definitions.Replay.{loaded, usedUp, tookDue, repl
 use Rattle.model.specs.Definitions.Answers.{code}
 use Rattle.model.specs.Definitions.Calls.{Result, firstOf, unless, finished, accessRefusals, accessBank, checkpointBank, cutBank, fuseBank, restartBank, Call, Reading, Writing, Checkpointing, Cutting, Fusing, Restarting, callBank}
 use Rattle.model.specs.Laws.Logic.{byBool, byOption, byEq, casesOption, clash, and-left}
-use Rattle.model.specs.Laws.Table.{boardOf, Due, NeedsGot}
+use Rattle.model.specs.Laws.Codes.Statement.{boardOf, Due, NeedsGot}
 use Rattle.model.specs.Laws.Keeps.Clauses.{up-not-replaying, down-not-replaying}
 use Rattle.model.specs.Laws.Keeps.Clauses.{replaying-place, fits}
 use Rattle.model.specs.Laws.Boards.{boards-onBoard, boardAt-same, boardAt-powerOff-same}

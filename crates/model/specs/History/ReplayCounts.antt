@@ -18,7 +18,7 @@ use Rattle.model.specs.Definitions.Steps.{Access, accessed}
 use Rattle.model.specs.Definitions.Replay.{loaded, recordsLeft, used, useUp, usedUp, tookDue, replayOver, replayed, countSum, recoveryPoint}
 use Rattle.model.specs.Laws.Logic.{byBool}
 use Rattle.model.specs.Laws.Runs.Stores.{recordsOf}
-use Rattle.model.specs.Laws.Table.{Due}
+use Rattle.model.specs.Laws.Codes.Statement.{Due}
 use Rattle.model.specs.History.Invariant.{NextWaits}
 use Rattle.model.specs.History.RecoveryStatement.{Took, Replayed, Loaded}
 use Rattle.model.specs.History.Logging.{recoveryPoint-same}

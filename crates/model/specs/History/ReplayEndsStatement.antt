@@ -19,7 +19,7 @@ use Rattle.model.specs.Definitions.Steps.{Access}
 use Rattle.model.specs.Definitions.Replay.{recoveryPoint}
 use Rattle.model.specs.Definitions.Answers.{code}
 use Rattle.model.specs.Definitions.Calls.{Call, Restarting, call}
-use Rattle.model.specs.Laws.Table.{Due, NeedsGot}
+use Rattle.model.specs.Laws.Codes.Statement.{Due, NeedsGot}
 use Rattle.model.specs.History.Statement.{repeats, System, begin, accessOf, after, Premises}
 
 -- ==== a board

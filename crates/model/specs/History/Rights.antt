@@ -24,10 +24,11 @@ use Rattle.model.specs.Definitions.WellFormed.{rightIn, WellFormed}
 use Rattle.model.specs.Definitions.Steps.{recorded, withFrame, frameOf, dropped}
 use Rattle.model.specs.Definitions.Replay.{recoveryPoint}
 use Rattle.model.specs.Laws.Logic.{byBool, byOption, byEq, clash}
-use Rattle.model.specs.Laws.Lists.{each-head, each-tail, each-imp, length-update, getD-update-same, getD-update-other}
+use Rattle.model.specs.Laws.Lists.{each-head, each-tail, each-imp, length-update, getD-update-same}
 use Rattle.model.specs.Laws.Sets.{member-none}
 use Rattle.model.specs.Laws.Boards.{frameAt-same, frameAt-other, rightIn-owner, rightIn-copy}
 use Rattle.model.specs.Laws.Keeps.Clauses.{entryIn, up-below}
+use Rattle.model.specs.Laws.Keeps.Rights.{entryIn-same, entryIn-other}
 use Rattle.model.specs.History.Statement.{HistoryEntry, History, ofBoard, discard, zeroMemory}
 use Rattle.model.specs.History.Rerun.{Rebuilt, Logged, logged, next, Accepts, MayLog, rebuilt}
 use Rattle.model.specs.History.Invariant.{memoryAfter, unstableWrite, settledAs, isShown, Holds, Invariant, onlyOf}
@@ -68,12 +69,6 @@ module _ {d : List Entry} {h : History} {g : Option Rebuilt} {b : ℕ} {x : Boar
       }
 
   module _ (f : Entry → Entry) where
-    entry-here : entryIn (update p f d) p ≡ f (entryIn d p)
-    entry-here = getD-update-same p f d (record { owner = 0; copies = 0 }) l
-
-    entry-there : (c : ℕ) → c ≢ p → entryIn (update p f d) c ≡ entryIn d c
-    entry-there c n = getD-update-other p c f d (record { owner = 0; copies = 0 }) n
-
     in-range : (c : ℕ) → c < length (update p f d) → c < length d
     in-range c j = rw (length-update p f d) at j
 
@@ -86,27 +81,27 @@ module _ {d : List Entry} {h : History} {g : Option Rebuilt} {b : ℕ} {x : Boar
           explained = q .explained;
           ahead = λ c t j u s.
               byEq c p
-              (λ i. rw (i, entry-here) (on .ahead t u s))
-              (λ n. rw (entry-there c n) (q .ahead c t (in-range c j) u s));
+              (λ i. rw (i, entryIn-same d p f l) (on .ahead t u s))
+              (λ n. rw (entryIn-other d p f c n) (q .ahead c t (in-range c j) u s));
           copies = λ c j.
               byEq c p
-              (λ i. rw (i, entry-here) (on .copies))
-              (λ n. rw (entry-there c n) (q .copies c (in-range c j)));
+              (λ i. rw (i, entryIn-same d p f l) (on .copies))
+              (λ n. rw (entryIn-other d p f c n) (q .copies c (in-range c j)));
           owned = λ c j.
               byEq c p
-              (λ i. rw (i, entry-here) (on .owned))
-              (λ n. rw (entry-there c n) (q .owned c (in-range c j)));
+              (λ i. rw (i, entryIn-same d p f l) (on .owned))
+              (λ n. rw (entryIn-other d p f c n) (q .owned c (in-range c j)));
           exclusive = q .exclusive;
           unstable = λ c j.
               byEq c p
-              (λ i. rw (i, entry-here) (on .unstable))
-              (λ n. rw (entry-there c n) (q .unstable c (in-range c j)));
+              (λ i. rw (i, entryIn-same d p f l) (on .unstable))
+              (λ n. rw (entryIn-other d p f c n) (q .unstable c (in-range c j)));
           volatile =
               each-both (x .working .log .records)
               (λ r s t.
               byEq (pageOf (r .kind)) p
-              (λ i. rw (i, entry-here) (t i))
-              (λ n. rw (entry-there (pageOf (r .kind)) n) s))
+              (λ i. rw (i, entryIn-same d p f l) (t i))
+              (λ n. rw (entryIn-other d p f (pageOf (r .kind)) n) s))
               (q .volatile) (on .volatile);
         }
 

@@ -233,6 +233,16 @@ stored-up b r u e =
     changed-store b storedRecord r e (burnt-state (storedRecord x) ∙ flushed-storedRecord x .state) in
     c .this (up-below (r .bank) b (u n)) ∙ u n
 
+-- a record noted leaves its board up
+module _ (b : ℕ) (kind : Kind) (bytes : Bank → List ℕ) (r : Run) (u : r .lost ≡ none → boardAt (r .bank) b .state ≡ Up) where
+  noted : step (λ k. note b kind (bytes k) k) r .lost ≡ none
+      → boardAt (step (λ k. note b kind (bytes k) k) r .bank) b ≡ onWorking (recorded kind (bytes (r .bank))) (boardAt (r .bank) b)
+  noted n = noted-changed b kind bytes r n .this (up-below (r .bank) b (u (step-none (λ k. note b kind (bytes k) k) r n)))
+
+  pub noted-up : step (λ k. note b kind (bytes k) k) r .lost ≡ none → boardAt (step (λ k. note b kind (bytes k) k) r .bank) b .state ≡ Up
+  unfolding onWorking
+  noted-up n = ap (λ (x : Board). x .state) (noted n) ∙ u (step-none (λ k. note b kind (bytes k) k) r n)
+
 module _ {g : ℕ → Option Rebuilt} {h : History} (b : ℕ) (a : OnlyAhead g b) where
   -- the next n records, stored
   pub storeRecords-holds : (n : ℕ) (r : Run) → RunHolds g r h → (r .lost ≡ none → boardAt (r .bank) b .state ≡ Up) → RunHolds g (storeRecords n b r) h
@@ -278,16 +288,8 @@ module _ {g : ℕ → Option Rebuilt} {h : History} (b : ℕ) (a : OnlyAhead g b
   -- a record noted, then a flush; the bytes may be read off the bank
   module _ (kind : Kind) (bytes : Bank → List ℕ) (r : Run) (q : RunHolds g (step (λ k. note b kind (bytes k) k) r) h)
       (u : r .lost ≡ none → boardAt (r .bank) b .state ≡ Up) where
-    noted : step (λ k. note b kind (bytes k) k) r .lost ≡ none
-        → boardAt (step (λ k. note b kind (bytes k) k) r .bank) b ≡ onWorking (recorded kind (bytes (r .bank))) (boardAt (r .bank) b)
-    noted n = noted-changed b kind bytes r n .this (up-below (r .bank) b (u (step-none (λ k. note b kind (bytes k) k) r n)))
-
-    noted-up : step (λ k. note b kind (bytes k) k) r .lost ≡ none → boardAt (step (λ k. note b kind (bytes k) k) r .bank) b .state ≡ Up
-    unfolding onWorking
-    noted-up n = ap (λ (x : Board). x .state) (noted n) ∙ u (step-none (λ k. note b kind (bytes k) k) r n)
-
     pub note-flush-holds : RunHolds g (flush b (step (λ k. note b kind (bytes k) k) r)) h
-    note-flush-holds = flush-holds (step (λ k. note b kind (bytes k) k) r) q noted-up
+    note-flush-holds = flush-holds (step (λ k. note b kind (bytes k) k) r) q (noted-up b kind bytes r u)
 
     pub note-flush-leaves : flush b (step (λ k. note b kind (bytes k) k) r) .lost ≡ none
         → Changed b (Secured (ofBoard b (h .entries))) (r .bank) (flush b (step (λ k. note b kind (bytes k) k) r) .bank)
@@ -297,7 +299,7 @@ module _ {g : ℕ → Option Rebuilt} {h : History} (b : ℕ) (a : OnlyAhead g b
         let n : s .lost ≡ none = follows-none (follows-flush {By = λ c. c ≡ b} b s refl) e in
         changed-trans b (λ x y z p t. secured-noted kind (bytes (r .bank)) (rw p at t))
         (noted-changed b kind bytes r n)
-        (flush-leaves s q noted-up (λ m. ap (λ (x : Board). x .working .since) (noted m)) e)
+        (flush-leaves s q (noted-up b kind bytes r u) (λ m. ap (λ (x : Board). x .working .since) (noted b kind bytes r u m)) e)
 
 -- ==== a page shown
 

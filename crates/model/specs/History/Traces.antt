@@ -33,11 +33,6 @@ module _ {A : Type 0} where
   drop-next (y ∷ l) zero x h = cc
   drop-next (y ∷ l) (suc n) x h = drop-next l n x h
 
-  pub next-below : (l : List A) (n : ℕ) (x : A) → getElem? l n ≡ some x → n < length l
-  next-below [] n x h = let z : _≡_ {A = ℕ} 0 1 = cc in absurd (omega arith)
-  next-below (y ∷ l) zero x h = omega arith
-  next-below (y ∷ l) (suc n) x h = let r : n < length l = next-below l n x h in omega arith
-
   pub next-exists : (l : List A) (n : ℕ) → n < length l → (x : A) × (getElem? l n ≡ some x)
   next-exists [] n h = absurd (not-suc-le-zero h)
   next-exists (y ∷ l) zero h = (y, refl)

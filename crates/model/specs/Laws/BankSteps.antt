@@ -10,8 +10,8 @@ use mathlib.Core.Option.{none, some}
 use mathlib.Core.List.{List}
 use lib.ListN.{length, getD}
 use Rattle.words.specs.Bytes.{Each}
-use Rattle.model.specs.Definitions.Parts.{part, splice, byteAt}
-use Rattle.model.specs.Definitions.Layout.{boardsAt, pagesAt, headSize, entrySize, blocksAt, blockSize, bankSize}
+use Rattle.model.specs.Definitions.Parts.{part, splice}
+use Rattle.model.specs.Definitions.Layout.{headSize, entrySize, blocksAt, blockSize, bankSize}
 use Rattle.model.specs.Definitions.Bank.{Entry, Board, Bank, noBoard, boardAt, entryAt, frameAt, onBoard, onEntry}
 use Rattle.model.specs.Definitions.Codec.{encodeEntry, decodeEntry, encodeBoard, encode, decode}
 use Rattle.model.specs.Definitions.WellFormed.{FrameOk, FieldsOk, SizesOk, WellFormed, blockOf, wellFormed}
@@ -20,7 +20,7 @@ use Rattle.model.specs.Laws.Lists.{each-getD, each-imp, each-set, length
 use Rattle.model.specs.Laws.Parts.{part-part, part-encodeAll, index-in, each-all}
 use Rattle.model.specs.Laws.Codec.{length-encodeEntry, decode-encodeEntry}
 use Rattle.model.specs.Laws.CodecBank.{bank-pages, bank-directory, length-encodeBoard, length-encode, decode-encode}
-use Rattle.model.specs.Laws.CodecBankBack.{decode-boards, decode-pages, encode-decode}
+use Rattle.model.specs.Laws.CodecBankBack.{encode-decode}
 use Rattle.model.specs.Laws.CodecAt.{encode-onBoard}
 use Rattle.model.specs.Laws.WellFormedTest.{wellFormed-sound, bank-block, fields-of}
 use Rattle.model.specs.Laws.Boards.{update-out, boardAt-out, boardAt-same, onBoard-onBoard}
@@ -106,13 +106,6 @@ frameOf-ok k ok o p =
       | yes h ↦ frameOk-at (boardAt k o .working .frames) p (fields-at k ok o h .frames)
       | no n ↦ rw (boardAt-out k o (omega arith)) frameOk-empty
     ]
-
--- ---- the same of bytes
-
-module _ (s : List ℕ) (ok : IsBank s) where
-  pub isBank-block : (b : ℕ) → b < byteAt s boardsAt
-      → part s (blocksAt (byteAt s pagesAt) + b * blockSize (byteAt s pagesAt)) (blockSize (byteAt s pagesAt)) ≡ encodeBoard (boardAt (decode s) b)
-  isBank-block b h = rw (ok .back, decode-pages s) at (block-part (decode s) (ok .fields) b (rw (decode-boards s) h))
 
 -- ---- a store
 

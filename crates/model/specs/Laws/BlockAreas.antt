@@ -50,7 +50,7 @@ withAreaFrame p f a = record { number = a .number; frames = set (a .frames) p f;
 -- "one area head (number and stored count 0)"; the old slots stay as they are
 unfoldable pub withHead : ℕ → Area → Area
 withHead n a =
-    record { number = n; frames = a .frames; log = record { records = []; rest = encodeAll encodeRecord (a .log .records) ++ a .log .rest } }
+    record { number = n; frames = a .frames; log = record { records = []; rest = encodeLog (a .log) } }
 
 -- number, count, frames, slots: the bytes of an area, whatever stands in each
 abbrev laid : ℕ → ℕ → List ℕ → List ℕ → List ℕ

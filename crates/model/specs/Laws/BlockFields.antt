@@ -9,20 +9,19 @@ use lib.ListN.{length, getD, set, length-append, length-set}
 use Rattle.words.specs.Bytes.{Each}
 use Rattle.words.specs.LittleEndian.{bytesOf, numberOf}
 use Rattle.words.specs.LittleEndianLaws.{length-bytesOf, numberOf-bytesOf}
-use Rattle.types.specs.declared.Right.{Right}
 use Rattle.types.specs.declared.Frame.{Frame}
 use Rattle.types.specs.declared.Record.{Record}
 use Rattle.types.specs.declared.State.{State}
 use Rattle.model.specs.Definitions.Parts.{part, splice, byteAt, encodeAll}
-use Rattle.model.specs.Definitions.Layout.{pageSize, noFuse, lastSince, lastNumber, frameSize, frameBytesAt, rightAt, slotSize, slotsSize, fuseSize, numberSize, sinceSize, stateAt, selectorAt, fuseAt, numberAt, sinceAt, placeAt, volatileCountAt, framesAt, slotsAt, blockSize}
+use Rattle.model.specs.Definitions.Layout.{pageSize, noFuse, lastSince, lastNumber, frameSize, frameBytesAt, rightAt, slotSize, slotsSize, fuseSize, numberSize, sinceSize, stateAt, selectorAt, fuseAt, numberAt, sinceAt, placeAt, volatileCountAt, framesAt, slotsAt}
 use Rattle.model.specs.Definitions.Bank.{Log, Working, Board, emptyFrame, frameAt, onWorking, onFrames}
 use Rattle.model.specs.Definitions.Codec.{rightByte, encodeFrame, decodeFrame, encodeRecord, decodeRecord, encodeLog, stateByte, selectorByte, encodeFixed, encodeStable, encodeBoard}
 use Rattle.model.specs.Definitions.Steps.{withFuse, withFrame, withByte, cellByte}
 use Rattle.model.specs.Definitions.WellFormed.{LogOk, FramesOk, FieldsOk}
 use Rattle.model.specs.Laws.Lists.{each-imp, each-getD}
-use Rattle.model.specs.Laws.Parts.{length-splice, part-part, part-append-left, part-end, splice-append-left, splice-append-right, splice-front, splice-at, splice-amid, splice-behind, splice-within, splice-one, byteAt-part, index-in, part-encodeAll, encodeAll-set}
+use Rattle.model.specs.Laws.Parts.{part-part, part-append-left, part-end, splice-append-left, splice-append-right, splice-front, splice-at, splice-amid, splice-behind, splice-within, splice-one, byteAt-part, index-in, part-encodeAll, encodeAll-set}
 use Rattle.model.specs.Laws.Codec.{length-encodeFrame, decode-encodeFrame, length-encodeFrames, length-encodeRecord, decode-encodeRecord, length-encodeRecords}
-use Rattle.model.specs.Laws.CodecBank.{length-encodeFixed, fixed-state, fixed-selector, fixed-fuse, fixed-number, fixed-since, fixed-place, board-fixed, board-byte, board-frames, board-slots, length-encodeBoard}
+use Rattle.model.specs.Laws.CodecBank.{switches, length-encodeFixed, fixed-state, fixed-selector, fixed-number, fixed-since, board-fixed, board-byte, board-frames, board-slots}
 use Rattle.model.specs.Laws.Keeps.Accesses.{frameOk-at}
 
 -- a splice of the whole list
@@ -76,10 +75,7 @@ module _ (x : Board) where
   unfolding encodeFixed splice withState
   write-state s = write-fixed x (withState s x) stateAt (stateByte s ∷ []) (omega arith) refl refl
 
-  -- the bytes before the fuse, and the numbers behind them
-  abbrev switches : List ℕ
-  switches = stateByte (x .state) ∷ selectorByte (x .stable .second) ∷ []
-
+  -- the numbers behind the two bytes before the fuse
   abbrev fuseBytes : List ℕ
   fuseBytes = bytesOf fuseSize (x .fuse)
 
@@ -96,24 +92,24 @@ module _ (x : Board) where
   unfolding encodeFixed withFuse
   write-fuse n =
       write-fixed x (withFuse n x) fuseAt (bytesOf fuseSize n) (number-fits fuseAt fuseSize n framesAt (omega arith))
-      (splice-at switches fuseBytes (bytesOf fuseSize n) (numberBytes ++ (sinceBytes ++ lastTwo)) fuseAt refl (same-width fuseSize (x .fuse) n)) refl
+      (splice-at (switches x) fuseBytes (bytesOf fuseSize n) (numberBytes ++ (sinceBytes ++ lastTwo)) fuseAt refl (same-width fuseSize (x .fuse) n)) refl
 
   pub write-number : (n : ℕ) → splice (encodeBoard x) numberAt (bytesOf numberSize n) ≡ encodeBoard (onWorking (withNumber n) x)
   unfolding encodeFixed onWorking withNumber
   write-number n =
       write-fixed x (onWorking (withNumber n) x) numberAt (bytesOf numberSize n) (number-fits numberAt numberSize n framesAt (omega arith))
-      (splice-append-right switches _ numberAt fuseSize (bytesOf numberSize n) refl
-      ∙ ap (λ (r : List ℕ). switches ++ r)
+      (splice-append-right (switches x) _ numberAt fuseSize (bytesOf numberSize n) refl
+      ∙ ap (λ (r : List ℕ). switches x ++ r)
       (splice-at fuseBytes numberBytes (bytesOf numberSize n) (sinceBytes ++ lastTwo) fuseSize
       (length-bytesOf fuseSize (x .fuse)) (same-width numberSize (x .working .number) n)))
       refl
 
   -- a splice behind the access number
   behind-number : (r : List ℕ) (a b : ℕ) (v : List ℕ) → sinceAt + b ≡ a
-      → splice (switches ++ (fuseBytes ++ (numberBytes ++ r))) a v ≡ switches ++ (fuseBytes ++ (numberBytes ++ splice r b v))
+      → splice (switches x ++ (fuseBytes ++ (numberBytes ++ r))) a v ≡ switches x ++ (fuseBytes ++ (numberBytes ++ splice r b v))
   behind-number r a b v e =
-      splice-behind switches fuseBytes (numberBytes ++ r) a (numberSize + b) v (rw (length-bytesOf fuseSize (x .fuse)) (omega arith))
-      ∙ ap (λ (t : List ℕ). switches ++ (fuseBytes ++ t))
+      splice-behind (switches x) fuseBytes (numberBytes ++ r) a (numberSize + b) v (rw (length-bytesOf fuseSize (x .fuse)) (omega arith))
+      ∙ ap (λ (t : List ℕ). switches x ++ (fuseBytes ++ t))
       (splice-append-right numberBytes r (numberSize + b) b v (rw (length-bytesOf numberSize (x .working .number))))
 
   pub write-since : (n : ℕ) → splice (encodeBoard x) sinceAt (bytesOf sinceSize n) ≡ encodeBoard (onWorking (withSince n) x)
@@ -126,8 +122,8 @@ module _ (x : Board) where
 
   -- a splice in the last two bytes
   in-lastTwo : (a b : ℕ) (v : List ℕ) → placeAt + b ≡ a
-      → splice (switches ++ (fuseBytes ++ (numberBytes ++ (sinceBytes ++ lastTwo)))) a v
-      ≡ switches ++ (fuseBytes ++ (numberBytes ++ (sinceBytes ++ splice lastTwo b v)))
+      → splice (switches x ++ (fuseBytes ++ (numberBytes ++ (sinceBytes ++ lastTwo)))) a v
+      ≡ switches x ++ (fuseBytes ++ (numberBytes ++ (sinceBytes ++ splice lastTwo b v)))
   in-lastTwo a b v e =
       behind-number (sinceBytes ++ lastTwo) a (sinceSize + b) v (omega arith)
       ∙ rw (splice-append-right sinceBytes lastTwo (sinceSize + b) b v (rw (length-bytesOf sinceSize (x .working .since))))
@@ -157,9 +153,6 @@ module _ (pages : ℕ) (x : Board) (ok : FieldsOk pages x) where
   pub read-selector : byteAt (encodeBoard x) selectorAt ≡ selectorByte (x .stable .second)
   read-selector = board-byte pages x ok selectorAt (omega arith) ∙ fixed-selector x
 
-  pub read-fuse : numberOf (part (encodeBoard x) fuseAt fuseSize) ≡ x .fuse
-  read-fuse = rw (board-fixed pages x ok fuseAt fuseSize (omega arith), fixed-fuse x) (numberOf-bytesOf fuseSize (x .fuse) (omega (arith, ok .fuse)))
-
   pub read-number : numberOf (part (encodeBoard x) numberAt numberSize) ≡ x .working .number
   read-number =
       rw (board-fixed pages x ok numberAt numberSize (omega arith), fixed-number x)
@@ -169,9 +162,6 @@ module _ (pages : ℕ) (x : Board) (ok : FieldsOk pages x) where
   read-since =
       rw (board-fixed pages x ok sinceAt sinceSize (omega arith), fixed-since x)
       (numberOf-bytesOf sinceSize (x .working .since) (omega (arith, ok .since)))
-
-  pub read-place : byteAt (encodeBoard x) placeAt ≡ x .working .place
-  read-place = board-byte pages x ok placeAt (omega arith) ∙ fixed-place x
 
   -- ---- reading a frame: whole, its right, its bytes, one of them
 
@@ -226,11 +216,6 @@ module _ (pages : ℕ) (x : Board) (ok : FieldsOk pages x) where
       rw (slot-part i d h)
       (decode-encodeRecord pages (getD (x .working .log .records) i d) (each-getD (x .working .log .records) i d (ok .log .records) h))
 
-  -- ---- a write keeps the length
-
-  pub length-written : (a : ℕ) (v : List ℕ) → a + length v ≤ blockSize pages → length (splice (encodeBoard x) a v) ≡ blockSize pages
-  length-written a v h = length-splice (encodeBoard x) a v (rw (length-encodeBoard pages x ok) h) ∙ length-encodeBoard pages x ok
-
 -- ---- writing frames
 
 -- a splice in the frames
@@ -274,15 +259,6 @@ write-in-frame pages x p b a v f ok e h i k s =
     rw j at (write-frames pages x (λ gs. set gs p f) (p * frameSize + b) v ok (omega arith) q)
 
 module _ (pages : ℕ) (x : Board) (p : ℕ) (ok : FramesOk pages (x .working .frames)) (h : p < pages) where
-  -- its right alone
-  pub write-right : (r : Right) → splice (encodeBoard x) (framesAt + p * frameSize + rightAt) (rightByte r ∷ [])
-      ≡ encodeBoard (withFrame p (record { right = r; bytes = frameAt (x .working .frames) p .bytes }) x)
-  unfolding encodeFrame splice
-  write-right r =
-      write-in-frame pages x p rightAt (framesAt + p * frameSize + rightAt) (rightByte r ∷ [])
-      (record { right = r; bytes = frameAt (x .working .frames) p .bytes })
-      ok (frameOk-at (x .working .frames) p ok .size) h refl (omega arith) refl
-
   -- one of its bytes alone
   pub write-byte : (o v : ℕ) → o < pageSize
       → splice (encodeBoard x) (framesAt + p * frameSize + frameBytesAt + o) (v ∷ [])

@@ -13,17 +13,16 @@ use borrow.Author.Tests.{ne-eqb}
 use Rattle.words.specs.Bytes.{Each}
 use Rattle.types.specs.declared.Kind.the-variants.{Shown}
 use Rattle.types.specs.declared.Record.{Record}
-use Rattle.model.specs.Definitions.Parts.{splice, zeros}
-use Rattle.model.specs.Definitions.Layout.{slotCount, slotSize, noFuse, volatileCountAt, slotsAt}
+use Rattle.model.specs.Definitions.Parts.{zeros}
+use Rattle.model.specs.Definitions.Layout.{slotCount, slotSize, noFuse}
 use Rattle.model.specs.Definitions.Bank.{Log, Area, Board, onWorking}
-use Rattle.model.specs.Definitions.Codec.{encodeBoard}
 use Rattle.model.specs.Definitions.WellFormed.{RecordOk, LogOk, AreaOk, FieldsOk, RoomOk}
 use Rattle.model.specs.Definitions.Steps.{withFuse, burnt, appended, movedRecord, storedRecord}
 use Rattle.model.specs.Laws.Logic.{byBool, byEq}
 use Rattle.model.specs.Laws.Lists.{each-append, each-drop, each-take}
 use Rattle.model.specs.Laws.Fresh.{zeros-bytes, zeros-length}
 use Rattle.model.specs.Laws.BlockFields.{withLog, onWorking-fields}
-use Rattle.model.specs.Laws.BlockWorking.{flushedLog, flushedLog-none, next-record, next-working, flushed-bytes}
+use Rattle.model.specs.Laws.BlockWorking.{flushedLog, flushedLog-none, next-record, next-working}
 use Rattle.model.specs.Laws.BlockAreas.{withRecord}
 use Rattle.model.specs.Laws.BlockStable.{onSelected, onSelected-fields}
 
@@ -134,15 +133,6 @@ unfolding onWorking withLog flushing onSelected
 flushing-log j x h = rw (storedRecords-parts j x h)
 
 module _ (pages : ℕ) (x : Board) (ok : FieldsOk pages x) (room : RoomOk x) where
-  -- behind the last store the slots of all volatile records are zero and the count is 0
-  pub flushing-last : splice (splice (encodeBoard (flushing (length (x .working .log .records)) x)) (slotsAt pages) (zeros (length (x .working .log .records) * slotSize)))
-      volatileCountAt (0 ∷ [])
-      ≡ encodeBoard (storedRecords (length (x .working .log .records)) x)
-  unfolding flushing onSelected
-  flushing-last =
-      let n : ℕ = length (x .working .log .records) in
-      rw (storedRecords-parts n x (omega arith)) (flushed-bytes pages (flushing n x) (ok .frames) (ok .log))
-
   flushedLog-ok : (j : ℕ) → j ≤ length (x .working .log .records) → LogOk pages (flushedLog j (x .working .log))
   unfolding flushedLog
   flushedLog-ok j h =

@@ -1,7 +1,6 @@
 -- Restart, replay and the end of replay as writes into a board's block; frames that a loop replaces page by page. Assumes nothing.
-use mathlib.Core.Path.{_≡_, refl, sym, ap, _∙_}
+use mathlib.Core.Path.{_≡_, refl, sym, _∙_}
 use Prim.Native.Nat.{ℕ, suc, _+_, _*_, _≤_, _<_}
-use native.Mathlib.Nat.{le-of-lt}
 use native.Mathlib.Omega.{arith}
 use mathlib.Core.Bool.{Bool}
 use mathlib.Core.List.{List, [], _∷_, _++_, append-nil}
@@ -10,20 +9,14 @@ use lib.Seq.{drop-cons, take-suc, append-snoc, set-at, getD-at, take-all, length
 use Rattle.words.specs.LittleEndian.{bytesOf}
 use Rattle.types.specs.declared.Frame.{Frame}
 use Rattle.types.specs.declared.State.the-variants.{Up, Replaying}
-use Rattle.model.specs.Definitions.Parts.{part, splice, encodeAll, each}
-use Rattle.model.specs.Definitions.Layout.{pageSize, frameSize, numberSize, sinceSize, stateAt, numberAt, sinceAt, placeAt, framesAt, areaAt, areaSize, areaFramesAt}
+use Rattle.model.specs.Definitions.Parts.{splice, each}
+use Rattle.model.specs.Definitions.Layout.{pageSize, frameSize, numberSize, sinceSize, stateAt, numberAt, sinceAt, placeAt, framesAt}
 use Rattle.model.specs.Definitions.Bank.{Board, emptyFrame, frameAt, onWorking, onFrames}
-use Rattle.model.specs.Definitions.Codec.{encodeFrame, encodeArea, stateByte, selectorByte, encodeBoard}
+use Rattle.model.specs.Definitions.Codec.{encodeFrame, stateByte, encodeBoard}
 use Rattle.model.specs.Definitions.Steps.{withFrame}
 use Rattle.model.specs.Definitions.Replay.{loaded, used, settledFrame, settled}
 use Rattle.model.specs.Definitions.WellFormed.{FramesOk, FieldsOk}
 use Rattle.model.specs.Laws.Lists.{each-append, each-take, each-drop, each-each, length-each}
-use Rattle.model.specs.Laws.Logic.{byBool}
-use Rattle.model.specs.Laws.Parts.{part-part}
-use Rattle.model.specs.Laws.Codec.{area-frames}
-use Rattle.model.specs.Laws.CodecBank.{area0, area1, board-area0, board-area1}
-use Rattle.model.specs.Laws.Boards.{frameAt-each}
-use Rattle.model.specs.Laws.Keeps.Accesses.{frameOk-at}
 use Rattle.model.specs.Laws.BlockFields.{withState, withNumber, withSince, withPlace, write-state, write-number, write-since, write-place, write-frame, withState-fields, onWorking-fields}
 use Rattle.model.specs.Laws.Keeps.Replay.{frameOk-settled}
 
@@ -33,10 +26,6 @@ module _ {A : Type 0} where
   -- the first n elements as in another list
   unfoldable pub replaced : ℕ → List A → List A → List A
   replaced n gs fs = take n gs ++ drop n fs
-
-  pub replaced-none : (gs fs : List A) → replaced 0 gs fs ≡ fs
-  unfolding replaced
-  replaced-none gs fs = refl
 
   pub replaced-all : (n : ℕ) (gs fs : List A) → length gs ≡ n → length fs ≡ n → replaced n gs fs ≡ gs
   unfolding replaced
@@ -117,19 +106,6 @@ restarting x = onWorking (withPlace 0) (onWorking (withSince 0) (onWorking (with
 pub restarting-loaded : (x : Board) → onWorking (onFrames (λ fs. x .stable .selected .frames)) (restarting x) ≡ loaded x
 unfolding restarting withState withPlace withSince withNumber onWorking onFrames loaded
 restarting-loaded x = refl
-
-selected-area : (pages : ℕ) (x : Board) → FieldsOk pages x
-    → part (encodeBoard x) (areaAt pages (selectorByte (x .stable .second))) (areaSize pages) ≡ encodeArea (x .stable .selected)
-unfolding selectorByte area0 area1
-selected-area pages x ok = byBool (x .stable .second) (λ t. cc (board-area1 pages x ok)) (λ t. cc (board-area0 pages x ok))
-
--- the bytes of the selected area's frames
-selected-frames : (pages : ℕ) (x : Board) → FieldsOk pages x
-    → part (encodeBoard x) (areaAt pages (selectorByte (x .stable .second)) + areaFramesAt) (pages * frameSize)
-    ≡ encodeAll encodeFrame (x .stable .selected .frames)
-selected-frames pages x ok =
-    sym (part-part (encodeBoard x) (areaAt pages (selectorByte (x .stable .second))) (areaSize pages) areaFramesAt (pages * frameSize) (omega arith))
-    ∙ rw (selected-area pages x ok) (area-frames pages (x .stable .selected) (ok .selected))
 
 -- state, number, since, place
 abbrev pub restartWritten : Board → List ℕ
@@ -212,10 +188,6 @@ unfoldable pub settledFirst : (ℕ → Bool) → ℕ → Board → Board
 settledFirst owned p x = replacing p (settledFrames owned (x .working .frames)) (ending x)
 
 module _ (pages : ℕ) (owned : ℕ → Bool) (x : Board) (ok : FieldsOk pages x) where
-  pub settled-none : splice (splice (encodeBoard x) stateAt (stateByte Up ∷ [])) placeAt (0 ∷ []) ≡ encodeBoard (settledFirst owned 0 x)
-  unfolding settledFirst ending onWorking onFrames withState withPlace replaced
-  settled-none = rw (write-state x Up) (write-place (withState Up x) 0)
-
   pub settled-all : settledFirst owned pages x ≡ settled owned x
   unfolding settledFirst ending onWorking onFrames withState withPlace settled
   settled-all =
@@ -232,27 +204,3 @@ module _ (pages : ℕ) (owned : ℕ → Bool) (x : Board) (ok : FieldsOk pages x
   pub settledFirst-fields : (p : ℕ) → p ≤ pages → FieldsOk pages (settledFirst owned p x)
   unfolding settledFirst ending onWorking withState withPlace
   settledFirst-fields p h = replacing-fields pages (ending x) (settledFrames owned (x .working .frames)) (ok .frames) new ending-fields p h
-
-  module _ (p : ℕ) (h : p < pages) where
-    -- what frame p becomes
-    frame-settled : (t : Bool) → owned p ≡ t → settledFrame t (frameAt (x .working .frames) p) ≡ frameAt (settledFrames owned (x .working .frames)) p
-    frame-settled t e =
-        rw (← e) (sym (frameAt-each p (λ q f. settledFrame (owned q) f) (x .working .frames) (omega (arith, ok .frames .count))))
-
-    -- frame p as the end leaves it, put in where the first p are
-    settled-next : (f : Frame) → f ≡ frameAt (settledFrames owned (x .working .frames)) p → withFrame p f (settledFirst owned p x) ≡ settledFirst owned (suc p) x
-    unfolding settledFirst ending onWorking withState withPlace
-    settled-next f e = replacing-next pages (ending x) (settledFrames owned (x .working .frames)) (ok .frames) new p h f e
-
-    abbrev framesIn : FramesOk pages (settledFirst owned p x .working .frames)
-    framesIn = settledFirst-fields p (le-of-lt h) .frames
-
-    -- the frame of page p written whole
-    pub settled-frame : splice (encodeBoard (settledFirst owned p x)) (framesAt + p * frameSize)
-        (encodeFrame (settledFrame (owned p) (frameAt (x .working .frames) p)))
-        ≡ encodeBoard (settledFirst owned (suc p) x)
-    settled-frame =
-        let f : Frame = frameAt (x .working .frames) p in
-        write-frame pages (settledFirst owned p x) p (settledFrame (owned p) f) framesIn
-        (frameOk-settled (owned p) f (frameOk-at (x .working .frames) p (ok .frames)) .size) h
-        ∙ ap encodeBoard (settled-next (settledFrame (owned p) f) (frame-settled (owned p) refl))

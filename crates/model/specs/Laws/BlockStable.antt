@@ -8,7 +8,7 @@ use mathlib.Core.Bool.{Bool, true, false, not}
 use mathlib.Core.List.{List, [], _∷_, _++_, append-assoc, append-nil}
 use lib.ListN.{length, length-append}
 use lib.Dec.{eqb}
-use Rattle.words.specs.LittleEndian.{bytesOf, numberOf}
+use Rattle.words.specs.LittleEndian.{bytesOf}
 use Rattle.types.specs.declared.Frame.{Frame}
 use Rattle.types.specs.declared.Record.{Record}
 use Rattle.model.specs.Definitions.Parts.{part, splice, byteAt, encodeAll}
@@ -17,12 +17,12 @@ use Rattle.model.specs.Definitions.Bank.{Area, Stable, Board, frameAt, o
 use Rattle.model.specs.Definitions.Codec.{encodeFrame, encodeRecord, encodeLog, encodeArea, stateByte, selectorByte, encodeFixed, encodeStable, encodeBoard}
 use Rattle.model.specs.Definitions.WellFormed.{FrameOk, RecordOk, AreaOk, FieldsOk}
 use Rattle.model.specs.Definitions.Steps.{storedFrame, storedHead, storedSelector}
-use Rattle.model.specs.Laws.Parts.{length-part, part-append-right, part-front, part-end, part-part, length-splice, part-splice, splice-append-right, splice-front, splice-at, splice-within, splice-again, byteAt-part, index-in}
-use Rattle.model.specs.Laws.Codec.{areaHead, length-areaHead, length-encodeArea, area-count, length-encodeFrames, length-encodeFrame, length-encodeRecord, length-encodeLog}
+use Rattle.model.specs.Laws.Parts.{length-part, part-append-right, part-front, part-end, length-splice, part-splice, splice-append-right, splice-front, splice-at, splice-within, splice-again, index-in}
+use Rattle.model.specs.Laws.Codec.{areaHead, length-areaHead, length-encodeArea, length-encodeFrames, length-encodeFrame, length-encodeRecord, length-encodeLog}
 use Rattle.model.specs.Laws.CodecBank.{length-encodeFixed, length-encodeBoard, eqb-selectorByte}
 use Rattle.model.specs.Laws.Keeps.Accesses.{frameOk-at}
 use Rattle.model.specs.Laws.BlockFields.{read-selector}
-use Rattle.model.specs.Laws.BlockAreas.{area-number-read, withRecord, withAreaFrame, withHead, write-areaRecord, write-areaFrame, write-areaHead, areaOk-record, areaOk-frame, areaOk-head}
+use Rattle.model.specs.Laws.BlockAreas.{withRecord, withAreaFrame, withHead, write-areaRecord, write-areaFrame, write-areaHead, areaOk-record, areaOk-frame, areaOk-head}
 
 -- ---- a part changed by two splices and put back
 
@@ -171,22 +171,8 @@ module _ (pages : ℕ) (x : Board) (ok : FieldsOk pages x) where
       ≡ encodeBoard (onSpare f x)
   write-spare-part f g e w = rw (spare-part, e) (write-spare f w)
 
-  -- ---- the selected area read off the block
-
   fits-in : (second : Bool) → areaAt pages (selectorByte second) + areaSize pages ≤ length (encodeBoard x)
   fits-in second = rw (length-encodeBoard pages x ok) (area-in pages second)
-
-  -- a field of the selected area
-  pub selected-field : (b n : ℕ) → b + n ≤ areaSize pages
-      → part (encodeBoard x) (areaAt pages (selectorByte (x .stable .second)) + b) n ≡ part (encodeArea (x .stable .selected)) b n
-  selected-field b n h = sym (part-part l selectedPlace (areaSize pages) b n h) ∙ rw selected-part
-
-  pub selected-number : numberOf (part (encodeBoard x) (areaAt pages (selectorByte (x .stable .second)) + areaNumberAt) numberSize) ≡ x .stable .selected .number
-  selected-number = rw (selected-field areaNumberAt numberSize (omega arith)) (area-number-read pages (t .selected) (ok .selected))
-
-  pub selected-count : byteAt (encodeBoard x) (areaAt pages (selectorByte (x .stable .second)) + areaCountAt) ≡ length (x .stable .selected .log .records)
-  selected-count =
-      sym (byteAt-part l selectedPlace (areaSize pages) areaCountAt (omega arith)) ∙ rw selected-part (area-count pages (t .selected) (ok .selected))
 
   -- ---- the stores: each through the area's own part of the block, and as splices of the block
 

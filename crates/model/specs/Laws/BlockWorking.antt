@@ -14,10 +14,10 @@ use Rattle.types.specs.declared.Kind.{Kind}
 use Rattle.types.specs.declared.Record.{Record}
 use Rattle.types.specs.declared.State.the-variants.{Down}
 use Rattle.model.specs.Definitions.Parts.{splice, zeros, encodeAll}
-use Rattle.model.specs.Definitions.Layout.{pageSize, slotCount, noFuse, lastSince, lastNumber, frameSize, frameBytesAt, slotSize, slotsSize, fuseSize, numberSize, sinceSize, stateAt, fuseAt, numberAt, sinceAt, placeAt, volatileCountAt, framesAt, slotsAt}
+use Rattle.model.specs.Definitions.Layout.{slotCount, noFuse, lastSince, lastNumber, frameSize, slotSize, slotsSize, fuseSize, numberSize, sinceSize, stateAt, fuseAt, numberAt, sinceAt, placeAt, volatileCountAt, framesAt, slotsAt}
 use Rattle.model.specs.Definitions.Bank.{Log, Board, emptyFrame, emptyLog, onWorking, onFrames}
 use Rattle.model.specs.Definitions.Codec.{rightByte, encodeFrame, encodeRecord, encodeLog, stateByte, encodeBoard}
-use Rattle.model.specs.Definitions.Steps.{poweredOff, withFuse, burnt, appended, recorded, movedRecord, storedRecord, restedWorking, Access, Read, Write, cellsWritten, withBytes, accessed, withFrame}
+use Rattle.model.specs.Definitions.Steps.{poweredOff, withFuse, burnt, appended, recorded, movedRecord, storedRecord, restedWorking, Access, Read, cellsWritten, withBytes, accessed}
 use Rattle.model.specs.Definitions.WellFormed.{RecordOk, LogOk, FramesOk, FieldsOk}
 use Rattle.model.specs.Laws.Parts.{splice-front, splice-append-right, splice-apart, splice-next}
 use Rattle.model.specs.Laws.Codec.{length-encodeRecord, length-encodeRecords, length-encodeLog}
@@ -26,7 +26,7 @@ use Rattle.model.specs.Laws.Lists.{each-map}
 use Rattle.model.specs.Laws.Keeps.Stores.{frameOk-empty}
 use Rattle.model.specs.Laws.Keeps.Accesses.{Writable, framesOk-withBytes}
 use Rattle.model.specs.Laws.Fresh.{zeros-length, emptyLog-ok}
-use Rattle.model.specs.Laws.BlockFields.{withState, withNumber, withSince, withPlace, withLog, write-state, write-fuse, write-number, write-since, write-place, write-count, write-frame, write-byte, write-slots, write-all-frames, write-all-slots, fixed-inside, frames-inside, onWorking-fields}
+use Rattle.model.specs.Laws.BlockFields.{withState, withNumber, withSince, withPlace, withLog, write-state, write-fuse, write-number, write-since, write-place, write-count, write-slots, write-all-frames, write-all-slots, fixed-inside, frames-inside, onWorking-fields}
 
 -- ---- zero bytes
 
@@ -102,14 +102,7 @@ module _ (pages : ℕ) (x : Board) (ok : FieldsOk pages x) (kind : Kind) (bytes 
       )
       (write-since (onWorking (withLog (appended r g)) y) 0)
 
-  -- and a frame exchanged, as in a fetch
-  pub recorded-frame : (p : ℕ) (f : Frame) → p < pages → length (f .bytes) ≡ pageSize
-      → splice (recordWritten pages (noted kind bytes x) x) (framesAt + p * frameSize) (encodeFrame f)
-      ≡ encodeBoard (withFrame p f (onWorking (recorded kind bytes) x))
-  unfolding onWorking recorded
-  recorded-frame p f h e = rw recorded-bytes (write-frame pages (onWorking (recorded kind bytes) x) p f (ok .frames) e h)
-
--- ---- an access: the two counters and, for a write, one byte
+-- ---- an access: the two counters
 
 abbrev pub countersWritten : Board → List ℕ
 countersWritten x =
@@ -126,12 +119,6 @@ counted-bytes x =
 pub accessed-read : (x : Board) (p o : ℕ) → countersWritten x ≡ encodeBoard (onWorking (accessed (Read p o)) x)
 unfolding onWorking withNumber withSince accessed withBytes cellsWritten counted
 accessed-read x p o = counted-bytes x
-
-module _ (pages : ℕ) (x : Board) (ok : FieldsOk pages x) (p : ℕ) (h : p < pages) where
-  pub accessed-write : (o v : ℕ) → o < pageSize
-      → splice (countersWritten x) (framesAt + p * frameSize + frameBytesAt + o) (v ∷ []) ≡ encodeBoard (onWorking (accessed (Write p o v)) x)
-  unfolding onWorking withNumber withSince onFrames accessed withBytes cellsWritten counted
-  accessed-write o v k = rw (counted-bytes x) (write-byte pages (counted x) p (ok .frames) h o v k)
 
 pub accessed-fields : {pages : ℕ} {x : Board} → FieldsOk pages x → (a : Access) → Writable (x .working .frames) (cellsWritten a)
     → x .working .number < lastNumber → x .working .since < lastSince → FieldsOk pages (onWorking (accessed a) x)

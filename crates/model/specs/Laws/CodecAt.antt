@@ -3,31 +3,25 @@
 use mathlib.Core.Path.{_≡_, refl, sym, ap, _∙_}
 use Prim.Native.Nat.{ℕ, _+_, _*_, _≤_, _<_}
 use native.Mathlib.Omega.{arith}
-use mathlib.Core.Bool.{true}
 use mathlib.Core.List.{List, [], _∷_, _++_, append-assoc}
 use lib.ListN.{length, getD, set, drop}
 use lib.Seq.{drop-drop}
 use Rattle.words.specs.Bytes.{Each}
 use Rattle.types.specs.declared.Frame.{Frame}
 use Rattle.types.specs.declared.Record.{Record}
-use Rattle.model.specs.Definitions.Parts.{part, splice, byteAt, encodeAll}
-use Rattle.model.specs.Definitions.Layout.{slotCount, slotsSize, frameSize, slotSize, entrySize, blockSize, headSize, boardsAt, pagesAt, blocksAt}
+use Rattle.model.specs.Definitions.Parts.{part, splice, encodeAll}
+use Rattle.model.specs.Definitions.Layout.{slotCount, slotsSize, frameSize, slotSize, entrySize, blockSize, headSize, blocksAt}
 use Rattle.model.specs.Definitions.Bank.{Entry, Log, Board, Bank, emptyFrame, noBoard, boardAt, entryAt, frameAt, onBoard, onEntry}
-use Rattle.model.specs.Definitions.Codec.{encodeEntry, decodeEntry, encodeFrame, decodeFrame, encodeRecord, decodeRecord, encodeLog, decodeLog, decodeFrames, encodeBoard, encode, decode}
-use Rattle.model.specs.Definitions.WellFormed.{FrameOk, RecordOk, FramesOk, wellFormed}
+use Rattle.model.specs.Definitions.Codec.{encodeEntry, encodeFrame, decodeFrame, encodeRecord, decodeRecord, encodeLog, decodeLog, decodeFrames, encodeBoard, encode}
+use Rattle.model.specs.Definitions.WellFormed.{FrameOk, RecordOk, FramesOk}
 use Rattle.model.specs.Definitions.Steps.{appended}
 use Rattle.model.specs.Laws.Lists.{each-imp, update-set, length-update}
 use Rattle.model.specs.Laws.Parts.{Wide, length-part, part-part, part-splice-within, index-in, each-all, getD-decodeAll, getD-decodeAll-part, decodeAll-snoc, decodeAll-write, decodeAll-part-splice, encodeAll-set, encodeAll-snoc, drop-splice-after, splice-zero, splice-append-right, splice-amid, splice-behind}
 use Rattle.model.specs.Laws.CodecBank.{bankHead, length-encodeEntries}
 use Rattle.model.specs.Laws.CodecBack.{slot-in}
-use Rattle.model.specs.Laws.CodecBankBack.{bytes-ok, decode-boards, decode-pages, wide-boards, encode-decode}
 use Rattle.model.specs.Laws.Codec.{length-encodeEntry, length-encodeFrame, decode-encodeFrame, length-encodeRecord, decode-encodeRecord, length-encodeRecords}
 
 -- ---- frames: any page, in the bytes of the frames, or of frames that start at place a of a longer list
-
-pub frame-read : (pages : ℕ) (l : List ℕ) (p : ℕ) → p < pages → frameAt (decodeFrames pages l) p ≡ decodeFrame (part l (p * frameSize) frameSize)
-unfolding frameAt decodeFrames
-frame-read pages l p h = getD-decodeAll decodeFrame frameSize pages l p emptyFrame h
 
 pub frame-read-at : (pages : ℕ) (l : List ℕ) (a p : ℕ) → p < pages
     → frameAt (decodeFrames pages (part l a (pages * frameSize))) p ≡ decodeFrame (part l (a + p * frameSize) frameSize)
@@ -133,10 +127,6 @@ encode-appended pages r l ok all =
 
 -- ---- entries and blocks: any page, any board
 
-pub entry-read : (s : List ℕ) (p : ℕ) → p < byteAt s pagesAt → entryAt (decode s) p ≡ decodeEntry (part s (headSize + p * entrySize) entrySize)
-unfolding entryAt decode
-entry-read s p h = getD-decodeAll-part decodeEntry entrySize (byteAt s pagesAt) s headSize p (record { owner = 0; copies = 0 }) h
-
 -- one entry changed is one splice
 pub encode-onEntry : (k : Bank) (p : ℕ) (f : Entry → Entry) → p < length (k .directory)
     → encode (onEntry p f k) ≡ splice (encode k) (headSize + p * entrySize) (encodeEntry (f (entryAt k p)))
@@ -168,15 +158,3 @@ encode-onBoard k b f h all e =
     rw (length-update b f (k .boards), update-set b f (k .boards) noBoard h, encodeAll-set encodeBoard (blockSize pages) (k .boards) b x all e h)
     (sym (splice-behind (bankHead k) (encodeAll encodeEntry (k .directory)) (encodeAll encodeBoard (k .boards))
     (blocksAt pages + b * blockSize pages) (b * blockSize pages) (encodeBoard x) (omega arith)))
-
--- the same of bytes that are well formed: the block of board b is spliced, all else stays
-pub encode-onBoard-bytes : (s : List ℕ) (b : ℕ) (f : Board → Board) → wellFormed s ≡ true → b < byteAt s boardsAt
-    → length (encodeBoard (f (boardAt (decode s) b))) ≡ blockSize (byteAt s pagesAt)
-    → encode (onBoard b f (decode s)) ≡ splice s (blocksAt (byteAt s pagesAt) + b * blockSize (byteAt s pagesAt)) (encodeBoard (f (boardAt (decode s) b)))
-encode-onBoard-bytes s b f v h e =
-    rw (decode-pages s, encode-decode s v)
-    at (encode-onBoard (decode s) b f (rw (decode-boards s) h) (rw (decode-pages s) (wide-boards s (bytes-ok s v))) (rw (decode-pages s) e))
-
-pub encode-onEntry-bytes : (s : List ℕ) (p : ℕ) (f : Entry → Entry) → wellFormed s ≡ true → p < byteAt s pagesAt
-    → encode (onEntry p f (decode s)) ≡ splice s (headSize + p * entrySize) (encodeEntry (f (entryAt (decode s) p)))
-encode-onEntry-bytes s p f v h = rw (encode-decode s v) at (encode-onEntry (decode s) p f (rw (decode-pages s) h))

@@ -54,7 +54,7 @@ eqb-selectorByte false = refl
 
 module _ (x : Board) where
   -- the bytes before the fuse
-  abbrev switches : List ℕ
+  abbrev pub switches : List ℕ
   switches = stateByte (x .state) ∷ selectorByte (x .stable .second) ∷ []
 
   pub length-encodeFixed : length (encodeFixed x) ≡ framesAt

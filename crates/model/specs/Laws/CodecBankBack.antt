@@ -8,15 +8,15 @@ use mathlib.Core.List.{List, [], _∷_}
 use lib.ListN.{length, drop, length-drop, drop-of-length-le}
 use lib.Dec.{ltb}
 use borrow.Author.Tests.{leb-true, ltb-true, eqb-true}
-use Rattle.words.specs.Bytes.{Each, Bytes}
+use Rattle.words.specs.Bytes.{Bytes}
 use Rattle.model.specs.Definitions.Parts.{part, byteAt, encodeAll, decodeAll, every, everyBelow}
 use Rattle.model.specs.Definitions.Layout.{byteValues, ownerAt, copiesAt, mostBoards, mostPages, entrySize, blockSize, headMark0, headMark1, headSize, boardsAt, pagesAt, blocksAt, bankSize}
 use Rattle.model.specs.Definitions.Bank.{boardAt, noBoard}
 use Rattle.model.specs.Definitions.Codec.{encodeEntry, decodeEntry, encodeBoard, decodeBoard, encode, decode}
 use Rattle.model.specs.Definitions.WellFormed.{blockReadable, entryValid, headValid, blockOf, blockValid, wellFormed}
 use Rattle.model.specs.Laws.Logic.{clash, byBool, and-left, and-right}
-use Rattle.model.specs.Laws.Lists.{each-of-getD, everyBelow-at, every-each}
-use Rattle.model.specs.Laws.Parts.{Wide, getD-decodeAll, each-part, length-part, part-rest, part-drop, byte-rest, index-in, encodeAll-decodeAll-all, length-decodeAll}
+use Rattle.model.specs.Laws.Lists.{everyBelow-at, every-each}
+use Rattle.model.specs.Laws.Parts.{getD-decodeAll, each-part, length-part, part-rest, part-drop, byte-rest, index-in, encodeAll-decodeAll-all, length-decodeAll}
 use Rattle.model.specs.Laws.CodecBack.{encode-decodeBoard}
 
 -- ---- what the test says
@@ -134,16 +134,6 @@ module _ (s : List ℕ) (ok : BytesOk s) where
   pub block-back : (b : ℕ) → b < byteAt s boardsAt → encodeBoard (decodeBoard (byteAt s pagesAt) (blockOf s b)) ≡ blockOf s b
   block-back b h =
       encode-decodeBoard (byteAt s pagesAt) (blockOf s b) (blockValid-readable s b (ok .blocks b h)) (bytes-blockOf b) (length-blockOf b h)
-
-  pub wide-boards : Each (Wide encodeBoard (blockSize (byteAt s pagesAt))) (decode s .boards)
-  unfolding boardAt
-  wide-boards =
-      each-of-getD (decode s .boards) noBoard
-      (λ b h.
-      let i : b < byteAt s boardsAt = rw (decode-boards s) at h in
-      let e : length (encodeBoard (boardAt (decode s) b)) ≡ blockSize (byteAt s pagesAt)
-      = rw (board-read s b i, block-back b i) (length-blockOf b i) in
-      e)
 
   pub encode-decodeBoards : encodeAll encodeBoard (decode s .boards) ≡ drop (blocksAt (byteAt s pagesAt)) s
   unfolding decode

@@ -1,5 +1,6 @@
 -- Document 01's table "Codes", checked: on any bytes a call answers the code of the first row that holds, and 0 where none does; who and value as the
 -- table says. `codes` is the theorem, what follows it reads it code by code. Assumes nothing.
+pub mod Statement
 pub mod Order
 pub mod Tests
 pub mod Needs
@@ -23,13 +24,13 @@ use Rattle.types.specs.declared.Answer.the-variants.{Done, Malformed, OutOfRang
 use Rattle.model.specs.Definitions.Layout.{mostBoards, mostPages, bankSize}
 use Rattle.model.specs.Definitions.Bank.{Bank}
 use Rattle.model.specs.Definitions.Codec.{decode}
-use Rattle.model.specs.Definitions.WellFormed.{WellFormed, WellFormedBytes, wellFormed}
+use Rattle.model.specs.Definitions.WellFormed.{WellFormed, WellFormedBytes, wellFormed, sizesAllowed}
 use Rattle.model.specs.Definitions.Answers.{code, value, who}
 use Rattle.model.specs.Definitions.Calls.{Call, callBank, Reply, refused, replyOf, call, make}
 use Rattle.model.specs.Laws.Logic.{cases, clash}
 use Rattle.model.specs.Laws.WellFormedTest.{wellFormed-sound, wellFormed-iff}
 use Rattle.model.specs.Laws.Tests.{Says}
-use Rattle.model.specs.Laws.Table.{Row, First, NoRow, WhoIn, OfAccess, boardOf, NumbersOut, StateOut, CountersOut, ReplayOut, OwnerOut, RoomOut, Live, ownerOf, LowestShort, LosesPower, refusalRows, table, SizesOut, LengthOut}
+use Rattle.model.specs.Laws.Codes.Statement.{Row, First, NoRow, WhoIn, OfAccess, boardOf, NumbersOut, StateOut, CountersOut, ReplayOut, OwnerOut, RoomOut, Live, ownerOf, LowestShort, LosesPower, refusalRows, table, SizesOut, LengthOut}
 use Rattle.model.specs.Laws.Codes.Order.{never, fails, refuted, says-not-and, says-not-pos, says-not-le, Judged, byRow, IsDone, judged-nil, judged-past, judged-append, judged-code, judged-done, judged-who, judged-value}
 use Rattle.model.specs.Laws.Codes.Rows.{Ran, rows-judged}
 use Rattle.model.specs.Laws.Codes.Losses.{loses-power}
@@ -201,7 +202,7 @@ module _ (c : Call) (s : List ℕ) where
 
 -- ==== making a bank: 2 before 1
 
-in-sizes : (boards pages : ℕ) → Says (not (ltb 0 boards && (leb boards mostBoards && (ltb 0 pages && leb pages mostPages)))) (SizesOut boards pages)
+in-sizes : (boards pages : ℕ) → Says (not (sizesAllowed boards pages)) (SizesOut boards pages)
 in-sizes boards pages =
     says-not-and (ltb 0 boards) (leb boards mostBoards && (ltb 0 pages && leb pages mostPages)) (says-not-pos boards)
     (says-not-and (leb boards mostBoards) (ltb 0 pages && leb pages mostPages) (says-not-le boards mostBoards)
@@ -218,9 +219,9 @@ pub record MakeCodes (boards pages : ℕ) (s : List ℕ) (x : Answer) : Type 0 w
 pub make-codes : (boards pages : ℕ) (s : List ℕ) → MakeCodes boards pages s (make boards pages s .outcome .answer)
 unfolding make refused code who value
 make-codes boards pages s =
-    let d : Says (not (ltb 0 boards && (leb boards mostBoards && (ltb 0 pages && leb pages mostPages)))) (SizesOut boards pages) = in-sizes boards pages in
+    let d : Says (not (sizesAllowed boards pages)) (SizesOut boards pages) = in-sizes boards pages in
     let P : Reply → Type 0 = λ (y : Reply). MakeCodes boards pages s (y .outcome .answer) in
-    cases P (ltb 0 boards && (leb boards mostBoards && (ltb 0 pages && leb pages mostPages)))
+    cases P (sizesAllowed boards pages)
     (λ t.
     let n : ¬ SizesOut boards pages = fails d (rw t) in
     cases P (eqb (length s) (bankSize boards pages))

@@ -4,10 +4,10 @@ use mathlib.Core.Path.{_≡_, refl}
 use Prim.Native.Nat.{ℕ, _+_, _*_, _%_, _≤_, _<_}
 use native.Mathlib.Nat.{mod-lt, one-le-pow}
 use native.Mathlib.Omega.{arith}
-use mathlib.Core.Bool.{true, _&&_}
+use mathlib.Core.Bool.{true}
 use mathlib.Core.List.{List}
 use lib.ListN.{length, length-replicate}
-use lib.Dec.{eqb, ltb, leb, lit<, lit≤}
+use lib.Dec.{eqb, lit<, lit≤}
 use Rattle.words.specs.Bytes.{Each, each-nil, Bytes}
 use Rattle.types.specs.declared.Right.{Right}
 use Rattle.types.specs.declared.Right.the-variants.{None, Own}
@@ -15,7 +15,7 @@ use Rattle.types.specs.declared.Answer.the-variants.{Done}
 use Rattle.model.specs.Definitions.Parts.{zeros}
 use Rattle.model.specs.Definitions.Layout.{mostBoards, mostPages, pageSize, slotsSize, bankSize}
 use Rattle.model.specs.Definitions.Bank.{boardAt, entryAt, frameAt, emptyFrame, emptyLog, noBoard, freshFrames, freshBoard, fresh}
-use Rattle.model.specs.Definitions.WellFormed.{FrameOk, LogOk, FramesOk, AreaOk, FieldsOk, PlaceOk, rightIn, BoardOk, EntryOk, WellFormed, wellFormed}
+use Rattle.model.specs.Definitions.WellFormed.{SizesOk, FrameOk, LogOk, FramesOk, AreaOk, FieldsOk, PlaceOk, rightIn, BoardOk, EntryOk, WellFormed, wellFormed, sizesAllowed}
 use Rattle.model.specs.Definitions.Codec.{encode}
 use Rattle.model.specs.Definitions.Calls.{Reply, refused, make}
 use Rattle.model.specs.Laws.Logic.{cases, byBool}
@@ -133,13 +133,19 @@ fresh-length n p h₀ h₁ h₂ h₃ =
 pub fresh-bytes : (n p : ℕ) → 0 < n → n ≤ mostBoards → 0 < p → p ≤ mostPages → wellFormed (encode (fresh n p)) ≡ true
 fresh-bytes n p h₀ h₁ h₂ h₃ = wellFormed-complete (fresh n p) (fresh-wellFormed n p h₀ h₁ h₂ h₃)
 
+-- what the test of the sizes says
+pub sizes-say : (boards pages : ℕ) → sizesAllowed boards pages ≡ true → SizesOk boards pages
+sizes-say boards pages h =
+    let ok = says-and (says-lt 0 boards) (says-and (says-le boards mostBoards) (says-and (says-lt 0 pages) (says-le pages mostPages))) .0 h in
+    record { someBoard = ok .0; boards = ok .1 .0; somePage = ok .1 .1 .0; pages = ok .1 .1 .1 }
+
 -- a make that is not refused leaves a bank that every call takes
 pub make-wellFormed : (n p : ℕ) (s : List ℕ) (v : ℕ) → make n p s .outcome .answer ≡ Done v → wellFormed (make n p s .bytes) ≡ true
 unfolding make refused
 make-wellFormed n p s v h =
     let P : Reply → Type 0 = λ r. r .outcome .answer ≡ Done v → wellFormed (r .bytes) ≡ true in
     let sizes = says-and (says-lt 0 n) (says-and (says-le n mostBoards) (says-and (says-lt 0 p) (says-le p mostPages))) in
-    cases P (ltb 0 n && (leb n mostBoards && (ltb 0 p && leb p mostPages)))
+    cases P (sizesAllowed n p)
     (λ t.
     cases P (eqb (length s) (bankSize n p))
     (λ _ _. let ok = sizes .0 t in fresh-bytes n p (ok .0) (ok .1 .0) (ok .1 .1 .0) (ok .1 .1 .1))

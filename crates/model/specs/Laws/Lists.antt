@@ -114,23 +114,9 @@ module _ {A : Type 0} where
     each-set (x ∷ xs) zero a e p = each-cons p (each-tail e)
     each-set (x ∷ xs) (suc i) a e p = each-cons (each-head e) (each-set xs i a (each-tail e) p)
 
-    pub each-update : (i : ℕ) (f : A → A) (xs : List A) → Each P xs → ((x : A) → P x → P (f x)) → Each P (update i f xs)
-    unfolding update
-    each-update i f [] e p = each-nil
-    each-update zero f (x ∷ xs) e p = each-cons (p x (each-head e)) (each-tail e)
-    each-update (suc i) f (x ∷ xs) e p = each-cons (each-head e) (each-update i f xs (each-tail e) p)
-
     pub each-append : (xs ys : List A) → Each P xs → Each P ys → Each P (xs ++ ys)
     each-append [] ys e d = d
     each-append (x ∷ xs) ys e d = each-cons (each-head e) (each-append xs ys (each-tail e) d)
-
-    pub each-append-left : (xs ys : List A) → Each P (xs ++ ys) → Each P xs
-    each-append-left [] ys e = each-nil
-    each-append-left (x ∷ xs) ys e = each-cons (each-head e) (each-append-left xs ys (each-tail e))
-
-    pub each-append-right : (xs ys : List A) → Each P (xs ++ ys) → Each P ys
-    each-append-right [] ys e = e
-    each-append-right (x ∷ xs) ys e = each-append-right xs ys (each-tail e)
 
     pub each-drop : (n : ℕ) (xs : List A) → Each P xs → Each P (drop n xs)
     each-drop zero xs e = e

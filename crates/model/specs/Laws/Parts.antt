@@ -186,10 +186,6 @@ module _ {ℓ} {A : Type ℓ} where
 
   -- ---- two splices
 
-  pub splice-part : (l : List A) (a n : ℕ) → a + n ≤ length l → splice l a (part l a n) ≡ l
-  unfolding splice
-  splice-part l a n h = rw (length-part l a n h) (split-part l a n)
-
   pub splice-again : (l : List A) (a : ℕ) (v w : List A) → length v ≡ length w → a ≤ length l → splice (splice l a v) a w ≡ splice l a w
   splice-again l a v w e h =
       rw (splice-of l a v (length v) refl, splice-of l a w (length v) (sym e))
@@ -248,9 +244,6 @@ same-byte l m i e = byteAt-first l i 1 (omega arith) ∙ rw e (sym (byteAt-first
 
 pub byteAt-splice-before : (l : List ℕ) (a : ℕ) (v : List ℕ) (i : ℕ) → i < a → a ≤ length l → byteAt (splice l a v) i ≡ byteAt l i
 byteAt-splice-before l a v i h k = same-byte (splice l a v) l i (part-splice-before l a v i 1 (omega arith) k)
-
-pub byteAt-splice : (l : List ℕ) (a : ℕ) (v : List ℕ) (i : ℕ) → i < length v → a ≤ length l → byteAt (splice l a v) (a + i) ≡ byteAt v i
-byteAt-splice l a v i h k = sym (byteAt-part (splice l a v) a (length v) i h) ∙ rw (part-splice l a (length v) v refl k)
 
 -- ==== what holds of every element
 

@@ -4,16 +4,15 @@ use mathlib.Core.Path.{_≡_, refl, sym, ap, _∙_}
 use mathlib.Core.Logic.{_≢_, _⊎_, inl, inr}
 use Prim.Native.Nat.{ℕ, zero, suc, _+_, _≤_}
 use native.Mathlib.Omega.{arith}
-use mathlib.Core.Bool.{_&&_}
 use mathlib.Core.Option.{none}
 use mathlib.Core.List.{List}
 use lib.ListN.{length}
-use lib.Dec.{eqb, ltb, leb}
+use lib.Dec.{eqb}
 use Rattle.types.specs.declared.State.the-variants.{Replaying}
-use Rattle.model.specs.Definitions.Layout.{mostBoards, mostPages, bankSize}
+use Rattle.model.specs.Definitions.Layout.{bankSize}
 use Rattle.model.specs.Definitions.Bank.{Board, Bank, boardAt, entryAt, onBoard, onWorking}
 use Rattle.model.specs.Definitions.Codec.{encode, decode}
-use Rattle.model.specs.Definitions.WellFormed.{wellFormed}
+use Rattle.model.specs.Definitions.WellFormed.{wellFormed, sizesAllowed}
 use Rattle.model.specs.Definitions.Answers.{code}
 use Rattle.model.specs.Definitions.Steps.{Run, start, step, store, storedFrame, storedHead, storedSelector, restedWorking, storeFrames, checkpoint, Access, Read, Write}
 use Rattle.model.specs.Definitions.Replay.{tookDue, settled, endReplay}
@@ -21,7 +20,7 @@ use Rattle.model.specs.Definitions.Calls.{Result, finished, refused, Cal
 use Rattle.model.specs.Laws.Logic.{cases, casesOption}
 use Rattle.model.specs.Laws.CodecBankBack.{encode-decode}
 use Rattle.model.specs.Laws.Runs.{lost-not, step-cases, step-none, store-cases, follows-none, follows-storeFrames}
-use Rattle.model.specs.Laws.Table.{OfAccess, boardOf, afterReplay}
+use Rattle.model.specs.Laws.Codes.Statement.{OfAccess, boardOf, afterReplay}
 use Rattle.model.specs.Laws.Codes.{answerTo}
 use Rattle.model.specs.Laws.Codes.Ends.{Ends, refusedFirst, refusedLate, ran, ReplayEnd, LateIn, call-ended}
 
@@ -128,7 +127,7 @@ pub make-refusal-keeps : (boards pages : ℕ) (s : List ℕ) → code (make boar
 unfolding make refused code
 make-refusal-keeps boards pages s =
     let P : Reply → Type 0 = λ (y : Reply). code (y .outcome .answer) ≢ 0 → Kept s y in
-    cases P (ltb 0 boards && (leb boards mostBoards && (ltb 0 pages && leb pages mostPages)))
+    cases P (sizesAllowed boards pages)
     (λ t.
     cases P (eqb (length s) (bankSize boards pages))
     (λ e n. absurd (n refl))

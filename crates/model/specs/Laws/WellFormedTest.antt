@@ -97,11 +97,11 @@ module _ (k : Bank) (w : WellFormed k) where
   head-of : headValid (encode k) ≡ true
   unfolding headValid encode byteAt
   head-of =
-      and-both (lt-ltb 0 (length (k .boards)) (w .sizes .someBoard))
+      and-both
+      (and-both (lt-ltb 0 (length (k .boards)) (w .sizes .someBoard))
       (and-both (le-leb (length (k .boards)) mostBoards (w .sizes .boards))
-      (and-both (lt-ltb 0 (length (k .directory)) (w .sizes .somePage))
-      (and-both (le-leb (length (k .directory)) mostPages (w .sizes .pages))
-      (eq-eqb (length (encode k)) (bankSize (length (k .boards)) (length (k .directory))) (length-encode k fields-of)))))
+      (and-both (lt-ltb 0 (length (k .directory)) (w .sizes .somePage)) (le-leb (length (k .directory)) mostPages (w .sizes .pages)))))
+      (eq-eqb (length (encode k)) (bankSize (length (k .boards)) (length (k .directory))) (length-encode k fields-of))
 
   block-of : (b : ℕ) → b < length (k .boards) → blockValid (encode k) b ≡ true
   unfolding blockValid

@@ -1,8 +1,8 @@
 -- Document 01, "Line runner": "Lines: N n p; R b p o; W b p o v; C b (checkpoint); K b (cut); F b k; S b (restart). One space, .., at most 64 bytes."
 -- What a line's bytes, without the byte 10 that ends it, ask for. Assumes nothing.
 use Prim.Native.Nat.{ℕ}
-use mathlib.Core.Bool.{Bool, true, false}
-use mathlib.Core.List.{List, [], _∷_, _++_}
+use mathlib.Core.Bool.{true, false}
+use mathlib.Core.List.{List, [], _∷_}
 use lib.ListN.{length}
 use lib.Dec.{eqb, ltb}
 use Rattle.script.specs.declared.number.Number.{Number}

@@ -8,7 +8,6 @@ use lib.Dec.{eqb, ltb, leb}
 use Rattle.script.specs.declared.number.Number.{Number}
 use Rattle.script.specs.declared.number.Number.the-variants.{Value, Wrong}
 use Rattle.model.specs.Definitions.Parts.{every}
-use Rattle.model.specs.Definitions.Layout.{lastNumber}
 
 -- the digits "0" to "9" are the bytes 48 to 57
 abbrev pub digitZero : ℕ
@@ -16,6 +15,10 @@ digitZero = 48
 
 abbrev pub digitNine : ℕ
 digitNine = 57
+
+-- "numbers to 4,294,967,295"
+abbrev pub largestNumber : ℕ
+largestNumber = 4294967295
 
 -- ---- printed
 
@@ -43,9 +46,9 @@ valueFrom v (c ∷ w) = valueFrom (10 * v + (c - digitZero)) w
 unfoldable pub leadingZero : List ℕ → Bool
 leadingZero w = eqb (getD w 0 0) digitZero && ltb 1 (length w)
 
--- digits behind those that gave v, "numbers to 4,294,967,295"
+-- digits behind those that gave v, up to the largest number
 unfoldable pub digitsFrom : ℕ → List ℕ → Number
-digitsFrom v w = elim (every isDigit w && leb (valueFrom v w) lastNumber) [ true ↦ Value (valueFrom v w) | false ↦ Wrong ]
+digitsFrom v w = elim (every isDigit w && leb (valueFrom v w) largestNumber) [ true ↦ Value (valueFrom v w) | false ↦ Wrong ]
 
 -- the number that a word is
 unfoldable pub number : List ℕ → Number

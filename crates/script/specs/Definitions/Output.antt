@@ -22,8 +22,8 @@ unfoldable pub printedOf : Outcome → Printed
 printedOf o = record { code = code (o .answer); value = value (o .answer); who = who (o .answer); stores = o .stores }
 
 -- "prints code 9", "the last three are 0 under code 9"
-unfoldable pub notRead : Printed
-notRead = record { code = 9; value = 0; who = 0; stores = 0 }
+unfoldable pub unreadable : Printed
+unreadable = record { code = 9; value = 0; who = 0; stores = 0 }
 
 -- "Each line prints: line number, code, value, who, stores"
 unfoldable pub lineOf : ℕ → Printed → List ℕ

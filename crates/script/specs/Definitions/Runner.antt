@@ -1,7 +1,7 @@
 -- Document 01, "Line runner": one line's work on the bank, the lines of an input, and the whole runner from the input's bytes to the output's.
 -- Assumes nothing.
 use Prim.Native.Nat.{ℕ, _+_}
-use mathlib.Core.Bool.{Bool, true, false}
+use mathlib.Core.Bool.{true, false}
 use mathlib.Core.List.{List, [], _∷_, _++_}
 use lib.ListN.{length, take}
 use lib.Dec.{eqb}
@@ -10,11 +10,12 @@ use Rattle.script.specs.declared.request.Request.{Request}
 use Rattle.script.specs.declared.request.Request.the-variants.{Make, Read, Write, Checkpoint, Cut, Fuse, Restart, Unreadable}
 use Rattle.script.specs.declared.tally.Tally.{Tally}
 use Rattle.model.specs.Definitions.Parts.{zeros}
-use Rattle.model.specs.Definitions.Layout.{lastNumber, bankSize}
+use Rattle.model.specs.Definitions.Layout.{bankSize}
+use Rattle.script.specs.Definitions.Numbers.{largestNumber}
 use Rattle.model.specs.Definitions.Answers.{code}
-use Rattle.model.specs.Definitions.Calls.{Call, Reading, Writing, Checkpointing, Cutting, Fusing, Restarting, Reply, call, make}
+use Rattle.model.specs.Definitions.Calls.{Reading, Writing, Checkpointing, Cutting, Fusing, Restarting, Reply, call, make}
 use Rattle.script.specs.Definitions.Lines.{request}
-use Rattle.script.specs.Definitions.Output.{newline, printedOf, notRead, lineOf, lastLine}
+use Rattle.script.specs.Definitions.Output.{newline, printedOf, unreadable, lineOf, lastLine}
 
 -- ---- one line
 
@@ -25,7 +26,7 @@ pub record Worked : Type 0 where
 
 -- "Anything else, or N after line 1, prints code 9."
 unfoldable pub unread : List ℕ → Worked
-unread s = record { printed = notRead; bank = s }
+unread s = record { printed = unreadable; bank = s }
 
 unfoldable pub worked : Reply → Worked
 worked t = record { printed = printedOf (t .outcome); bank = t .bytes }
@@ -91,7 +92,7 @@ runLines (l ∷ ls) s = let t : Step = line l s in t .output ++ runLines ls (t .
 
 -- "reading stops after line 4,294,967,295"
 abbrev pub mostLines : ℕ
-mostLines = lastNumber
+mostLines = largestNumber
 
 -- the whole runner: the output's bytes for the input's
 unfoldable pub run : List ℕ → List ℕ

@@ -1,20 +1,19 @@
 -- An input cut at any place prints the same; and the machine that is fed a whole input prints what `run` says. Assumes nothing.
-use mathlib.Core.Path.{_≡_, refl, ap, sym, _∙_}
+use mathlib.Core.Path.{_≡_, refl, sym, _∙_}
 use Prim.Native.Nat.{ℕ, zero, suc, _+_, _-_, _≤_, _<_}
-use mathlib.Core.Bool.{Bool, true, false, _||_}
-use mathlib.Core.List.{List, [], _∷_, _++_, append-assoc, append-nil}
+use mathlib.Core.Bool.{true, false}
+use mathlib.Core.List.{List, [], _∷_, _++_, append-assoc}
 use native.Mathlib.Omega.{arith}
 use lib.ListN.{length, take, length-append, length-take}
 use lib.Seq.{take-all, take-append-le}
-use lib.Dec.{eqb, ltb, leb}
-use borrow.Author.Tests.{ne-eqb, lt-ltb, le-ltb, ltb-true, ltb-false, leb-true, leb-false}
-use Rattle.script.specs.declared.tally.Tally.{Tally}
-use Rattle.model.specs.Laws.Logic.{cases, byBool}
+use lib.Dec.{eqb, ltb}
+use borrow.Author.Tests.{ne-eqb, lt-ltb, ltb-true, ltb-false, leb-true, leb-false}
+use Rattle.model.specs.Laws.Logic.{byBool}
 use Rattle.script.specs.Definitions.Lines.{mostBytes, request}
-use Rattle.script.specs.Definitions.Output.{newline, lastLine}
-use Rattle.script.specs.Definitions.Runner.{State, Step, Worked, begin, counted, stepOf, line, nextLine, work, linesFrom, runLines, mostLines, run}
+use Rattle.script.specs.Definitions.Output.{newline}
+use Rattle.script.specs.Definitions.Runner.{State, begin, stepOf, line, linesFrom, runLines, mostLines, run}
 use Rattle.script.specs.Laws.Tally.{counted-read}
-use Rattle.script.specs.Definitions.Feeding.{Machine, Fed, idle, withByte, stopped, ended, feedByte, behind, feed, finish, fedWhole}
+use Rattle.script.specs.Feeding.{Machine, Fed, idle, withByte, stopped, ended, feedByte, behind, feed, finish, fedWhole}
 
 -- ---- feeding in pieces
 

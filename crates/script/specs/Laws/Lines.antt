@@ -1,13 +1,13 @@
 -- A line read word by word. Assumes nothing.
-use mathlib.Core.Path.{_≡_, refl, sym, ap, _∙_}
-use Prim.Native.Nat.{ℕ, zero, suc, _+_, _-_, _≤_, _<_}
-use mathlib.Core.Bool.{Bool, true, false}
-use mathlib.Core.List.{List, [], _∷_, _++_}
+use mathlib.Core.Path.{_≡_, refl, sym, _∙_}
+use Prim.Native.Nat.{ℕ, suc, _+_, _-_, _≤_, _<_}
+use mathlib.Core.Bool.{true, false}
+use mathlib.Core.List.{List, [], _∷_}
 use native.Mathlib.Omega.{arith}
 use native.Mathlib.Numerals.{add-one}
 use lib.ListN.{length, take, drop, getD, length-drop, drop-of-length-le}
 use lib.Seq.{length-take-le, getD-take, drop-cons, drop-drop, take-all}
-use lib.Dec.{eqb, ltb}
+use lib.Dec.{eqb}
 use borrow.Author.Tests.{lt-ltb, le-ltb}
 use Rattle.model.specs.Laws.Logic.{byBool}
 use Rattle.script.specs.declared.request.Numbers.{Numbers}
@@ -15,16 +15,7 @@ use Rattle.script.specs.declared.request.Numbers.the-variants.{None}
 use Rattle.script.specs.declared.request.Request.the-variants.{Unreadable}
 use Rattle.script.specs.Definitions.Numbers.{number}
 use Rattle.script.specs.Definitions.Lines.{space, mostBytes, longer, words, more, numbersFrom, requestOf, requestIn, request}
-
--- how many bytes the first word has
-unfoldable pub wordLength : List ℕ → ℕ
-wordLength [] = 0
-wordLength (c ∷ l) = elim (eqb c space) [ true ↦ 0 | false ↦ suc (wordLength l) ]
-
--- the words behind a space, if one stands there
-unfoldable pub wordsBehind : List ℕ → List (List ℕ)
-wordsBehind [] = []
-wordsBehind (c ∷ l) = words l
+use Rattle.script.specs.Contracts.{wordLength, wordsBehind}
 
 word-space : (l : List ℕ) (c : ℕ) → eqb c space ≡ true → wordLength (c ∷ l) ≡ 0
 unfolding wordLength

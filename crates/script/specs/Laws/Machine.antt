@@ -7,44 +7,17 @@ use native.Mathlib.Omega.{arith}
 use native.Mathlib.Numerals.{add-one}
 use lib.ListN.{length, take, set, getD, length-set}
 use lib.Seq.{length-take-le, take-all, take-suc, take-suc-set}
-use lib.Dec.{eqb, ltb}
 use borrow.Author.Tests.{eq-eqb, ne-eqb, lt-ltb, le-ltb}
 use Rattle.script.specs.declared.feed.Machine.{Machine as Held}
-use Rattle.script.specs.declared.runner.Progress.{Progress}
+use Rattle.script.specs.declared.line.Progress.{Progress}
 use Rattle.script.specs.Definitions.Lines.{mostBytes}
 use Rattle.script.specs.Definitions.Output.{newline, lastLine}
 use Rattle.script.specs.Definitions.Runner.{State, Step, begin, line, run}
-use Rattle.script.specs.Definitions.Feeding.{Machine, Fed, withByte, stopped, ended, feedByte, behind, feed, finish, fedWhole, idle}
+use Rattle.script.specs.Feeding.{Machine, Fed, withByte, stopped, ended, feedByte, behind, feed, finish, fedWhole, idle}
 use Rattle.fields.proofs.Splices.{splice-none}
 use Rattle.script.specs.Laws.Feeding.{feed-append, fed-run, byte-stopped, byte-newline, byte-other}
-use Rattle.script.specs.Laws.Output.{Put, put-next, mostLine, mostLast}
-use Rattle.script.specs.Laws.Tally.{Sums}
-use Rattle.script.specs.Laws.Work.{mostBank}
-use Rattle.script.specs.Laws.Progress.{stateOf, Ready, Ran}
-
--- the machine that the buffers hold
-unfoldable pub machineOf : List ℕ → List ℕ → Held → Machine
-machineOf line bank m = record { pending = take (m .pending) line; state = stateOf bank (m .progress) }
-
--- the buffers are as long as they have to be, and the machine is in them
-pub record InBuffers (line bank : List ℕ) (m : Held) : Type 0 where
-  pub lineBuffer : length line ≡ mostBytes + 1
-  pub pendingIn : m .pending ≤ mostBytes + 1
-  pub bankBuffer : length bank ≡ mostBank
-  pub within : m .progress .size ≤ length bank
-  pub sums : Sums (m .progress .tally)
-
--- n bytes may come
-pub record RunningFor (n : ℕ) (line bank out : List ℕ) (m : Held) : Type 0 where
-  pub held : InBuffers line bank m
-  pub room : m .progress .at + mostLine * n ≤ length out
-
--- n bytes were fed: the machine they leave, their output behind what was there
-pub record FedBy (f : Fed) (n : ℕ) (m r : Held) (line bank before after : List ℕ) : Type 0 where
-  pub machine : machineOf line bank r ≡ f .machine
-  pub output : Put before (m .progress .at) (f .output) after (r .progress .at)
-  pub near : r .progress .at ≤ m .progress .at + mostLine * n
-  pub held : InBuffers line bank r
+use Rattle.script.specs.Laws.Output.{put-next}
+use Rattle.script.specs.Contracts.{Put, mostLine, mostLast, stateOf, Ran, machineOf, InBuffers, RunningFor, FedBy, fromNothing, Buffers}
 
 put-none : (l : List ℕ) (a : ℕ) → Put l a [] l a
 put-none l a = record { bytes = splice-none l a; end = omega arith }
@@ -156,18 +129,9 @@ turn-done input line₀ bank₀ out₀ m₀ i line bank out m t h =
 
 -- ---- from nothing to the end
 
-abbrev pub fromNothing : Held
-fromNothing = record { pending = 0; progress = record { size = 0; tally = record { read = 0; done = 0; refused = 0 }; at = 0 } }
-
 from-nothing : (line bank : List ℕ) → machineOf line bank fromNothing ≡ idle
 unfolding machineOf stateOf idle begin
 from-nothing line bank = refl
-
--- the buffers for an input of n bytes
-pub record Buffers (n : ℕ) (line bank out : List ℕ) : Type 0 where
-  pub lineBuffer : length line ≡ mostBytes + 1
-  pub bankBuffer : length bank ≡ mostBank
-  pub room : mostLine * n + mostLine + mostLast ≤ length out
 
 pub starts : (n : ℕ) (line bank out : List ℕ) → Buffers n line bank out → RunningFor n line bank out fromNothing
 starts n line bank out b =

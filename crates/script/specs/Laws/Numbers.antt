@@ -1,7 +1,7 @@
 -- Reading a number digit by digit, and printing one. Assumes nothing.
-use mathlib.Core.Path.{_≡_, refl, sym, _∙_}
+use mathlib.Core.Path.{_≡_}
 use Prim.Native.Nat.{ℕ, zero, suc, _+_, _-_, _*_, _/_, _%_, _≤_, _<_}
-use mathlib.Core.Bool.{Bool, true, false, _&&_}
+use mathlib.Core.Bool.{true, false}
 use mathlib.Core.List.{List, [], _∷_, _++_}
 use native.Mathlib.Omega.{arith}
 use native.Mathlib.Numerals.{add-one}
@@ -11,9 +11,10 @@ use lib.Dec.{eqb, ltb, leb}
 use borrow.Author.Tests.{eq-eqb, ne-eqb, lt-ltb, le-ltb, ltb-true, ltb-false, le-leb, lt-leb, leb-true}
 use Rattle.script.specs.declared.number.Number.the-variants.{Value, Wrong}
 use Rattle.model.specs.Definitions.Parts.{every}
-use Rattle.model.specs.Definitions.Layout.{lastNumber}
+use Rattle.script.specs.Definitions.Numbers.{largestNumber}
 use Rattle.model.specs.Laws.Logic.{byBool, and-left}
 use Rattle.script.specs.Definitions.Numbers.{digitZero, digitsIn, decimal, isDigit, valueFrom, leadingZero, digitsFrom, number}
+use Rattle.script.specs.Contracts.{mostDigits}
 
 -- ---- read
 
@@ -23,9 +24,9 @@ unfolding valueFrom
 value-grows v [] = omega arith
 value-grows v (c ∷ w) = let h : 10 * v + (c - digitZero) ≤ valueFrom (10 * v + (c - digitZero)) w = value-grows _ w in omega arith
 
-pub digits-end : (v : ℕ) → v ≤ lastNumber → digitsFrom v [] ≡ Value v
+pub digits-end : (v : ℕ) → v ≤ largestNumber → digitsFrom v [] ≡ Value v
 unfolding digitsFrom every valueFrom
-digits-end v h = cc (le-leb v lastNumber h)
+digits-end v h = cc (le-leb v largestNumber h)
 
 pub digits-other : (v c : ℕ) (w : List ℕ) → isDigit c ≡ false → digitsFrom v (c ∷ w) ≡ Wrong
 unfolding digitsFrom every
@@ -35,10 +36,10 @@ pub digits-next : (v c : ℕ) (w : List ℕ) → isDigit c ≡ true → digitsFr
 unfolding digitsFrom every valueFrom
 digits-next v c w e = cc e
 
-pub digits-over : (v : ℕ) (w : List ℕ) → lastNumber < v → digitsFrom v w ≡ Wrong
+pub digits-over : (v : ℕ) (w : List ℕ) → largestNumber < v → digitsFrom v w ≡ Wrong
 unfolding digitsFrom
 digits-over v w h =
-    let k : leb (valueFrom v w) lastNumber ≡ false = lt-leb (valueFrom v w) lastNumber (omega (arith, value-grows v w)) in
+    let k : leb (valueFrom v w) largestNumber ≡ false = lt-leb (valueFrom v w) largestNumber (omega (arith, value-grows v w)) in
     byBool (every isDigit w) (λ t. cc (t, k)) (λ t. cc (t, k))
 
 pub digit-least : (c : ℕ) → isDigit c ≡ true → digitZero ≤ c
@@ -46,7 +47,7 @@ unfolding isDigit
 digit-least c t = leb-true digitZero c (and-left (leb digitZero c) _ t)
 
 -- the same at a place of a word
-pub digits-end-at : (v : ℕ) (l : List ℕ) (i : ℕ) → v ≤ lastNumber → length l ≤ i → digitsFrom v (drop i l) ≡ Value v
+pub digits-end-at : (v : ℕ) (l : List ℕ) (i : ℕ) → v ≤ largestNumber → length l ≤ i → digitsFrom v (drop i l) ≡ Value v
 digits-end-at v l i h k = rw (drop-of-length-le l k) (digits-end v h)
 
 module _ (v : ℕ) (l : List ℕ) (i : ℕ) (h : i < length l) where
@@ -117,10 +118,6 @@ decimal-short (suc k) n h =
     (λ t. rw (decimal-one n (ltb-true n 10 t)) (omega arith))
     (λ t. let m : 10 ≤ n = ltb-false n 10 t in omega (arith, length-more n m, decimal-short k (n / 10) (omega arith)))
 
--- "numbers to 4,294,967,295" have ten digits at most
-abbrev pub mostDigits : ℕ
-mostDigits = 10
-
-pub decimal-fits : (n : ℕ) → n ≤ lastNumber → length (decimal n) ≤ mostDigits
+pub decimal-fits : (n : ℕ) → n ≤ largestNumber → length (decimal n) ≤ mostDigits
 unfolding tens
 decimal-fits n h = decimal-short 9 n (omega arith)

@@ -1,32 +1,17 @@
 -- Bytes put into a buffer one behind the other, and how many a line has. Assumes nothing.
 use mathlib.Core.Path.{_≡_, refl, sym, ap, _∙_}
-use Prim.Native.Nat.{ℕ, _+_, _*_, _/_, _%_, _≤_, _<_}
+use Prim.Native.Nat.{ℕ, _+_, _/_, _%_, _≤_, _<_}
 use mathlib.Core.List.{List, [], _∷_, _++_}
 use native.Mathlib.Omega.{arith}
 use lib.ListN.{length, set, length-append}
-use Rattle.model.specs.Definitions.Parts.{splice}
-use Rattle.model.specs.Definitions.Layout.{lastNumber}
+use Rattle.script.specs.Definitions.Numbers.{largestNumber}
 use Rattle.model.specs.Laws.Parts.{splice-next, splice-one, length-splice}
 use Rattle.script.specs.Definitions.Numbers.{digitZero, decimal}
 use Rattle.script.specs.Definitions.Output.{field}
-use Rattle.script.specs.Laws.Numbers.{mostDigits, decimal-fits, decimal-one, decimal-more, length-more}
+use Rattle.script.specs.Laws.Numbers.{decimal-fits, decimal-one, decimal-more, length-more}
+use Rattle.script.specs.Contracts.{Put, mostField}
 
--- the bytes v stand in the buffer from place a on, all else as it was, and b is the place behind them
-pub record Put (before : List ℕ) (a : ℕ) (v after : List ℕ) (b : ℕ) : Type 0 where
-  pub bytes : after ≡ splice before a v
-  pub end : b ≡ a + length v
-
--- how many bytes a number takes at most with the byte behind it, a line, and the three numbers of the end
-abbrev pub mostField : ℕ
-mostField = mostDigits + 1
-
-abbrev pub mostLine : ℕ
-mostLine = 5 * mostField
-
-abbrev pub mostLast : ℕ
-mostLast = 3 * mostField
-
-pub field-fits : (n end : ℕ) → n ≤ lastNumber → length (field n end) ≤ mostField
+pub field-fits : (n end : ℕ) → n ≤ largestNumber → length (field n end) ≤ mostField
 unfolding field
 field-fits n end h = simp length-append (omega (arith, decimal-fits n h))
 
@@ -65,7 +50,7 @@ module _ (l : List ℕ) (a n : ℕ) (m : List ℕ) (b : ℕ) (h : 10 ≤ n) (p :
   put-last-digit d e = rw (decimal-more n h, ← e) (put-next p (put-byte m b d last-digit-room) (omega arith))
 
 -- a number and the byte behind it
-module _ (l : List ℕ) (a n : ℕ) (m : List ℕ) (b : ℕ) (h : n ≤ lastNumber) (k : a + mostField ≤ length l) where
+module _ (l : List ℕ) (a n : ℕ) (m : List ℕ) (b : ℕ) (h : n ≤ largestNumber) (k : a + mostField ≤ length l) where
   pub field-room : a + length (decimal n) ≤ length l
   field-room = omega (arith, decimal-fits n h)
 

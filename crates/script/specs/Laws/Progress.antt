@@ -1,39 +1,17 @@
 -- How far the runner is in its buffers, and one line's step there. Assumes nothing.
-use mathlib.Core.Path.{_≡_, refl, sym, ap, _∙_}
-use Prim.Native.Nat.{ℕ, _+_, _≤_, _<_}
+use mathlib.Core.Path.{_≡_, ap, _∙_}
+use Prim.Native.Nat.{ℕ, _+_, _≤_}
 use mathlib.Core.List.{List}
-use native.Mathlib.Omega.{arith}
-use lib.ListN.{length, take}
-use Rattle.script.specs.declared.print.Printed.{Printed}
+use lib.ListN.{take}
 use Rattle.script.specs.declared.request.Request.{Request}
 use Rattle.script.specs.declared.tally.Tally.{Tally}
 use Rattle.script.specs.declared.work.Work.{Work}
-use Rattle.script.specs.declared.runner.Progress.{Progress}
+use Rattle.script.specs.declared.line.Progress.{Progress}
 use Rattle.script.specs.Definitions.Lines.{request}
 use Rattle.script.specs.Definitions.Output.{lineOf}
-use Rattle.script.specs.Definitions.Runner.{State, Step, Worked, nextLine, stepOf, line, counted, work}
-use Rattle.script.specs.Laws.Output.{Put, mostLine}
-use Rattle.script.specs.Laws.Tally.{Sums, Counts, counted-sums}
-use Rattle.script.specs.Laws.Work.{Works, mostBank}
-
--- the state that the buffers hold
-unfoldable pub stateOf : List ℕ → Progress → State
-stateOf buffer p = record { bank = take (p .size) buffer; tally = p .tally }
-
--- a line may come: the bank is in its buffer, the tally and the output have room
-pub record Ready (bank out : List ℕ) (p : Progress) : Type 0 where
-  pub buffer : length bank ≡ mostBank
-  pub within : p .size ≤ length bank
-  pub counts : Counts (p .tally)
-  pub room : p .at + mostLine ≤ length out
-
--- a step was made: the state it leaves, its output behind what was there
-pub record Ran (t : Step) (p r : Progress) (bank before after : List ℕ) : Type 0 where
-  pub state : stateOf bank r ≡ t .state
-  pub output : Put before (p .at) (t .output) after (r .at)
-  pub near : r .at ≤ p .at + mostLine
-  pub within : r .size ≤ length bank
-  pub sums : Sums (r .tally)
+use Rattle.script.specs.Definitions.Runner.{Worked, stepOf, line, counted, work}
+use Rattle.script.specs.Contracts.{Put, mostLine, Sums, Works, stateOf, Ran}
+use Rattle.script.specs.Laws.Tally.{counted-sums}
 
 pub line-ran : (l : List ℕ) (q : Request) (p : Progress) (bank : List ℕ) (w : Work) (next : Tally) (end : ℕ) (bank′ before after : List ℕ) → Sums (p .tally)
     → q ≡ request l → Works (work (p .tally .read + 1) q (take (p .size) bank)) w bank′

@@ -2,7 +2,6 @@
 use mathlib.Core.Path.{_≡_, refl}
 use mathlib.Core.List.{[]}
 use Rattle.types.specs.declared.Answer.the-variants.{Malformed}
-use Rattle.model.specs.Definitions.WellFormed.{wellFormed}
 use Rattle.model.specs.Definitions.Calls.{Call, call, refused}
 use Rattle.model.specs.Cases.Evaluate.{evaluate}
 

@@ -1,5 +1,5 @@
 -- A stream of reads: each read's output stands at the beginning of the buffer. Assumes nothing.
-use mathlib.Core.Path.{_≡_, refl, sym, ap, _∙_}
+use mathlib.Core.Path.{_≡_, refl, ap, _∙_}
 use Prim.Native.Nat.{ℕ, _+_, _*_, _≤_}
 use mathlib.Core.List.{List, _++_}
 use native.Mathlib.Omega.{arith}
@@ -7,27 +7,8 @@ use lib.ListN.{length, take, drop, length-append}
 use lib.Seq.{take-at}
 use Rattle.script.specs.declared.feed.Machine.{Machine as Held}
 use Rattle.model.specs.Definitions.Parts.{splice}
-use Rattle.script.specs.Definitions.Lines.{mostBytes}
-use Rattle.script.specs.Definitions.Feeding.{Machine, Fed, feed}
-use Rattle.script.specs.Laws.Output.{Put, mostLine, mostLast}
-use Rattle.script.specs.Laws.Progress.{stateOf}
-use Rattle.script.specs.Laws.Machine.{InBuffers, RunningFor, FedBy, machineOf}
-
--- the same machine, whose output begins the buffer
-abbrev pub emptied : Held → Held
-emptied m = record { pending = m .pending; progress = record { size = m .progress .size; tally = m .progress .tally; at = 0 } }
-
--- v is printed: the first n bytes of the buffer. The last part follows from the one before it, and a caller that lends these bytes is asked for it.
-pub record Printed (v : List ℕ) (n : ℕ) (out : List ℕ) : Type 0 where
-  pub bytes : take n out ≡ v
-  pub inside : n ≤ length out
-  pub count : n ≡ length (take n out)
-
--- a read was fed: the machine it leaves, what it prints, and the next read may come
-pub record Streamed (f : Fed) (r : Held) (line bank out : List ℕ) : Type 0 where
-  pub machine : machineOf line bank r ≡ f .machine
-  pub output : Printed (f .output) (r .progress .at) out
-  pub held : InBuffers line bank r
+use Rattle.script.specs.Feeding.{Machine, feed}
+use Rattle.script.specs.Contracts.{Put, mostLine, stateOf, InBuffers, RunningFor, FedBy, machineOf, emptied, Written, Streamed}
 
 pub emptied-held : (line bank : List ℕ) (m : Held) → InBuffers line bank m → InBuffers line bank (emptied m)
 emptied-held line bank m h = record { lineBuffer = h .lineBuffer; pendingIn = h .pendingIn; bankBuffer = h .bankBuffer; within = h .within; sums = h .sums }
@@ -38,7 +19,7 @@ module _ (line bank out : List ℕ) (m : Held) where
   same-machine = refl
 
   -- what is put at the beginning is what a program writes out
-  pub put-printed : (print : Machine → List ℕ) {after : List ℕ} {n : ℕ} → Put out 0 (print (machineOf line bank (emptied m))) after n → Printed (print (machineOf line bank m)) n after
+  pub put-printed : (print : Machine → List ℕ) {after : List ℕ} {n : ℕ} → Put out 0 (print (machineOf line bank (emptied m))) after n → Written (print (machineOf line bank m)) n after
   unfolding splice
   put-printed print {after} {n} p =
       let v : List ℕ = print (machineOf line bank (emptied m)) in

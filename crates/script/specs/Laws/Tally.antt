@@ -1,24 +1,15 @@
 -- A tally's counters: what is done and refused makes up what is read, and one line more still fits. Assumes nothing.
-use mathlib.Core.Path.{_≡_, refl, sym, _∙_}
-use Prim.Native.Nat.{ℕ, _+_, _<_}
-use mathlib.Core.Bool.{true, false}
+use mathlib.Core.Path.{_≡_}
+use Prim.Native.Nat.{ℕ, _+_}
+use mathlib.Core.Bool.{false}
 use native.Mathlib.Omega.{arith}
-use lib.Dec.{eqb, leb}
+use lib.Dec.{eqb}
 use borrow.Author.Tests.{leb-false}
 use Rattle.script.specs.declared.tally.Tally.{Tally}
-use Rattle.model.specs.Definitions.Layout.{lastNumber}
 use Rattle.model.specs.Laws.Logic.{byBool}
 use Rattle.script.specs.Definitions.Runner.{counted, mostLines}
-use Rattle.script.specs.Definitions.Feeding.{stopped}
-
--- done and refused make up read
-abbrev pub Sums : Tally → Type 0
-Sums t = t .done + t .refused ≡ t .read
-
--- a tally to which a line may still come
-pub record Counts (t : Tally) : Type 0 where
-  pub sums : Sums t
-  pub more : t .read < mostLines
+use Rattle.script.specs.Feeding.{stopped}
+use Rattle.script.specs.Contracts.{Sums, Counts}
 
 pub counts-on : (t : Tally) → Sums t → stopped t ≡ false → Counts t
 unfolding stopped

@@ -1,15 +1,14 @@
 -- One line's work in a buffer that holds the largest bank. Assumes nothing.
-use mathlib.Core.Path.{_≡_, refl, sym, ap, _∙_}
-use Prim.Native.Nat.{ℕ, _+_, _*_, _≤_, _<_}
-use mathlib.Core.Bool.{true, false, _&&_}
-use mathlib.Core.List.{List, [], _∷_, _++_}
+use mathlib.Core.Path.{_≡_, refl, ap, _∙_}
+use Prim.Native.Nat.{ℕ, _+_, _*_, _≤_}
+use mathlib.Core.Bool.{true, false}
+use mathlib.Core.List.{List, _++_}
 use native.Mathlib.Nat.{mul-le-mul}
 use native.Mathlib.Omega.{arith}
-use lib.ListN.{length, take, length-append, length-replicate}
+use lib.ListN.{length, length-append, length-replicate}
 use lib.Seq.{take-at}
-use lib.Dec.{eqb, ltb, leb}
 use borrow.Author.Tests.{eq-eqb, ne-eqb}
-use Rattle.types.specs.declared.Answer.the-variants.{OutOfRange, Done}
+use Rattle.types.specs.declared.Answer.the-variants.{OutOfRange}
 use Rattle.types.specs.declared.Outcome.{Outcome}
 use Rattle.script.specs.declared.print.Printed.{Printed}
 use Rattle.script.specs.declared.request.Request.{Request}
@@ -18,39 +17,18 @@ use Rattle.script.specs.declared.work.Work.{Work}
 use Rattle.model.specs.Definitions.Parts.{zeros}
 use Rattle.model.specs.Definitions.Layout.{mostBoards, mostPages, blockSize, bankSize}
 use Rattle.model.specs.Definitions.Bank.{fresh}
-use Rattle.model.specs.Definitions.Codec.{encode}
-use Rattle.fresh.specs.Fresh.{sizesAllowed, sizes-say}
 use Rattle.engine.specs.Contracts.{Replied}
 use Rattle.engine.specs.Replies.{done}
 use Rattle.engine.specs.Making.{make-range, make-done}
 use Rattle.model.specs.Definitions.Answers.{code}
-use Rattle.model.specs.Definitions.Calls.{Call, refused, Reading, Writing, Checkpointing, Cutting, Fusing, Restarting, Reply, call, make}
-use Rattle.script.specs.Definitions.Output.{printedOf, notRead}
+use Rattle.model.specs.Definitions.Calls.{Call, refused, call, make}
+use Rattle.script.specs.Definitions.Output.{printedOf, unreadable}
 use Rattle.script.specs.Definitions.Runner.{Worked, unread, worked, made, work}
-
--- "N 8, P 16 has 23,636 bytes": the largest bank
-abbrev pub mostBank : ℕ
-mostBank = bankSize mostBoards mostPages
-
--- what a line prints and the bank that it leaves, in the first bytes of a buffer
-pub record Works (w : Worked) (r : Work) (buffer : List ℕ) : Type 0 where
-  pub printed : r .printed ≡ w .printed
-  pub bank : take (r .size) buffer ≡ w .bank
-  pub within : r .size ≤ length buffer
-
--- a line that is not an N on line 1
-unfoldable pub called : Request → List ℕ → Worked
-called (Make n p) s = unread s
-called (Read b p o) s = worked (call (Reading b p o) s)
-called (Write b p o v) s = worked (call (Writing b p o v) s)
-called (Checkpoint b) s = worked (call (Checkpointing b) s)
-called (Cut b) s = worked (call (Cutting b) s)
-called (Fuse b k) s = worked (call (Fusing b k) s)
-called (Restart b) s = worked (call (Restarting b) s)
-called Unreadable s = unread s
+use Rattle.script.specs.Contracts.{mostBank, Works, called}
+use Rattle.model.specs.Definitions.WellFormed.{sizesAllowed}
 
 pub work-called : (i : ℕ) (r : Request) (s : List ℕ) → (i ≡ 1 → ⊥) → work i r s ≡ called r s
-unfolding work called
+unfolding work
 work-called i (Make n p) s h = cc (ne-eqb i 1 h)
 work-called i (Read b p o) s h = refl
 work-called i (Write b p o v) s h = refl
@@ -66,7 +44,7 @@ pub call-worked : {q q′ : Request} (s : List ℕ) (c : Call) {o : Outcome} {p 
 unfolding worked
 call-worked {q} {q′} s c e h f g = (f ∙ rw (h .0, e, g), h .1 ∙ rw (e, g))
 
-pub line-unread : {q q′ : Request} (s : List ℕ) {p : Printed} → q ≡ q′ → p ≡ notRead → called q′ s ≡ unread s → (p ≡ called q s .printed) × (s ≡ called q s .bank)
+pub line-unread : {q q′ : Request} (s : List ℕ) {p : Printed} → q ≡ q′ → p ≡ unreadable → called q′ s ≡ unread s → (p ≡ called q s .printed) × (s ≡ called q s .bank)
 unfolding unread
 line-unread {q} {q′} s e f g = (f ∙ rw (e, g), rw (e, g))
 

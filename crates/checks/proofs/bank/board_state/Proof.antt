@@ -1,57 +1,16 @@
--- `checks::bank::board_state` meets its contract: the state is read in the board's block, which is lent. Assumes nothing.
-use mathlib.Core.Path.{_∙_}
-use native.Mathlib.Omega.{arith}
-use Rattle.model.specs.Definitions.Codec.{decode}
-use Rattle.steps.specs.BankBlocks.{LentBlock, lent-in, lent-length, lent-state}
-use Rattle.exchange.specs.Banks.{lent-of}
+-- `checks::bank::board_state` meets its contract. Assumes nothing.
 use borrow.Author.Needs.{needs}
 use Rattle.checks.proofs.bank.board_state.Statement.{statement}
 use Rattle.checks.proofs.bank.board_state.Tie as tie
 
--- the board's block in the bank
-lent : (c : tie.After-block-size)
-    → LentBlock (decode (c .before .before .before .before .args .bank .now)) (c .before .before .before .before .args .bank .now) (c .before .before .page-count .result) (c .before .before .before .before .args .board) (c .before .block-at .result) (c .block-size .result)
-lent c =
-    let start = c .before .before .before .before in
-    lent-of (record { bank = start .pre .0; count = c .before .before .page-count .ensures; board = start .pre .1 }) _ _ (c .before .block-at .ensures) (c .block-size .ensures)
-
 page-count-requires : tie.Need-page-count-requires
 page-count-requires c κs = search needs
 
-block-at-requires : tie.Need-block-at-requires
-block-at-requires c κs = search needs
-
-block-size-requires : tie.Need-block-size-requires
-block-size-requires c κs = search needs
-
-add-read-state : tie.Need-add-read-state
-add-read-state c = omega (arith, lent-in (lent c))
-
-sub-read-state : tie.Need-sub-read-state
-sub-read-state c = search needs
-
-part-read-state-start : tie.Need-part-read-state-start
-part-read-state-start c = search needs
-
-part-read-state-end : tie.Need-part-read-state-end
-part-read-state-end c = lent-in (lent c)
-
-read-state-requires : tie.Need-read-state-requires
-read-state-requires c κs = lent-length (lent (c .before))
+board-state-requires : tie.Need-board-state-requires
+board-state-requires c κs = let start = c .before .before in record { bank = start .pre .0; count = c .page-count .ensures; board = start .pre .1 }
 
 returns : tie.Need-returns
-returns c = c .read-state .ensures ∙ lent-state (lent (c .before .before))
+returns c = c .board-state .ensures
 
 pub board-state-spec : {M : Type 1} → statement M
-board-state-spec =
-    tie.close
-    (tie.spec
-    page-count-requires
-    block-at-requires
-    block-size-requires
-    add-read-state
-    sub-read-state
-    part-read-state-start
-    part-read-state-end
-    read-state-requires
-    returns)
+board-state-spec = tie.close (tie.spec page-count-requires board-state-requires returns)

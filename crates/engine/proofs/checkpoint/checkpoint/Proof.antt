@@ -5,7 +5,7 @@ use native.Mathlib.Omega.{arith}
 use Rattle.model.specs.Definitions.WellFormed.{isUp}
 use Rattle.model.specs.Definitions.Steps.{start}
 use Rattle.model.specs.Definitions.Calls.{Checkpointing}
-use Rattle.model.specs.Laws.Table.{boardOf}
+use Rattle.model.specs.Laws.Codes.Statement.{boardOf}
 use Rattle.model.specs.Laws.Keeps.Clauses.{up-not-replaying}
 use Rattle.model.specs.Laws.Keeps.Live.{isUp-up}
 use Rattle.validity.specs.Search.{failed, passed}

@@ -4,11 +4,12 @@ use mathlib.Core.Bool.{true}
 use borrow.Author.Tests.{eq-eqb, ne-eqb}
 use Rattle.validity.specs.Search.{failed, passed}
 use Rattle.engine.specs.Replies.{refused-replied, done-replied}
-use Rattle.fresh.specs.Fresh.{sizesAllowed, sizes-say}
 use Rattle.engine.specs.Making.{make-range, make-length, make-done}
 use borrow.Author.Needs.{needs}
 use Rattle.engine.proofs.make.make.Statement.{statement}
 use Rattle.engine.proofs.make.make.Tie as tie
+use Rattle.model.specs.Definitions.WellFormed.{sizesAllowed}
+use Rattle.model.specs.Laws.Fresh.{sizes-say}
 
 -- what the test of the sizes says, once it passed
 sizes : (c : tie.Else1) → sizesAllowed (c .before .before .before .args .boards) (c .before .before .before .args .pages) ≡ true

@@ -2,7 +2,7 @@
 use mathlib.Core.Path.{sym, _∙_}
 use native.Mathlib.Omega.{arith}
 use Rattle.model.specs.Definitions.Calls.{Cutting}
-use Rattle.model.specs.Laws.Table.{boardOf}
+use Rattle.model.specs.Laws.Codes.Statement.{boardOf}
 use Rattle.checks.specs.Entries.{OnBoard, on-small, unreadable-says, noBoard-says, board-says}
 use Rattle.engine.specs.Replies.{refused-replied, done-replied, call-malformed, call-noBoard, cut-down, cut-done}
 use borrow.Author.Needs.{needs}

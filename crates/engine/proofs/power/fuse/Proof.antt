@@ -7,7 +7,7 @@ use borrow.Author.Tests.{ltb-true}
 use Rattle.model.specs.Definitions.Layout.{noFuse}
 use Rattle.model.specs.Definitions.Calls.{Fusing}
 use Rattle.model.specs.Laws.Logic.{and-right}
-use Rattle.model.specs.Laws.Table.{boardOf}
+use Rattle.model.specs.Laws.Codes.Statement.{boardOf}
 use Rattle.validity.specs.Search.{failed, passed}
 use Rattle.checks.specs.Entries.{OnBoard, on-small, unreadable-says, noBoard-says, board-says}
 use Rattle.engine.specs.Replies.{refused-replied, done-replied, call-malformed, call-noBoard, fuse-stores, fuse-down, fuse-done}

@@ -4,7 +4,7 @@ use mathlib.Core.Bool.{true}
 use native.Mathlib.Omega.{arith}
 use Rattle.model.specs.Definitions.WellFormed.{isDown}
 use Rattle.model.specs.Definitions.Calls.{Restarting}
-use Rattle.model.specs.Laws.Table.{boardOf}
+use Rattle.model.specs.Laws.Codes.Statement.{boardOf}
 use Rattle.model.specs.Laws.Keeps.Live.{isDown-down}
 use Rattle.validity.specs.Search.{failed, passed}
 use Rattle.exchange.specs.Banks.{holds-decode}

@@ -20,12 +20,12 @@ use Rattle.model.specs.Definitions.Parts.{zeros, member}
 use Rattle.model.specs.Definitions.Layout.{pageSize}
 use Rattle.model.specs.Definitions.Bank.{Board, Bank, boardAt, entryAt, onBoard, onWorking}
 use Rattle.model.specs.Definitions.WellFormed.{isGot, isUp, isReplaying, WellFormed}
-use Rattle.model.specs.Definitions.Steps.{Run, start, step, powerOff, withFuse, recorded, note, flush, checkpoint, Access, Read, Write, pageNamed, takes, access, withFrame, frameOf, giver, show, giveCopy, dropped, dropCopies, passOwnership, readFetch, writeFetch, fetch}
+use Rattle.model.specs.Definitions.Steps.{Run, start, step, powerOff, withFuse, note, flush, checkpoint, Access, Read, Write, pageNamed, takes, access, withFrame, frameOf, giver, show, giveCopy, dropped, dropCopies, passOwnership, readFetch, writeFetch, fetch}
 use Rattle.model.specs.Definitions.Replay.{loaded, recordsLeft, usedUp, differs, tookDue, replayOver, settled, endReplay, endIfOver, replayed}
 use Rattle.model.specs.Definitions.Calls.{Result, firstOf, unless, copiesOut, lackingOf, liveRefusals, prepared, performed, live, liveAfterEnd, replaying, accessRefusals, accessBank, checkpointBank, cutBank, fuseBank, restartBank, Call, Reading, Writing, Checkpointing, Cutting, Fusing, Restarting, callBank}
 use Rattle.model.specs.Laws.Logic.{byEq, cases, casesOption}
 use Rattle.model.specs.Laws.Boards.{settle, boards-onBoard, boardAt-same, droppedIf, boardAt-dropCopies}
-use Rattle.model.specs.Laws.Runs.{step-cases, lost-not, step-none, step-done, follows-none, follows-note-flush, Changed, entryAt-changed}
+use Rattle.model.specs.Laws.Runs.{step-none, step-done, follows-none, follows-note-flush, Changed, entryAt-changed}
 use Rattle.model.specs.Laws.Runs.Stores.{FlushedWith, note-flush-changed, show-changed}
 use Rattle.model.specs.Laws.Keeps.Clauses.{up-below}
 use Rattle.model.specs.Laws.Keeps.Rights.{or-cases, holder-up}
@@ -33,6 +33,7 @@ use Rattle.model.specs.Laws.Keeps.Fetches.{CanFetch, fetch-taken}
 use Rattle.model.specs.Laws.Keeps.Live.{CanAccess, can-fetch, firstOf-none, isUp-up, isDown-down, isReplaying-replaying}
 use Rattle.model.specs.Laws.Keeps.Replay.{endReplay-keeps}
 use Rattle.model.specs.Laws.Keeps.Calls.{Entered, entered-live, entered, fitting, board-taken, below-taken, taken-inReplay, live-can}
+use Rattle.model.specs.History.Runs.{noted-up}
 use Rattle.model.specs.History.Replaying.{going-left}
 use Rattle.model.specs.History.Counters.Runs.{Advances, powerOff-advances, Nobody, Only, advances-less, RunAdvances, run-trans, run-same, step-advances, flush-advances, checkpoint-advances}
 use Rattle.model.specs.History.Counters.Steps.{noted-advances, got-advances, giveCopy-advances, dropCopies-advances, passOwnership-advances, access-advances, withFuse-advances, Over, took-state, restarted-advances, took-advances, replayed-advances, settled-advances}
@@ -42,19 +43,10 @@ use Rattle.model.specs.Laws.Codes.Losses.{finished-run}
 
 -- a record noted, which leaves its board up, and a flush
 module _ (b : ℕ) (kind : Kind) (bytes : Bank → List ℕ) (r : Run) (u : r .lost ≡ none → boardAt (r .bank) b .state ≡ Up) where
-  noted-up : step (λ k. note b kind (bytes k) k) r .lost ≡ none → boardAt (step (λ k. note b kind (bytes k) k) r .bank) b .state ≡ Up
-  unfolding note onWorking
-  noted-up e =
-      let f : Board → Board = onWorking (recorded kind (bytes (r .bank))) in
-      step-cases (λ s. s .lost ≡ none → boardAt (s .bank) b .state ≡ Up) (λ k. note b kind (bytes k) k) r
-      (λ c i m. lost-not m i)
-      (λ n m. rw (boardAt-same b f (r .bank) (up-below (r .bank) b (u n))) (u n))
-      e
-
   noted-flush-advances : {P : ℕ → Type 0} → ((c : ℕ) → c ≢ b → P c → ⊥) → (r .lost ≡ none → Advances Nobody P (r .bank) (note b kind (bytes (r .bank)) (r .bank)))
       → RunAdvances Nobody P r (flush b (step (λ k. note b kind (bytes k) k) r))
   noted-flush-advances only a =
-      run-trans (step-advances (λ k. note b kind (bytes k) k) r a) (flush-advances b only (step (λ k. note b kind (bytes k) k) r) noted-up)
+      run-trans (step-advances (λ k. note b kind (bytes k) k) r a) (flush-advances b only (step (λ k. note b kind (bytes k) k) r) (noted-up b kind bytes r u))
 
 pub show-advances : (o p : ℕ) (r : Run) → (r .lost ≡ none → boardAt (r .bank) o .state ≡ Up) → RunAdvances Nobody Nobody r (show o p r)
 unfolding show isGot

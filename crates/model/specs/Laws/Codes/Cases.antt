@@ -14,7 +14,7 @@ use Rattle.model.specs.Definitions.Steps.{Run, start, Access, pageNamed,
 use Rattle.model.specs.Definitions.Replay.{differs, tookDue, replayOver, endIfOver, replayed}
 use Rattle.model.specs.Definitions.Calls.{Result, unless, finished, lackingOf, shortBoard, isSome, numberIn, liveRefusals, prepared, performed, live, liveAfterEnd, replaying, accessInRange, countersFull, accessRefusals, accessBank}
 use Rattle.model.specs.Laws.Logic.{cases, casesOption}
-use Rattle.model.specs.Laws.Table.{afterReplay}
+use Rattle.model.specs.Laws.Codes.Statement.{afterReplay}
 use Rattle.model.specs.Laws.Codes.Order.{unless-test, unless-go}
 
 module _ (P : Result → Type 0) where

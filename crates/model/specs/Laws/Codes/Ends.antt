@@ -20,7 +20,7 @@ use Rattle.model.specs.Definitions.Steps.{Run, start, step, powerOff, wi
 use Rattle.model.specs.Definitions.Replay.{loaded, usedUp, tookDue, endIfOver, replayed}
 use Rattle.model.specs.Definitions.Calls.{Result, unless, finished, prepared, performed, live, replaying, accessBank, checkpointBank, cutBank, fuseBank, restartBank, Call, Reading, Writing, Checkpointing, Cutting, Fusing, Restarting, callBank}
 use Rattle.model.specs.Laws.Logic.{casesOption}
-use Rattle.model.specs.Laws.Table.{OfAccess, boardOf, afterReplay}
+use Rattle.model.specs.Laws.Codes.Statement.{OfAccess, boardOf, afterReplay}
 use Rattle.model.specs.Laws.Tests.{says-replaying}
 use Rattle.model.specs.Laws.Codes.Order.{never, fails}
 use Rattle.model.specs.Laws.Codes.Cases.{plain-cases, live-cases, replaying-cases, access-cases}

@@ -20,7 +20,7 @@ use Rattle.model.specs.Definitions.Calls.{Result, unless, finished, copi
 use Rattle.model.specs.Laws.Logic.{cases, casesOption, byEq, clash}
 use Rattle.model.specs.Laws.Boards.{boardAt-same, boardAt-other}
 use Rattle.model.specs.Laws.Runs.{lost-not}
-use Rattle.model.specs.Laws.Table.{afterReplay, IsCut, LosesPower}
+use Rattle.model.specs.Laws.Codes.Statement.{afterReplay, IsCut, LosesPower}
 use Rattle.model.specs.Laws.Tests.{says-down, says-up}
 use Rattle.model.specs.Laws.Codes.Order.{never, fails, refuted}
 use Rattle.model.specs.Laws.Codes.Cases.{plain-cases, live-cases, replaying-cases, access-cases}

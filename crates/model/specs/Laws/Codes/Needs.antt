@@ -15,7 +15,7 @@ use Rattle.model.specs.Definitions.Calls.{copiesOut, fetchNeed, dropNeed
 use Rattle.model.specs.Laws.Logic.{cases, clash, byEq, byOption, and-right, true-not}
 use Rattle.model.specs.Laws.Lists.{Lowest, firstBelow-none, firstBelow-some}
 use Rattle.model.specs.Laws.Sets.{member-none}
-use Rattle.model.specs.Laws.Table.{Fetches, Writes, Holds, ownerOf, Needs, nothing, reader, readOwner, writer, writeOwner, otherHolder, holder, storedCount, volatileCount, Short, SomeShort, LowestShort}
+use Rattle.model.specs.Laws.Codes.Statement.{Fetches, Writes, Holds, ownerOf, Needs, nothing, reader, readOwner, writer, writeOwner, otherHolder, holder, storedCount, volatileCount, Short, SomeShort, LowestShort}
 use Rattle.model.specs.Laws.Tests.{Says, says-lt}
 use Rattle.model.specs.Laws.Codes.Order.{fails, refuted, says-iff}
 use Rattle.model.specs.Laws.Codes.Tests.{lacks-right}

@@ -15,7 +15,7 @@ use Rattle.model.specs.Definitions.Steps.{Run}
 use Rattle.model.specs.Definitions.Calls.{Result, firstOf, unless}
 use Rattle.model.specs.Laws.Logic.{clash}
 use Rattle.model.specs.Laws.Tests.{Says, says-lt, says-le}
-use Rattle.model.specs.Laws.Table.{Row, First, NoRow, WhoIn}
+use Rattle.model.specs.Laws.Codes.Statement.{Row, First, NoRow, WhoIn}
 
 -- two constructors that an equation in scope joins: `cc` finds 0 ≡ 1
 pub never : {X : Type 0} → _≡_ {A = ℕ} 0 1 → X

@@ -23,7 +23,7 @@ use Rattle.model.specs.Definitions.Calls.{Result, unless, finished, lack
 use Rattle.model.specs.Laws.Logic.{cases, casesOption}
 use Rattle.model.specs.Laws.Boards.{boardAt-same}
 use Rattle.model.specs.Laws.Runs.Stores.{endReplay-changed}
-use Rattle.model.specs.Laws.Table.{Row, OfAccess, boardOf, AccessOut, NumbersOut, StateOut, CountersEnd, CountersOut, ReplayOther, ReplayOut, afterReplay, LiveOn, up, replayEnded, Live, ownerOf, FromNotUp, OwnerOut, SomeShort, RoomOut, LowestShort, refusalRows}
+use Rattle.model.specs.Laws.Codes.Statement.{Row, OfAccess, boardOf, AccessOut, NumbersOut, StateOut, CountersEnd, CountersOut, ReplayOther, ReplayOut, afterReplay, LiveOn, up, replayEnded, Live, ownerOf, FromNotUp, OwnerOut, SomeShort, RoomOut, LowestShort, refusalRows}
 use Rattle.model.specs.Laws.Tests.{Says, says-and, says-down, says-up, says-replaying}
 use Rattle.model.specs.Laws.Codes.Order.{never, fails, says-absurd, says-iff, says-no, says-not-and, says-not-lt, says-not-pos, Judged, judged-nil, judged-past, judged-test, judged-go}
 use Rattle.model.specs.Laws.Codes.Tests.{access-out, counters-end, replay-other, LastDue, last-due}

@@ -1,4 +1,4 @@
--- Each test of Definitions.Calls and Definitions.Replay decides the condition that Laws.Table states for it. Assumes nothing.
+-- Each test of Definitions.Calls and Definitions.Replay decides the condition that Laws.Codes.Statement states for it. Assumes nothing.
 use mathlib.Core.Path.{_≡_, refl, ap}
 use mathlib.Core.Logic.{_≢_, inl, inr}
 use Prim.Native.Nat.{ℕ, suc, _+_, _-_, _≤_, _<_}
@@ -23,7 +23,7 @@ use Rattle.model.specs.Definitions.Steps.{Access, Read, Write, pageNamed
 use Rattle.model.specs.Definitions.Replay.{recordsLeft, used, gotDue, due, sameGot, lacking, needsGot, differs, tookGot, tookDue, replayOver}
 use Rattle.model.specs.Definitions.Calls.{accessInRange, countersFull}
 use Rattle.model.specs.Laws.Logic.{byBool, casesOption}
-use Rattle.model.specs.Laws.Table.{AccessOut, CountersEnd, LacksRight, Due, NeedsGot, ReplayOther}
+use Rattle.model.specs.Laws.Codes.Statement.{AccessOut, CountersEnd, LacksRight, Due, NeedsGot, ReplayOther}
 use Rattle.model.specs.Laws.Tests.{Says, says-and, says-eq, says-le}
 use Rattle.model.specs.Laws.Codes.Order.{never, fails, says-absurd, says-iff, says-no, says-or, says-not-and, says-not-lt}
 

@@ -4,7 +4,7 @@ use mathlib.Core.Logic.{_≢_}
 use Prim.Native.Nat.{ℕ, zero, suc, _+_, _≤_}
 use native.Mathlib.Omega.{arith}
 use mathlib.Core.Option.{none}
-use mathlib.Core.List.{List, [], _++_}
+use mathlib.Core.List.{List, []}
 use lib.ListN.{length, set, length-set}
 use Rattle.types.specs.declared.Frame.{Frame}
 use Rattle.types.specs.declared.Record.{Record}
@@ -39,8 +39,7 @@ bytes-record r m h =
     (each-cons {x = 0} (omega arith) (each-append (bytesOf sinceSize (r .count)) (r .bytes) (bytes-bytesOf sinceSize (r .count)) (h .bytes)))))
 
 -- the count becomes 0, the slots stay as they are
-pub logOk-old : {pages : ℕ} (l : Log) → pages ≤ mostPages → LogOk pages l
-    → LogOk pages (record { records = []; rest = encodeAll encodeRecord (l .records) ++ l .rest })
+pub logOk-old : {pages : ℕ} (l : Log) → pages ≤ mostPages → LogOk pages l → LogOk pages (record { records = []; rest = encodeLog l })
 unfolding encodeLog
 logOk-old {pages} l m h =
     record {
@@ -102,8 +101,7 @@ storedFrame-fits d b p x h =
 pub storedHead-fits : (d : List Entry) (b : ℕ) (x : Board) → length d ≤ mostPages → Fits d b x → Fits d b (storedHead x)
 unfolding storedHead
 storedHead-fits d b x m h =
-    let emptied : Log → Log = λ l. record { records = []; rest = encodeAll encodeRecord (l .records) ++ l .rest } in
-    onSpare-fits d b (λ a. record { number = x .working .number; frames = a .frames; log = emptied (a .log) }) x h
+    onSpare-fits d b (λ a. record { number = x .working .number; frames = a .frames; log = record { records = []; rest = encodeLog (a .log) } }) x h
     (record {
       number = h .alone .fields .number;
       frames = h .alone .fields .spare .frames;

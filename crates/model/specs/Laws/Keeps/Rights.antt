@@ -45,18 +45,19 @@ entry-keeps p f k j w l s d e g =
     (each-set (k .directory) p (f (entryIn (k .directory) p)) (w .directory) e))
     (λ c h. rw d (g c (rw (s .boards) at h)))
 
-module _ (d : List Entry) (p : ℕ) (f : Entry → Entry) (l : p < length d) (b : ℕ) (x : Board) (h : Fits d b x) where
-  entryIn-same : entryIn (update p f d) p ≡ f (entryIn d p)
-  entryIn-same = getD-update-same p f d (record { owner = 0; copies = 0 }) l
+module _ (d : List Entry) (p : ℕ) (f : Entry → Entry) where
+  pub entryIn-same : p < length d → entryIn (update p f d) p ≡ f (entryIn d p)
+  entryIn-same l = getD-update-same p f d (record { owner = 0; copies = 0 }) l
 
-  entryIn-other : (q : ℕ) → q ≢ p → entryIn (update p f d) q ≡ entryIn d q
+  pub entryIn-other : (q : ℕ) → q ≢ p → entryIn (update p f d) q ≡ entryIn d q
   entryIn-other q n = getD-update-other p q f d (record { owner = 0; copies = 0 }) n
 
+module _ (d : List Entry) (p : ℕ) (f : Entry → Entry) (l : p < length d) (b : ℕ) (x : Board) (h : Fits d b x) where
   -- a board of which the changed entry says what the old one said
   unaffected-fits : SameFor b (entryIn d p) (f (entryIn d p)) → Fits (update p f d) b x
   unaffected-fits s =
       fits-directory d (update p f d) b x (length-update p f d)
-      (λ q m. byEq q p (λ e. rw (e, entryIn-same) s) (λ n. rw (entryIn-other q n) (record { right = refl; copies = refl })))
+      (λ q m. byEq q p (λ e. rw (e, entryIn-same d p f l) s) (λ n. rw (entryIn-other d p f q n) (record { right = refl; copies = refl })))
       h
 
   -- an up board whose frame of page p gets the right that the changed entry gives it
@@ -88,8 +89,8 @@ module _ (d : List Entry) (p : ℕ) (f : Entry → Entry) (l : p < length d) (b 
               rights =
                   λ e q m.
                   byEq q p
-                  (λ i. rw (i, entryIn-same, frameAt-same (x .working .frames) p g (rw (h .alone .fields .frames .count) l)) r)
-                  (λ n. rw (entryIn-other q n, frameAt-other (x .working .frames) p q g n) (h .agreed .rights e q (rw (length-update p f d) at m)));
+                  (λ i. rw (i, entryIn-same d p f l, frameAt-same (x .working .frames) p g (rw (h .alone .fields .frames .count) l)) r)
+                  (λ n. rw (entryIn-other d p f q n, frameAt-other (x .working .frames) p q g n) (h .agreed .rights e q (rw (length-update p f d) at m)));
               copies = λ n. absurd (n u);
             };
       }

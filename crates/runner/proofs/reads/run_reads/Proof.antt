@@ -2,7 +2,8 @@
 use mathlib.Core.Path.{_≡_, refl, sym, _∙_}
 use native.Mathlib.Omega.{arith}
 use lib.ListN.{length}
-use Rattle.script.specs.Laws.Machine.{InBuffers, starts}
+use Rattle.script.specs.Laws.Machine.{starts}
+use Rattle.script.specs.Contracts.{InBuffers}
 use borrow.Author.Needs.{needs}
 use Rattle.runner.proofs.reads.run_reads.Statement.{statement}
 use Rattle.runner.proofs.reads.run_reads.Tie as tie

@@ -1,6 +1,5 @@
 -- `script::number::leading_zero` meets its contract. Assumes nothing.
 use mathlib.Core.Path.{sym}
-use native.Mathlib.Omega.{arith}
 use borrow.Author.Needs.{needs}
 use Rattle.script.specs.Laws.Numbers.{leading-short, leading-long}
 use Rattle.script.proofs.number.leading_zero.Statement.{statement}

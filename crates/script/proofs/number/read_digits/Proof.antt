@@ -1,20 +1,19 @@
 -- `script::number::read_digits` meets its contract. The loop's invariant: the digits passed gave v, and the whole word is what the rest gives behind v.
 -- Assumes nothing.
 use mathlib.Core.Path.{_≡_, refl, sym, _∙_}
-use Prim.Native.Nat.{ℕ, _≤_, _<_, _-_}
-use mathlib.Core.Bool.{true, false}
+use Prim.Native.Nat.{_≤_, _-_}
 use native.Mathlib.Omega.{arith}
 use borrow.Author.Needs.{needs}
 use borrow.Author.Tests.{not-true, not-false}
-use lib.ListN.{length, drop, getD}
-use Rattle.model.specs.Definitions.Layout.{lastNumber}
-use Rattle.script.specs.Definitions.Numbers.{isDigit, digitsFrom}
+use lib.ListN.{length, drop}
+use Rattle.script.specs.Definitions.Numbers.{largestNumber}
+use Rattle.script.specs.Definitions.Numbers.{digitsFrom}
 use Rattle.script.specs.Laws.Numbers.{digits-end-at, digits-over, digit-least, digits-other-at, digits-next-at}
 use Rattle.script.proofs.number.read_digits.Statement.{statement}
 use Rattle.script.proofs.number.read_digits.Tie as tie
 
 abbrev Inv-loop : tie.InvT-loop
-Inv-loop word v₀ i₀ v i = (i ≤ length word) × (v ≤ lastNumber) × (digitsFrom 0 word ≡ digitsFrom v (drop i word))
+Inv-loop word v₀ i₀ v i = (i ≤ length word) × (v ≤ largestNumber) × (digitsFrom 0 word ≡ digitsFrom v (drop i word))
 
 abbrev μ-loop : tie.MeasureT-loop
 μ-loop word v₀ i₀ v i = length word - i

@@ -1,8 +1,8 @@
 -- The proof of the cycle of calls {put_digits}. The measure is the number. Assumes nothing.
 use native.Mathlib.Omega.{arith}
-use lib.ListN.{length, length-set}
+use lib.ListN.{length-set}
 use Rattle.script.specs.Laws.Numbers.{length-more}
-use Rattle.script.specs.Laws.Output.{digit-room, put-digit, put-length, last-digit-room, put-last-digit}
+use Rattle.script.specs.Laws.Output.{digit-room, put-digit, last-digit-room, put-last-digit}
 use Prim.Native.Nat.{ℕ, _≤_, _<_}
 use borrow.Fn.Kinds.{In}
 use borrow.Fn.PlainCycle.{Measures, is, falls, and}

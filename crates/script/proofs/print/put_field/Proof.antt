@@ -2,12 +2,12 @@
 use Prim.Native.Nat.{_≤_}
 use native.Mathlib.Omega.{arith}
 use borrow.Author.Needs.{needs}
-use Rattle.model.specs.Definitions.Layout.{lastNumber}
+use Rattle.script.specs.Definitions.Numbers.{largestNumber}
 use Rattle.script.specs.Laws.Output.{field-room, behind-room, put-field, field-near}
 use Rattle.script.proofs.print.put_field.Statement.{statement}
 use Rattle.script.proofs.print.put_field.Tie as tie
 
-small : (c : tie.Start) → c .args .n ≤ lastNumber
+small : (c : tie.Start) → c .args .n ≤ largestNumber
 small c = omega arith
 
 put-digits-requires : tie.Need-put-digits-requires

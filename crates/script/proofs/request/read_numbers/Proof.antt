@@ -6,7 +6,8 @@ use borrow.Author.Needs.{needs}
 use lib.ListN.{length, drop}
 use Rattle.script.specs.declared.request.Numbers.the-variants.{None}
 use Rattle.script.specs.Definitions.Lines.{numbersFrom}
-use Rattle.script.specs.Laws.Lines.{wordLength, wordsBehind, tail-part, word-ends, numbers-next-at, numbers-end-at}
+use Rattle.script.specs.Laws.Lines.{tail-part, word-ends, numbers-next-at, numbers-end-at}
+use Rattle.script.specs.Contracts.{wordLength, wordsBehind}
 use Rattle.script.proofs.request.read_numbers.Statement.{statement}
 use Rattle.script.proofs.request.read_numbers.Tie as tie
 

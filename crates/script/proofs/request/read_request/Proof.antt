@@ -4,7 +4,8 @@ use Prim.Native.Nat.{_≤_}
 use native.Mathlib.Omega.{arith}
 use borrow.Author.Needs.{needs}
 use lib.ListN.{length}
-use Rattle.script.specs.Laws.Lines.{wordLength, word-within, tail-part, request-long, request-other, request-letter}
+use Rattle.script.specs.Laws.Lines.{word-within, tail-part, request-long, request-other, request-letter}
+use Rattle.script.specs.Contracts.{wordLength}
 use Rattle.script.proofs.request.read_request.Statement.{statement}
 use Rattle.script.proofs.request.read_request.Tie as tie
 

@@ -4,7 +4,8 @@ use Prim.Native.Nat.{_≤_, _-_, _+_}
 use native.Mathlib.Omega.{arith}
 use lib.ListN.{length, drop}
 use borrow.Author.Tests.{eq-eqb, ne-eqb}
-use Rattle.script.specs.Laws.Lines.{wordLength, word-space-at, word-longer-at, word-end-at}
+use Rattle.script.specs.Laws.Lines.{word-space-at, word-longer-at, word-end-at}
+use Rattle.script.specs.Contracts.{wordLength}
 use Rattle.script.proofs.request.word_length.Statement.{statement}
 use Rattle.script.proofs.request.word_length.Tie as tie
 

@@ -1,5 +1,5 @@
 -- `script::stream::end_input` meets its contract: the machine with an empty output is finished. Assumes nothing.
-use Rattle.script.specs.Definitions.Feeding.{finish}
+use Rattle.script.specs.Feeding.{finish}
 use Rattle.script.specs.Laws.Stream.{put-printed, emptied-held}
 use borrow.Author.Needs.{needs}
 use Rattle.script.proofs.stream.end_input.Statement.{statement}

@@ -1,6 +1,6 @@
 -- `script::tally::stopped` meets its contract. Assumes nothing.
 use mathlib.Core.Path.{refl}
-use Rattle.script.specs.Definitions.Feeding.{stopped}
+use Rattle.script.specs.Feeding.{stopped}
 use Rattle.script.proofs.tally.stopped.Statement.{statement}
 use Rattle.script.proofs.tally.stopped.Tie as tie
 

@@ -9,7 +9,8 @@ use denote.Enum.Declared.{tagOf}
 use Rattle.script.specs.declared.request.Request.{Request}
 use Rattle.script.specs.declared.request.Request.the-variants.{Make, Read, Write, Checkpoint, Cut, Fuse, Restart, Unreadable}
 use Rattle.script.specs.Definitions.Runner.{work}
-use Rattle.script.specs.Laws.Work.{called, work-called, works-as, make-first}
+use Rattle.script.specs.Laws.Work.{work-called, works-as, make-first}
+use Rattle.script.specs.Contracts.{called}
 use Rattle.script.proofs.request.Request as R
 use borrow.Author.Needs.{needs}
 use Rattle.script.proofs.work.line_work.Statement.{statement}
@@ -32,7 +33,7 @@ seven (inr (inr (inr (inr (inr (inl e)))))) = omega arith
 seven (inr (inr (inr (inr (inr (inr e)))))) = omega arith
 
 no-make : (q : Request) (i : ℕ) (s : List ℕ) → OneOf (1 ∷ 2 ∷ 3 ∷ 4 ∷ 5 ∷ 6 ∷ 7 ∷ []) (tagOf R.the-type q) → work i q s ≡ called q s
-unfolding work called
+unfolding work
 no-make (Make n p) i s h = absurd (seven h)
 no-make (Read b p o) i s h = refl
 no-make (Write b p o v) i s h = refl

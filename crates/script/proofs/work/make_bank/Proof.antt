@@ -6,11 +6,12 @@ use native.Mathlib.Omega.{arith}
 use lib.ListN.{length}
 use lib.Seq.{length-take-le}
 use borrow.Author.Tests.{not-true, not-false}
-use Rattle.fresh.specs.Fresh.{sizesAllowed, sizes-say}
-use Rattle.script.specs.Laws.Work.{mostBank, bank-sizes, make-works-refused, make-works-done}
+use Rattle.script.specs.Laws.Work.{bank-sizes, make-works-refused, make-works-done}
 use borrow.Author.Needs.{needs}
 use Rattle.script.proofs.work.make_bank.Statement.{statement}
 use Rattle.script.proofs.work.make_bank.Tie as tie
+use Rattle.model.specs.Definitions.WellFormed.{sizesAllowed}
+use Rattle.model.specs.Laws.Fresh.{sizes-say}
 
 -- the sizes are allowed, so the bank fits
 allowed : (c : tie.Else1) → sizesAllowed (c .before .before .before .args .boards) (c .before .before .before .args .pages) ≡ true

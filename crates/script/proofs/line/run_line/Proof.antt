@@ -1,8 +1,8 @@
--- `script::runner::run_line` meets its contract. Assumes nothing.
+-- `script::line::run_line` meets its contract. Assumes nothing.
 use Rattle.script.specs.Laws.Progress.{line-ran}
 use borrow.Author.Needs.{needs}
-use Rattle.script.proofs.runner.run_line.Statement.{statement}
-use Rattle.script.proofs.runner.run_line.Tie as tie
+use Rattle.script.proofs.line.run_line.Statement.{statement}
+use Rattle.script.proofs.line.run_line.Tie as tie
 
 add-number : tie.Need-add-number
 add-number c = search needs

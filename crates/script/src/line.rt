@@ -4,9 +4,8 @@ use crate::request::read_request;
 use crate::tally::Tally;
 use crate::tally::with_line;
 use crate::work::line_work;
-ghost use mathlib.Core.Path.{_≡_};
 ghost use Rattle.script.specs.Definitions.Runner.{line as lineStep};
-ghost use Rattle.script.specs.Laws.Progress.{Ready, Ran, stateOf};
+ghost use Rattle.script.specs.Contracts.{Ready, Ran, stateOf};
 
 // How far the runner is: the bank's bytes, the tally, and the place of the output's next byte.
 pub struct Progress {
