@@ -21,17 +21,32 @@ ghost use Rattle.model.specs.Definitions.Layout.{mark0At, slotSize};
 ghost use Rattle.model.specs.Definitions.Codec.{mark0, mark1, pageOf, kindOf, encodeRecord, decodeRecord};
 ghost use Rattle.fields.specs.Records.{kindBytes};
 
+// "Marks: "GC" got copy, "GO" got own, "SH" shown, "DR" dropped."
+pub const GOT_MARK0: u8 = b'G';
+
+pub const COPY_MARK1: u8 = b'C';
+
+pub const OWN_MARK1: u8 = b'O';
+
+pub const SHOWN_MARK0: u8 = b'S';
+
+pub const SHOWN_MARK1: u8 = b'H';
+
+pub const DROPPED_MARK0: u8 = b'D';
+
+pub const DROPPED_MARK1: u8 = b'R';
+
 // The kind that a mark and a page stand for.
 pub fn read_kind(m0: u8, m1: u8, page: u8) -> Kind
     ensures { λ r. ⌜ r ≡ kindOf m0 m1 page ⌝ }
 {
-    if m0 == b'G' {
-        if m1 == b'C' {
+    if m0 == GOT_MARK0 {
+        if m1 == COPY_MARK1 {
             return Kind::Got(CopyOrOwn::GotCopy, page);
         }
         return Kind::Got(CopyOrOwn::GotOwn, page);
     }
-    if m0 == b'S' {
+    if m0 == SHOWN_MARK0 {
         return Kind::Shown(page);
     }
     Kind::Dropped(page)
@@ -42,9 +57,9 @@ pub fn first_mark(kind: Kind) -> u8
     ensures { λ r. ⌜ r ≡ mark0 kind ⌝ }
 {
     match kind {
-        Kind::Got(_, _) => b'G',
-        Kind::Shown(_) => b'S',
-        Kind::Dropped(_) => b'D',
+        Kind::Got(_, _) => GOT_MARK0,
+        Kind::Shown(_) => SHOWN_MARK0,
+        Kind::Dropped(_) => DROPPED_MARK0,
     }
 }
 
@@ -54,11 +69,11 @@ pub fn second_mark(kind: Kind) -> u8
 {
     match kind {
         Kind::Got(right, _) => match right {
-            CopyOrOwn::GotCopy => b'C',
-            CopyOrOwn::GotOwn => b'O',
+            CopyOrOwn::GotCopy => COPY_MARK1,
+            CopyOrOwn::GotOwn => OWN_MARK1,
         },
-        Kind::Shown(_) => b'H',
-        Kind::Dropped(_) => b'R',
+        Kind::Shown(_) => SHOWN_MARK1,
+        Kind::Dropped(_) => DROPPED_MARK1,
     }
 }
 

@@ -48,13 +48,13 @@ either : (g c o : Bool) → (g && (c || o)) ≡ ((g && c) || (g && o))
 either true c o = refl
 either false c o = refl
 
-pub got-number : (m0 m1 : ℕ) → m0 < byteValues → gotMark m0 m1 ≡ (eqb (m0 + 256 * m1) 17223 || eqb (m0 + 256 * m1) 20295)
+pub got-number : (m0 m1 : ℕ) → m0 < byteValues → gotMark m0 m1 ≡ (eqb (m0 + 256 * m1) (letterG + 256 * letterC) || eqb (m0 + 256 * m1) (letterG + 256 * letterO))
 unfolding gotMark
 got-number m0 m1 h =
     rw (pair-test m0 m1 letterG letterC h (omega arith), pair-test m0 m1 letterG letterO h (omega arith))
     (either (eqb m0 letterG) (eqb m1 letterC) (eqb m1 letterO))
 
-pub bare-number : (m0 m1 : ℕ) → m0 < byteValues → bareMark m0 m1 ≡ (eqb (m0 + 256 * m1) 18515 || eqb (m0 + 256 * m1) 21060)
+pub bare-number : (m0 m1 : ℕ) → m0 < byteValues → bareMark m0 m1 ≡ (eqb (m0 + 256 * m1) (letterS + 256 * letterH) || eqb (m0 + 256 * m1) (letterD + 256 * letterR))
 unfolding bareMark
 bare-number m0 m1 h = rw (pair-test m0 m1 letterS letterH h (omega arith), pair-test m0 m1 letterD letterR h (omega arith))
 

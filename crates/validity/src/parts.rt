@@ -2,6 +2,13 @@
 use fields::bytes::get_u32;
 use fields::copies::holds;
 use fields::frame::right_byte;
+use fields::slot::COPY_MARK1;
+use fields::slot::DROPPED_MARK0;
+use fields::slot::DROPPED_MARK1;
+use fields::slot::GOT_MARK0;
+use fields::slot::OWN_MARK1;
+use fields::slot::SHOWN_MARK0;
+use fields::slot::SHOWN_MARK1;
 use fields::widths::FRAME_BYTES_AT;
 use fields::widths::FRAME_SIZE;
 use fields::widths::MARK0_AT;
@@ -95,14 +102,14 @@ pub fn frames_valid(frames: &[u8], pages: usize) -> bool
     true
 }
 
-// The marks as numbers, the first letter lowest: "GC", "GO", "SH", "DR".
-const GOT_COPY: usize = 17223;
+// The marks as numbers, the first letter lowest.
+const GOT_COPY: usize = GOT_MARK0 as usize + 256 * COPY_MARK1 as usize;
 
-const GOT_OWN: usize = 20295;
+const GOT_OWN: usize = GOT_MARK0 as usize + 256 * OWN_MARK1 as usize;
 
-const SHOWN: usize = 18515;
+const SHOWN: usize = SHOWN_MARK0 as usize + 256 * SHOWN_MARK1 as usize;
 
-const DROPPED: usize = 21060;
+const DROPPED: usize = DROPPED_MARK0 as usize + 256 * DROPPED_MARK1 as usize;
 
 // Two letters as one number, so that a mark takes one comparison.
 fn mark(m0: u8, m1: u8) -> usize

@@ -80,8 +80,12 @@ noBoard =
 unfoldable pub boardAt : Bank → ℕ → Board
 boardAt k b = getD (k .boards) b noBoard
 
+-- a page past the directory
+abbrev pub noEntry : Entry
+noEntry = record { owner = 0; copies = 0 }
+
 unfoldable pub entryAt : Bank → ℕ → Entry
-entryAt k p = getD (k .directory) p (record { owner = 0; copies = 0 })
+entryAt k p = getD (k .directory) p noEntry
 
 unfoldable pub frameAt : List Frame → ℕ → Frame
 frameAt fs p = getD fs p emptyFrame

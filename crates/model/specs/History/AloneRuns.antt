@@ -9,7 +9,7 @@ use mathlib.Core.Option.{none, some}
 use lib.ListN.{length, List·getD-eq-default}
 use lib.Dec.{eqb, ltb}
 use borrow.Author.Tests.{ltb-true, ltb-false, eqb-true, eqb-false, eq-eqb, ne-eqb}
-use Rattle.model.specs.Definitions.Bank.{Entry, Board, Bank, boardAt, entryAt, onBoard, onWorking}
+use Rattle.model.specs.Definitions.Bank.{Entry, Board, Bank, boardAt, entryAt, onBoard, onWorking, noEntry}
 use Rattle.model.specs.Definitions.WellFormed.{WellFormed}
 use Rattle.model.specs.Definitions.Steps.{Run, start, step, powerOff, burnt, store, storedFrame, storedHead, storedSelector, restedWorking, storeFrames, checkpoint}
 use Rattle.model.specs.Definitions.Replay.{replayOver, settled, endReplay, endIfOver}
@@ -171,9 +171,9 @@ owned-same b k j s h p =
     (λ e. e ∙ sym (ne-eqb (entryAt j p .owner) b (λ q. eqb-false (entryAt k p .owner) b e (i .1 q)))))
     (λ t.
     let out : length (k .directory) ≤ p = ltb-false p (length (k .directory)) t in
-    let e : entryAt k p ≡ record { owner = 0; copies = 0 } = List·getD-eq-default (k .directory) (record { owner = 0; copies = 0 }) {n = p} out in
-    let f : entryAt j p ≡ record { owner = 0; copies = 0 } =
-    List·getD-eq-default (j .directory) (record { owner = 0; copies = 0 }) {n = p} (omega (arith, s .pages)) in
+    let e : entryAt k p ≡ noEntry = List·getD-eq-default (k .directory) noEntry {n = p} out in
+    let f : entryAt j p ≡ noEntry =
+    List·getD-eq-default (j .directory) noEntry {n = p} (omega (arith, s .pages)) in
     ap (λ (t : Entry). eqb (t .owner) b) (e ∙ sym f))
 
 module _ (b : ℕ) (k j : Bank) (l : b < length (k .boards)) (s : SameAt b k j) (w : WellFormedBut b InReplay k) (v : WellFormedBut b InReplay j) where

@@ -15,7 +15,7 @@ use Rattle.model.specs.Definitions.WellFormed.{WellFormed, sizesAllowed}
 use Rattle.model.specs.Definitions.Calls.{Call, callBank, replyOf, call}
 use Rattle.model.specs.Laws.CodecBank.{decode-encode}
 use Rattle.model.specs.Laws.WellFormedTest.{wellFormed-complete, fields-of}
-use Rattle.model.specs.History.Statement.{History, noHistory, begin, after}
+use Rattle.model.specs.History.Statement.{History, noHistory, begin, after, afterSeen, made}
 use Rattle.model.specs.History.Banks.{systemOf, historyAfter, grantsAfter}
 
 pub decoded : (k : Bank) → WellFormed k → decode (encode k) ≡ k
@@ -28,16 +28,16 @@ call-encode c k w = cc (wellFormed-complete k w, decoded k w)
 
 pub after-system : (c : Call) (k : Bank) (h : History) (granted : ℕ → ℕ) → WellFormed k → WellFormed (callBank c k .run .bank)
     → after c (systemOf k h granted) ≡ systemOf (callBank c k .run .bank) (historyAfter c k h) (grantsAfter c k granted)
-unfolding after systemOf historyAfter grantsAfter replyOf
+unfolding afterSeen systemOf historyAfter grantsAfter replyOf
 after-system c k h granted w v = rw (call-encode c k w, decoded k w, decoded (callBank c k .run .bank) v)
 
 pub begin-system : (n p : ℕ) → begin n p ≡ systemOf (fresh n p) noHistory (λ b. 0)
-unfolding begin systemOf
+unfolding made systemOf
 begin-system n p = refl
 
 -- where it begins: the bytes that a make answered Done leaves, whatever they were before
 pub make-begins : (n p : ℕ) (s : List ℕ) (v : ℕ) → make n p s .outcome .answer ≡ Done v → make n p s .bytes ≡ begin n p .bytes
-unfolding make refused begin
+unfolding make refused made
 make-begins n p s v h =
     let P : Reply → Type 0 = λ r. r .outcome .answer ≡ Done v → r .bytes ≡ encode (fresh n p) in
     cases P (sizesAllowed n p)

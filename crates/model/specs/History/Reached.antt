@@ -8,7 +8,7 @@ use Rattle.model.specs.Definitions.Codec.{encode, decode}
 use Rattle.model.specs.Definitions.WellFormed.{SizesOk}
 use Rattle.model.specs.Definitions.Calls.{Call, callBank, Reply, call, replyOf}
 use Rattle.model.specs.Laws.Keeps.Calls.{call-keeps}
-use Rattle.model.specs.History.Statement.{noHistory, System, begin, after, Premise, Premises}
+use Rattle.model.specs.History.Statement.{noHistory, System, begin, after, Premise, Premises, afterSeen, PremiseSeen, PremisesSeen, runOf, made}
 use Rattle.model.specs.History.Invariant.{Invariant, nobody}
 use Rattle.model.specs.History.Kept.{PremiseOn, call-invariant}
 use Rattle.model.specs.History.Begins.{fresh-invariant}
@@ -35,19 +35,19 @@ module _ (t : System) (s : Stands t) where
   answer-is c = ap (λ (y : Reply). y .outcome .answer) (call-is c)
 
   bytes-is : (c : Call) → after c t .bytes ≡ encode (callBank c bank .run .bank)
-  unfolding after replyOf
+  unfolding afterSeen replyOf
   bytes-is c = ap (λ (y : Reply). y .bytes) (call-is c)
 
   pub bank-is : (c : Call) → decode (after c t .bytes) ≡ callBank c bank .run .bank
-  unfolding after replyOf
+  unfolding afterSeen replyOf
   bank-is c = rw (call-is c) (decoded (callBank c bank .run .bank) (call-keeps c bank (s .invariant .formed)))
 
   history-is : (c : Call) → after c t .history ≡ historyAfter c bank (t .history)
-  unfolding after historyAfter replyOf
+  unfolding afterSeen historyAfter replyOf
   history-is c = rw (call-is c, decoded (callBank c bank .run .bank) (call-keeps c bank (s .invariant .formed)))
 
   premise-on : (c : Call) → Premise c t → PremiseOn c bank (t .history)
-  unfolding Premise
+  unfolding PremiseSeen
   premise-on c p b a e n d r m = p b a e n (rw (answer-is c) d) r m
 
   pub stands-after : (c : Call) → Premise c t → Stands (after c t)
@@ -60,12 +60,12 @@ module _ (t : System) (s : Stands t) where
 
 -- any list of calls that keeps the premise
 pub stands-all : (cs : List Call) (t : System) → Stands t → Premises cs t → Stands (afterAll cs t)
-unfolding afterAll Premises
+unfolding afterAll Premises PremisesSeen runOf afterSeen
 stands-all [] t s p = s
 stands-all (c ∷ cs) t s p = stands-all cs (after c t) (stands-after t s c (p .0)) (p .1)
 
 stands-begin : (n p : ℕ) → SizesOk n p → Stands (begin n p)
-unfolding begin
+unfolding made
 stands-begin n p s =
     let i : Invariant nobody (fresh n p) noHistory = fresh-invariant n p s in
     let d : decode (encode (fresh n p)) ≡ fresh n p = decoded (fresh n p) (i .formed) in

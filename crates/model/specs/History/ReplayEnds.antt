@@ -23,7 +23,7 @@ use Rattle.model.specs.Laws.Boards.{boardAt-out}
 use Rattle.model.specs.Laws.Runs.{lost-not}
 use Rattle.model.specs.Laws.Codes.Power.{byBoard}
 use Rattle.model.specs.Laws.Keeps.Clauses.{up-not-down, up-not-replaying, down-not-replaying}
-use Rattle.model.specs.History.Statement.{History, ofBoard, entryCount, repeats, System, accessOf, after, Premise, Premises}
+use Rattle.model.specs.History.Statement.{History, ofBoard, entryCount, repeats, System, accessOf, after, Premise, Premises, afterSeen, PremiseSeen, PremisesSeen, runOf}
 use Rattle.model.specs.History.Invariant.{CountsAgree, Invariant, nobody}
 use Rattle.model.specs.History.Logging.{recoveryPoint-same}
 use Rattle.model.specs.History.Recovery.{CountedBoard, call-counted}
@@ -55,7 +55,7 @@ record Stood (b : ℕ) (cs : List Call) (t : System) : Type 0 where
   selected : boardIn b (afterAll cs t) .stable .selected ≡ boardIn b t .stable .selected
 
 stood : (b : ℕ) (cs : List Call) (t : System) → Stands t → Premises cs t → StaysReplaying b cs t → Stood b cs t
-unfolding StaysReplaying Premises afterAll doneIn
+unfolding StaysReplaying Premises PremisesSeen runOf afterSeen afterAll doneIn
 stood b [] t s p r = record { state = r; number = omega arith; selected = refl }
 stood b (c ∷ cs) t s p r =
     let rest : Stood b cs (after c t) = stood b cs (after c t) (stands-after t s c (p .0)) (p .1) (r .1) in
@@ -103,7 +103,7 @@ module _ (b : ℕ) (t : System) (s : Stands t) (v : ℕ) (done : answerIn (Resta
   from = after (Restarting b) t
 
   stands-from : Stands from
-  unfolding Premise accessOf
+  unfolding PremiseSeen accessOf
   stands-from = stands-after t s (Restarting b) (λ d a e n m r i. lost-not refl n)
 
   first : Restarted b (decode (t .bytes))
@@ -248,7 +248,7 @@ module _ (b : ℕ) (t : System) (s : Stands t) (v : ℕ) (done : answerIn (Resta
   -- ---- at once
 
   no-premises : Premises [] from
-  unfolding Premises
+  unfolding Premises PremisesSeen runOf afterSeen
   no-premises = tt
 
   none-done : doneIn b [] from ≡ 0

@@ -18,7 +18,7 @@ use Rattle.types.specs.declared.Record.{Record}
 use Rattle.types.specs.declared.State.the-variants.{Up}
 use Rattle.model.specs.Definitions.Parts.{zeros, update, member}
 use Rattle.model.specs.Definitions.Layout.{pageSize}
-use Rattle.model.specs.Definitions.Bank.{Entry, Board, Bank, emptyFrame, boardAt, entryAt, frameAt, onWorking, onFrames}
+use Rattle.model.specs.Definitions.Bank.{Entry, Board, Bank, emptyFrame, boardAt, entryAt, frameAt, onWorking, onFrames, noEntry}
 use Rattle.model.specs.Definitions.Codec.{pageOf}
 use Rattle.model.specs.Definitions.WellFormed.{rightIn, WellFormed}
 use Rattle.model.specs.Definitions.Steps.{recorded, withFrame, frameOf, dropped}
@@ -190,7 +190,7 @@ pub lost-holds : {d : List Entry} {h : History} {b : ℕ} {x : Board} (p : ℕ) 
     → unstableWrite b (recoveryPoint x) p (h .entries) ≡ false
     → Holds (update p f d) h none b (dropped p x)
 lost-holds {d} {b = b} p f q u l s other out quiet =
-    let here : entryIn (update p f d) p ≡ f (entryIn d p) = getD-update-same p f d (record { owner = 0; copies = 0 }) l in
+    let here : entryIn (update p f d) p ≡ f (entryIn d p) = getD-update-same p f d noEntry l in
     dropped-holds p
     (entry-holds q p l f (kept-on q p l (f (entryIn d p)) (λ o. absurd (other o)) (λ m. clash m out) (λ v. clash v quiet)))
     u (rw (length-update p f d) l) (rw (length-update p f d) s) (rw here other) (rw here out)

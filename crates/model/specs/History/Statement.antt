@@ -11,6 +11,7 @@ use lib.ListN.{length, set, getD, getElem?}
 use lib.Dec.{eqb, ltb}
 use Rattle.types.specs.declared.State.the-variants.{Replaying}
 use Rattle.types.specs.declared.Answer.{Answer}
+use Rattle.types.specs.declared.Outcome.{Outcome}
 use Rattle.types.specs.declared.Answer.the-variants.{Done, Malformed, OutOfRange, WrongState, CountersFull, ReplayDiffers, OwnerNotUp, LogFull, PowerLost}
 use Rattle.model.specs.Definitions.Parts.{zeros}
 use Rattle.model.specs.Definitions.Layout.{pageSize}
@@ -20,7 +21,7 @@ use Rattle.model.specs.Definitions.WellFormed.{isReplaying}
 use Rattle.model.specs.Definitions.Steps.{start, Access, Read, Write, pageNamed, Cell, cellsRead, cellsWritten, giver}
 use Rattle.model.specs.Definitions.Replay.{tookDue, replayOver, endReplay, recoveryPoint}
 use Rattle.model.specs.Definitions.Answers.{code}
-use Rattle.model.specs.Definitions.Calls.{Call, Reading, Writing, Checkpointing, Cutting, Fusing, Restarting, Reply, call, lackingOf}
+use Rattle.model.specs.Definitions.Calls.{Call, Reading, Writing, Checkpointing, Cutting, Fusing, Restarting, call, lackingOf}
 
 -- ==== the history
 
@@ -87,7 +88,7 @@ eventOf c (PowerLost b) = LostPower b
 unfoldable pub entryCount : ℕ → History → ℕ
 entryCount b h = length (ofBoard b (h .entries))
 
--- whether a board's next access repeats an entry: "its board's mark is below the number of its lines"
+-- whether a board's afterSeen access repeats an entry: "its board's mark is below the number of its lines"
 unfoldable pub repeats : ℕ → History → Bool
 repeats b h = ltb (h .cursor b) (entryCount b h)
 
@@ -142,9 +143,13 @@ pub record System : Type 0 where
   pub history : History
   pub granted : ℕ → ℕ
 
+-- a bank that was just made: its bytes, no history, nothing given away
+unfoldable pub made : List ℕ → System
+made s = record { bytes = s; history = noHistory; granted = λ b. 0 }
+
 -- a fresh bank: what `make` leaves (OnBytes, make-begins)
-unfoldable pub begin : ℕ → ℕ → System
-begin n p = record { bytes = encode (fresh n p); history = noHistory; granted = λ b. 0 }
+abbrev pub begin : ℕ → ℕ → System
+begin n p = made (encode (fresh n p))
 
 -- the access of a call, with its board
 unfoldable pub accessOf : Call → Option (ℕ × Access)
@@ -183,40 +188,57 @@ unfoldable pub grantedAfter : Option ℕ → Bank → (ℕ → ℕ) → ℕ → 
 grantedAfter none k g = g
 grantedAfter (some o) k g = withNumberOf o (boardAt k o .working .number) g
 
--- a call, run on the bytes that the last one left
-unfoldable pub after : Call → System → System
-after c t =
-    let r : Reply = call c (t .bytes) in
-    let e : Event = eventOf c (r .outcome .answer) in
+-- a call as a caller sees it: what was asked, the outcome it answered and the bytes it left
+pub record Observed : Type 0 where
+  pub asked : Call
+  pub outcome : Outcome
+  pub bytes : List ℕ
+
+-- what the definitions answer and leave
+abbrev pub defined : Call → List ℕ → Observed
+defined c s = record { asked = c; outcome = call c s .outcome; bytes = call c s .bytes }
+
+-- a list of calls, each run on the bytes that the last one left
+unfoldable pub runOf : List Call → List ℕ → List Observed
+runOf [] s = []
+runOf (c ∷ cs) s = defined c s ∷ runOf cs (call c s .bytes)
+
+-- bank and history after a call
+unfoldable pub afterSeen : Observed → System → System
+afterSeen x t =
+    let e : Event = eventOf (x .asked) (x .outcome .answer) in
     record {
-      bytes = r .bytes;
-      history = fed e (decode (r .bytes)) (t .history);
+      bytes = x .bytes;
+      history = fed e (decode (x .bytes)) (t .history);
       granted = grantedAfter (gaveIn e (decode (t .bytes))) (decode (t .bytes)) (t .granted);
     }
 
+abbrev pub after : Call → System → System
+after c t = afterSeen (defined c (t .bytes)) t
+
 -- ==== premise and claim
 
--- the entry that a board's next access repeats, if there is one
+-- the entry that a board's afterSeen access repeats, if there is one
 unfoldable pub nextEntry : ℕ → History → Option HistoryEntry
 nextEntry b h = getElem? (ofBoard b (h .entries)) (h .cursor b)
 
 -- "while a replaying board's mark is below the number of its lines, a read or write of its own answered 0 or 8 has the kind, page, offset and,
 -- for a write, byte of its line mark + 1"
-unfoldable pub Premise : Call → System → Type 0
-Premise c t =
+unfoldable pub PremiseSeen : Observed → System → Type 0
+PremiseSeen x t =
     (b : ℕ) (a : Access) (e : HistoryEntry)
-    → accessOf c ≡ some (b, a)
-    → (code (call c (t .bytes) .outcome .answer) ≡ 0) ⊎ (code (call c (t .bytes) .outcome .answer) ≡ 8)
+    → accessOf (x .asked) ≡ some (b, a)
+    → (code (x .outcome .answer) ≡ 0) ⊎ (code (x .outcome .answer) ≡ 8)
     → boardAt (decode (t .bytes)) b .state ≡ Replaying
     → nextEntry b (t .history) ≡ some e
     → e .access ≡ a
 
 -- "each repeated read answered 0 gave its line's byte". The premise excludes a repeat of another kind; one would count as not agreeing.
-unfoldable pub RepeatAgrees : Call → System → Type 0
-RepeatAgrees c t =
+unfoldable pub RepeatSeen : Observed → System → Type 0
+RepeatSeen x t =
     (b : ℕ) (a : Access) (v : ℕ) (e : HistoryEntry)
-    → accessOf c ≡ some (b, a)
-    → call c (t .bytes) .outcome .answer ≡ Done v
+    → accessOf (x .asked) ≡ some (b, a)
+    → x .outcome .answer ≡ Done v
     → nextEntry b (t .history) ≡ some e
     → e .bytesRead ≡ bytesFrom a v
 
@@ -226,16 +248,33 @@ unfoldable pub GrantsStand : System → Type 0
 GrantsStand t = (b : ℕ) → b < length (decode (t .bytes) .boards) → t .granted b ≤ recoveryPoint (boardAt (decode (t .bytes)) b)
 
 -- "Claim, after every call"
-pub record Claim (c : Call) (t : System) : Type 0 where
-  pub memory : OneMemory zeroMemory (after c t .history .entries)
-  pub repeat : RepeatAgrees c t
-  pub grants : GrantsStand (after c t)
+pub record ClaimSeen (x : Observed) (t : System) : Type 0 where
+  pub memory : OneMemory zeroMemory (afterSeen x t .history .entries)
+  pub repeat : RepeatSeen x t
+  pub grants : GrantsStand (afterSeen x t)
 
 -- over a list of calls
+unfoldable pub PremisesSeen : List Observed → System → Type 0
+PremisesSeen [] t = Unit
+PremisesSeen (x ∷ xs) t = PremiseSeen x t × PremisesSeen xs (afterSeen x t)
+
+unfoldable pub ClaimsSeen : List Observed → System → Type 0
+ClaimsSeen [] t = Unit
+ClaimsSeen (x ∷ xs) t = ClaimSeen x t × ClaimsSeen xs (afterSeen x t)
+
+-- ==== the same of what the definitions answer and leave
+
+abbrev pub Premise : Call → System → Type 0
+Premise c t = PremiseSeen (defined c (t .bytes)) t
+
+abbrev pub RepeatAgrees : Call → System → Type 0
+RepeatAgrees c t = RepeatSeen (defined c (t .bytes)) t
+
+abbrev pub Claim : Call → System → Type 0
+Claim c t = ClaimSeen (defined c (t .bytes)) t
+
 unfoldable pub Premises : List Call → System → Type 0
-Premises [] t = Unit
-Premises (c ∷ cs) t = Premise c t × Premises cs (after c t)
+Premises cs t = PremisesSeen (runOf cs (t .bytes)) t
 
 unfoldable pub Claims : List Call → System → Type 0
-Claims [] t = Unit
-Claims (c ∷ cs) t = Claim c t × Claims cs (after c t)
+Claims cs t = ClaimsSeen (runOf cs (t .bytes)) t

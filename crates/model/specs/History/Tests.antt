@@ -22,7 +22,7 @@ use Rattle.model.specs.Definitions.Answers.{code}
 use Rattle.model.specs.Definitions.Calls.{Call, call}
 use Rattle.model.specs.Laws.Logic.{clash, or-then, then-or}
 use Rattle.model.specs.Laws.Tests.{Says, says-and, says-below, says-le, says-eq, says-replaying}
-use Rattle.model.specs.History.Statement.{HistoryEntry, History, System, Memory, zeroMemory, byteIn, written, OneMemory, accessOf, bytesFrom, nextEntry, after, Premise, RepeatAgrees, GrantsStand, Claim, Premises, Claims}
+use Rattle.model.specs.History.Statement.{HistoryEntry, History, System, Memory, zeroMemory, byteIn, written, OneMemory, accessOf, bytesFrom, nextEntry, after, Premise, RepeatAgrees, GrantsStand, Claim, Premises, Claims, afterSeen, PremiseSeen, RepeatSeen, PremisesSeen, ClaimsSeen, runOf}
 
 -- ---- equality as tests
 
@@ -139,7 +139,7 @@ repeatsEntry-all a (some e) h = says-sameAccess (e .access) a .1 (h e refl)
 
 premise-for : (c : Call) (t : System) (o : Option (ℕ × Access)) → accessOf c ≡ o
     → Says (premiseFor (call c (t .bytes) .outcome .answer) (λ b. boardAt (decode (t .bytes)) b .state) (t .history) o) (Premise c t)
-unfolding premiseFor Premise
+unfolding premiseFor PremiseSeen
 premise-for c t none n = (λ h b a e s. let z : _≡_ {A = ℕ} 0 1 = cc in absurd (omega arith), λ h. refl)
 premise-for c t (some w) n =
     let r : Answer = call c (t .bytes) .outcome .answer in
@@ -190,7 +190,7 @@ gaveEntry-all a (some e) (PowerLost b) h = refl
 
 repeat-for : (c : Call) (t : System) (o : Option (ℕ × Access)) → accessOf c ≡ o
     → Says (repeatFor (call c (t .bytes) .outcome .answer) (t .history) o) (RepeatAgrees c t)
-unfolding repeatFor RepeatAgrees
+unfolding repeatFor RepeatSeen
 repeat-for c t none n = (λ h b a v e s. let z : _≡_ {A = ℕ} 0 1 = cc in absurd (omega arith), λ h. refl)
 repeat-for c t (some w) n =
     let r : Answer = call c (t .bytes) .outcome .answer in (
@@ -218,11 +218,11 @@ says-claim c t =
     (λ h. let r = all .0 h in record { memory = r .0; repeat = r .1 .0; grants = r .1 .1 }, λ q. all .1 (q .memory, (q .repeat, q .grants)))
 
 pub says-premises : (cs : List Call) (t : System) → Says (premisesTest cs t) (Premises cs t)
-unfolding premisesTest Premises
+unfolding premisesTest Premises PremisesSeen runOf afterSeen
 says-premises [] t = (λ h. tt, λ h. refl)
 says-premises (c ∷ cs) t = says-and (says-premise c t) (says-premises cs (after c t))
 
 pub says-claims : (cs : List Call) (t : System) → Says (claimsTest cs t) (Claims cs t)
-unfolding claimsTest Claims
+unfolding claimsTest Claims ClaimsSeen runOf afterSeen
 says-claims [] t = (λ h. tt, λ h. refl)
 says-claims (c ∷ cs) t = says-and (says-claim c t) (says-claims cs (after c t))

@@ -12,7 +12,7 @@ use Rattle.model.specs.Definitions.Steps.{Access, Read, Write}
 use Rattle.model.specs.Definitions.Replay.{recoveryPoint}
 use Rattle.model.specs.Definitions.Calls.{Call, Reading, Writing, Checkpointing, Cutting, Fusing, Restarting, callBank, replyOf}
 use Rattle.model.specs.Laws.Keeps.Calls.{call-keeps}
-use Rattle.model.specs.History.Statement.{HistoryEntry, History, noHistory, zeroMemory, OneMemory, begin, accessOf, bytesFrom, nextEntry, after, Premise, RepeatAgrees, GrantsStand, Claim, Premises, Claims}
+use Rattle.model.specs.History.Statement.{HistoryEntry, History, noHistory, zeroMemory, OneMemory, begin, accessOf, bytesFrom, nextEntry, after, Premise, RepeatAgrees, GrantsStand, Claim, Premises, Claims, afterSeen, PremiseSeen, RepeatSeen, PremisesSeen, ClaimsSeen, runOf}
 use Rattle.model.specs.History.Invariant.{Invariant, nobody}
 use Rattle.model.specs.History.Kept.{access-repeats, PremiseOn, call-invariant}
 use Rattle.model.specs.History.Begins.{fresh-invariant}
@@ -57,7 +57,7 @@ module _ (c : Call) (k : Bank) (h : History) (granted : ℕ → ℕ) (q : Stands
   formed-after = call-keeps c k formed
 
   on-bank : PremiseOn c k h
-  unfolding Premise systemOf replyOf
+  unfolding PremiseSeen systemOf replyOf
   on-bank b a e z d r n =
       premise b a e z (rw (call-encode c k formed) d) (rw (decoded k formed) r) n
 
@@ -74,7 +74,7 @@ module _ (c : Call) (k : Bank) (h : History) (granted : ℕ → ℕ) (q : Stands
   memory-now = stands-after .invariant .memory
 
   repeat-now : RepeatAgrees c (systemOf k h granted)
-  unfolding RepeatAgrees systemOf replyOf
+  unfolding RepeatSeen systemOf replyOf
   repeat-now b a v e z d n = call-repeats c k (q .invariant) on-bank b a v e z (rw (call-encode c k formed) at d) n
 
   grants-now : GrantsStand (systemOf (callBank c k .run .bank) (historyAfter c k h) (grantsAfter c k granted))
@@ -92,7 +92,7 @@ module _ (c : Call) (k : Bank) (h : History) (granted : ℕ → ℕ) (q : Stands
 -- ---- any list of calls
 
 claims : (cs : List Call) (k : Bank) (h : History) (granted : ℕ → ℕ) → Stands k h granted → Premises cs (systemOf k h granted) → Claims cs (systemOf k h granted)
-unfolding Premises Claims
+unfolding Premises PremisesSeen Claims ClaimsSeen runOf afterSeen
 claims [] k h granted q s = tt
 claims (c ∷ cs) k h granted q s =
     let e : after c (systemOf k h granted) ≡ systemOf (callBank c k .run .bank) (historyAfter c k h) (grantsAfter c k granted) =

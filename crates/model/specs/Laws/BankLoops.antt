@@ -6,7 +6,7 @@ use mathlib.Core.List.{List, map}
 use lib.ListN.{length}
 use Rattle.model.specs.Definitions.Parts.{splice}
 use Rattle.model.specs.Definitions.Layout.{headSize, entrySize}
-use Rattle.model.specs.Definitions.Bank.{Entry, Bank, entryAt, onEntry}
+use Rattle.model.specs.Definitions.Bank.{Entry, Bank, entryAt, onEntry, noEntry}
 use Rattle.model.specs.Definitions.Codec.{encodeEntry, encode}
 use Rattle.model.specs.Definitions.Steps.{forgotten}
 use Rattle.model.specs.Laws.CodecAt.{encode-onEntry}
@@ -18,7 +18,7 @@ forgottenFirst p b d = eachFirst p (λ q. forgotten b) d
 
 pub forgottenFirst-all : (b : ℕ) (d : List Entry) → forgottenFirst (length d) b d ≡ map (forgotten b) d
 unfolding forgottenFirst
-forgottenFirst-all b d = eachFirst-all (length d) (λ q. forgotten b) d (record { owner = 0; copies = 0 }) (omega arith) ∙ each-as-map (forgotten b) d
+forgottenFirst-all b d = eachFirst-all (length d) (λ q. forgotten b) d noEntry (omega arith) ∙ each-as-map (forgotten b) d
 
 unfoldable pub forgetFirst : ℕ → ℕ → Bank → Bank
 forgetFirst p b k = record { directory = forgottenFirst p b (k .directory); boards = k .boards }
@@ -39,7 +39,7 @@ module _ (p b : ℕ) (k : Bank) where
   -- the entries from p on wait
   pub forgetFirst-waits : (q : ℕ) → p ≤ q → entryAt (forgetFirst p b k) q ≡ entryAt k q
   unfolding forgetFirst forgottenFirst entryAt
-  forgetFirst-waits q h = eachFirst-waits p q (λ i. forgotten b) (k .directory) (record { owner = 0; copies = 0 }) h
+  forgetFirst-waits q h = eachFirst-waits p q (λ i. forgotten b) (k .directory) noEntry h
 
   -- one entry more is one splice
   pub encode-forgetFirst : p < length (k .directory)

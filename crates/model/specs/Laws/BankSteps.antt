@@ -12,7 +12,7 @@ use lib.ListN.{length, getD}
 use Rattle.words.specs.Bytes.{Each}
 use Rattle.model.specs.Definitions.Parts.{part, splice}
 use Rattle.model.specs.Definitions.Layout.{headSize, entrySize, blocksAt, blockSize, bankSize}
-use Rattle.model.specs.Definitions.Bank.{Entry, Board, Bank, noBoard, boardAt, entryAt, frameAt, onBoard, onEntry}
+use Rattle.model.specs.Definitions.Bank.{Entry, Board, Bank, noBoard, boardAt, entryAt, frameAt, onBoard, onEntry, noEntry}
 use Rattle.model.specs.Definitions.Codec.{encodeEntry, decodeEntry, encodeBoard, encode, decode}
 use Rattle.model.specs.Definitions.WellFormed.{FrameOk, FieldsOk, SizesOk, WellFormed, blockOf, wellFormed}
 use Rattle.model.specs.Definitions.Steps.{Run, burnt, powerOff, store, frameOf}
@@ -71,7 +71,7 @@ module _ (k : Bank) where
       let n : ℕ = length (k .directory) in
       sym (part-part (encode k) headSize (n * entrySize) (p * entrySize) entrySize (index-in entrySize n p h))
       ∙ rw (bank-directory k)
-      (part-encodeAll encodeEntry entrySize (k .directory) p (record { owner = 0; copies = 0 }) (each-all (k .directory) length-encodeEntry) h)
+      (part-encodeAll encodeEntry entrySize (k .directory) p noEntry (each-all (k .directory) length-encodeEntry) h)
 
   pub entry-of : (p : ℕ) → p < length (k .directory) → decodeEntry (part (encode k) (headSize + p * entrySize) entrySize) ≡ entryAt k p
   entry-of p h = rw (entry-part p h) (decode-encodeEntry (entryAt k p))

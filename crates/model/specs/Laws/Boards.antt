@@ -16,7 +16,7 @@ use Rattle.types.specs.declared.CopyOrOwn.the-variants.{GotCopy}
 use Rattle.types.specs.declared.Record.{Record}
 use Rattle.types.specs.declared.Kind.the-variants.{Got}
 use Rattle.model.specs.Definitions.Parts.{update, each, member, withMember}
-use Rattle.model.specs.Definitions.Bank.{Entry, Board, Bank, emptyFrame, noBoard, boardAt, entryAt, frameAt, onBoard, onEntry, onWorking}
+use Rattle.model.specs.Definitions.Bank.{Entry, Board, Bank, emptyFrame, noBoard, boardAt, entryAt, frameAt, onBoard, onEntry, onWorking, noEntry}
 use Rattle.model.specs.Definitions.Steps.{poweredOff, forgotten, powerOff, recorded, note, movedRecord, storedRecord, withFrame, frameOf, giveCopy, dropped, dropAt, dropCopies, passOwnership}
 use Rattle.model.specs.Definitions.Replay.{settled}
 use Rattle.words.specs.Bytes.{Each, each-nil, each-cons}
@@ -141,7 +141,7 @@ module _ (p : ℕ) (f : Entry → Entry) (k : Bank) where
 
   pub entryAt-same : p < length (k .directory) → entryAt (onEntry p f k) p ≡ f (entryAt k p)
   unfolding entryAt onEntry
-  entryAt-same h = getD-update-same p f (k .directory) (record { owner = 0; copies = 0 }) h
+  entryAt-same h = getD-update-same p f (k .directory) noEntry h
 
 -- ---- a power loss
 

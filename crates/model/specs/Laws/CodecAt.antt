@@ -11,7 +11,7 @@ use Rattle.types.specs.declared.Frame.{Frame}
 use Rattle.types.specs.declared.Record.{Record}
 use Rattle.model.specs.Definitions.Parts.{part, splice, encodeAll}
 use Rattle.model.specs.Definitions.Layout.{slotCount, slotsSize, frameSize, slotSize, entrySize, blockSize, headSize, blocksAt}
-use Rattle.model.specs.Definitions.Bank.{Entry, Log, Board, Bank, emptyFrame, noBoard, boardAt, entryAt, frameAt, onBoard, onEntry}
+use Rattle.model.specs.Definitions.Bank.{Entry, Log, Board, Bank, emptyFrame, noBoard, boardAt, entryAt, frameAt, onBoard, onEntry, noEntry}
 use Rattle.model.specs.Definitions.Codec.{encodeEntry, encodeFrame, decodeFrame, encodeRecord, decodeRecord, encodeLog, decodeLog, decodeFrames, encodeBoard, encode}
 use Rattle.model.specs.Definitions.WellFormed.{FrameOk, RecordOk, FramesOk}
 use Rattle.model.specs.Definitions.Steps.{appended}
@@ -132,7 +132,7 @@ pub encode-onEntry : (k : Bank) (p : ℕ) (f : Entry → Entry) → p < length (
     → encode (onEntry p f k) ≡ splice (encode k) (headSize + p * entrySize) (encodeEntry (f (entryAt k p)))
 unfolding encode onEntry entryAt
 encode-onEntry k p f h =
-    let d : Entry = record { owner = 0; copies = 0 } in
+    let d : Entry = noEntry in
     let es : List Entry = k .directory in
     let v : List ℕ = encodeEntry (f (getD es p d)) in
     let n : length v ≡ entrySize = length-encodeEntry (f (getD es p d)) in

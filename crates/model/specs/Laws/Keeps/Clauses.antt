@@ -13,7 +13,7 @@ use Rattle.types.specs.declared.State.the-variants.{Up, Down, Replaying}
 use Rattle.words.specs.Bytes.{Each}
 use Rattle.model.specs.Definitions.Parts.{member}
 use Rattle.model.specs.Definitions.Layout.{slotCount}
-use Rattle.model.specs.Definitions.Bank.{Entry, Working, Board, Bank, noBoard, boardAt, entryAt, frameAt, onBoard}
+use Rattle.model.specs.Definitions.Bank.{Entry, Working, Board, Bank, noBoard, boardAt, entryAt, frameAt, onBoard, noEntry}
 use Rattle.model.specs.Definitions.WellFormed.{AreaOk, FieldsOk, FuseOk, RoomOk, PlaceOk, ReplayingOk, Blank, DownOk, rightIn, BoardOk, EntryOk, SizesOk, WellFormed}
 use Rattle.model.specs.Laws.Logic.{byEq}
 use Rattle.model.specs.Laws.Lists.{length-update}
@@ -42,7 +42,7 @@ pub record Alone (pages : ℕ) (x : Board) : Type 0 where
   pub down : DownOk x
 
 abbrev pub entryIn : List Entry → ℕ → Entry
-entryIn d p = getD d p (record { owner = 0; copies = 0 })
+entryIn d p = getD d p noEntry
 
 -- what a board and the directory say of each other
 pub record Agreed (d : List Entry) (b : ℕ) (x : Board) : Type 0 where

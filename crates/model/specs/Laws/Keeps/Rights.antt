@@ -17,7 +17,7 @@ use Rattle.types.specs.declared.Kind.the-variants.{Got, Dropped}
 use Rattle.types.specs.declared.State.the-variants.{Up}
 use Rattle.model.specs.Definitions.Parts.{zeros, update, member, withMember}
 use Rattle.model.specs.Definitions.Layout.{pageSize}
-use Rattle.model.specs.Definitions.Bank.{Entry, Board, Bank, emptyFrame, noBoard, boardAt, entryAt, frameAt, onBoard, onEntry, onWorking, onFrames}
+use Rattle.model.specs.Definitions.Bank.{Entry, Board, Bank, emptyFrame, noBoard, boardAt, entryAt, frameAt, onBoard, onEntry, onWorking, onFrames, noEntry}
 use Rattle.model.specs.Definitions.Codec.{pageOf}
 use Rattle.model.specs.Definitions.WellFormed.{FrameOk, isGot, rightIn, EntryOk, WellFormed}
 use Rattle.model.specs.Definitions.Steps.{recorded, note, withFrame, frameOf, giveCopy, dropped, dropAt, dropCopies, passOwnership}
@@ -41,16 +41,16 @@ unfolding entryAt boardAt
 entry-keeps p f k j w l s d e g =
     wellFormed-fits j
     (rw (s .boards, s .pages) (w .sizes))
-    (rw (s .boards, d, update-set p f (k .directory) (record { owner = 0; copies = 0 }) l)
+    (rw (s .boards, d, update-set p f (k .directory) noEntry l)
     (each-set (k .directory) p (f (entryIn (k .directory) p)) (w .directory) e))
     (λ c h. rw d (g c (rw (s .boards) at h)))
 
 module _ (d : List Entry) (p : ℕ) (f : Entry → Entry) where
   pub entryIn-same : p < length d → entryIn (update p f d) p ≡ f (entryIn d p)
-  entryIn-same l = getD-update-same p f d (record { owner = 0; copies = 0 }) l
+  entryIn-same l = getD-update-same p f d noEntry l
 
   pub entryIn-other : (q : ℕ) → q ≢ p → entryIn (update p f d) q ≡ entryIn d q
-  entryIn-other q n = getD-update-other p q f d (record { owner = 0; copies = 0 }) n
+  entryIn-other q n = getD-update-other p q f d noEntry n
 
 module _ (d : List Entry) (p : ℕ) (f : Entry → Entry) (l : p < length d) (b : ℕ) (x : Board) (h : Fits d b x) where
   -- a board of which the changed entry says what the old one said
@@ -121,7 +121,7 @@ entryOk-alone n w l = record { owner = l; copies = one-le-pow n 2 (omega arith);
 
 pub entry-at : {k : Bank} → WellFormed k → (p : ℕ) → p < length (k .directory) → EntryOk (length (k .boards)) (entryAt k p)
 unfolding entryAt
-entry-at {k} w p l = each-getD (k .directory) p (record { owner = 0; copies = 0 }) (w .directory) l
+entry-at {k} w p l = each-getD (k .directory) p noEntry (w .directory) l
 
 -- the frame of any board at any page
 pub frameOk-of : {k : Bank} → WellFormed k → (o p : ℕ) → FrameOk (frameOf k o p)

@@ -15,7 +15,7 @@ use Rattle.types.specs.declared.Frame.{Frame}
 use Rattle.types.specs.declared.State.the-variants.{Down}
 use Rattle.model.specs.Definitions.Parts.{member, withoutMember}
 use Rattle.model.specs.Definitions.Layout.{pageSize, noFuse}
-use Rattle.model.specs.Definitions.Bank.{Entry, Board, Bank, emptyFrame, emptyLog, boardAt, onBoard}
+use Rattle.model.specs.Definitions.Bank.{Entry, Board, Bank, emptyFrame, emptyLog, boardAt, onBoard, noEntry}
 use Rattle.model.specs.Definitions.WellFormed.{FrameOk, PlaceOk, EntryOk, WellFormed}
 use Rattle.model.specs.Definitions.Steps.{Run, step, poweredOff, forgotten, powerOff, withFuse, burnt, store, storedRecord, storeRecords, flush}
 use Rattle.model.specs.Laws.Logic.{byEq, cases}
@@ -114,7 +114,7 @@ unfolding powerOff onBoard
 powerOff-restores b k w =
     let l : length (map (forgotten b) (k .directory)) ≡ length (k .directory) = length-map (k .directory) (forgotten b) in
     let entry : (p : ℕ) → p < length (k .directory) → entryIn (map (forgotten b) (k .directory)) p ≡ forgotten b (entryIn (k .directory) p) =
-    λ p m. getD-map-below (forgotten b) (k .directory) p (record { owner = 0; copies = 0 }) (record { owner = 0; copies = 0 }) m in
+    λ p m. getD-map-below (forgotten b) (k .directory) p noEntry noEntry m in
     wellFormed-fits (powerOff b k)
     (rw (boards-powerOff b k, l) (w .sizes))
     (rw (boards-powerOff b k) (each-map-of (forgotten b) (k .directory) (λ e h. forgotten-ok (length (k .boards)) b e h) (w .directory)))
