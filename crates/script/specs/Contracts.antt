@@ -139,14 +139,15 @@ pub record Buffers (n : ℕ) (line bank out : List ℕ) : Type 0 where
 abbrev pub emptied : Held → Held
 emptied m = record { pending = m .pending; progress = record { size = m .progress .size; tally = m .progress .tally; at = 0 } }
 
--- v is printed: the first n bytes of the buffer. The last part follows from the one before it, and a caller that lends these bytes is asked for it.
-pub record Written (v : List ℕ) (n : ℕ) (out : List ℕ) : Type 0 where
+-- v is printed: the first n bytes of the buffer, all else as it was. What stands behind `put` follows from it; a caller that lends these bytes is asked for it.
+pub record Written (before v : List ℕ) (n : ℕ) (out : List ℕ) : Type 0 where
+  pub put : Put before 0 v out n
   pub bytes : take n out ≡ v
   pub inside : n ≤ length out
   pub count : n ≡ length (take n out)
 
 -- a read was fed: the machine it leaves, what it prints, and the next read may come
-pub record Streamed (f : Fed) (r : Held) (line bank out : List ℕ) : Type 0 where
+pub record Streamed (f : Fed) (r : Held) (line bank before out : List ℕ) : Type 0 where
   pub machine : machineOf line bank r ≡ f .machine
-  pub output : Written (f .output) (r .progress .at) out
+  pub output : Written before (f .output) (r .progress .at) out
   pub held : InBuffers line bank r

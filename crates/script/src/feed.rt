@@ -84,7 +84,8 @@ pub fn start() -> Machine
     }
 }
 
-// The end of input: a line that has begun ends, then come the three numbers. The answer is the place behind the output.
+// The end of input: a line that has begun ends, then come the three numbers. The answer is the place behind the output. The bank is left open: nothing reads
+// it any more.
 pub fn finish(line: &[u8], bank: &mut [u8], out: &mut [u8], from: Machine) -> usize
     requires { ⌜ InBuffers (now line) (now bank) from × (from .progress .at + mostLine + mostLast ≤ length (now out)) ⌝ }
     ensures { λ r. ⌜ Put (now (out .entry)) (from .progress .at) (finishing (machineOf (now (line .entry)) (now (bank .entry)) from)) (now (out .exit)) r ⌝ }
@@ -105,7 +106,7 @@ pub fn finish(line: &[u8], bank: &mut [u8], out: &mut [u8], from: Machine) -> us
     put_last(out, end, total)
 }
 
-// A whole input that a buffer holds: the output stands at the beginning of `out`, and the answer is its length.
+// A whole input that a buffer holds: the output stands at the beginning of `out`, and the answer is its length. Line and bank are room to work in, left open.
 pub fn run_script(input: &[u8], line: &mut [u8], bank: &mut [u8], out: &mut [u8]) -> usize
     requires { ⌜ Buffers (length (now input)) (now line) (now bank) (now out) ⌝ }
     ensures { λ r. ⌜ Put (now (out .entry)) 0 (run (now (input .entry))) (now (out .exit)) r ⌝ }

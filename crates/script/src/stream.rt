@@ -45,15 +45,15 @@ pub fn feed_read(
     from: Machine,
 ) -> Machine
     requires { ⌜ InBuffers (now line) (now bank) from × (mostLine * length (now input) ≤ length (now out)) ⌝ }
-    ensures { λ r. ⌜ Streamed (feedBytes (now (input .entry)) (machineOf (now (line .entry)) (now (bank .entry)) from)) r (now (line .exit)) (now (bank .exit)) (now (out .exit)) ⌝ }
+    ensures { λ r. ⌜ Streamed (feedBytes (now (input .entry)) (machineOf (now (line .entry)) (now (bank .entry)) from)) r (now (line .exit)) (now (bank .exit)) (now (out .entry)) (now (out .exit)) ⌝ }
 {
     feed(input, line, bank, out, empty_out(from))
 }
 
-// The end of input. The answer is how many bytes of `out` it prints.
+// The end of input. The answer is how many bytes of `out` it prints. The bank is left open: nothing reads it any more.
 pub fn end_input(line: &[u8], bank: &mut [u8], out: &mut [u8], from: Machine) -> usize
     requires { ⌜ InBuffers (now line) (now bank) from × (mostLine + mostLast ≤ length (now out)) ⌝ }
-    ensures { λ r. ⌜ Written (finishing (machineOf (now (line .entry)) (now (bank .entry)) from)) r (now (out .exit)) ⌝ }
+    ensures { λ r. ⌜ Written (now (out .entry)) (finishing (machineOf (now (line .entry)) (now (bank .entry)) from)) r (now (out .exit)) ⌝ }
 {
     finish(line, bank, out, empty_out(from))
 }

@@ -1,5 +1,5 @@
 -- A stream of reads: each read's output stands at the beginning of the buffer. Assumes nothing.
-use mathlib.Core.Path.{_≡_, refl, ap, _∙_}
+use mathlib.Core.Path.{_≡_, refl, ap, subst, _∙_}
 use Prim.Native.Nat.{ℕ, _+_, _*_, _≤_}
 use mathlib.Core.List.{List, _++_}
 use native.Mathlib.Omega.{arith}
@@ -19,7 +19,7 @@ module _ (line bank out : List ℕ) (m : Held) where
   same-machine = refl
 
   -- what is put at the beginning is what a program writes out
-  pub put-printed : (print : Machine → List ℕ) {after : List ℕ} {n : ℕ} → Put out 0 (print (machineOf line bank (emptied m))) after n → Written (print (machineOf line bank m)) n after
+  pub put-printed : (print : Machine → List ℕ) {after : List ℕ} {n : ℕ} → Put out 0 (print (machineOf line bank (emptied m))) after n → Written out (print (machineOf line bank m)) n after
   unfolding splice
   put-printed print {after} {n} p =
       let v : List ℕ = print (machineOf line bank (emptied m)) in
@@ -27,11 +27,11 @@ module _ (line bank out : List ℕ) (m : Held) where
       let e : after ≡ v ++ rest = p .bytes in
       let l : n ≡ length v = omega (arith, p .end) in
       let b : take n after ≡ v = rw (e, l) (take-at v rest (length v) refl) in
-      record { bytes = b ∙ ap print same-machine; inside = rw (e, l) (simp length-append (omega arith)); count = rw b l }
+      record { put = subst (λ k. Put out 0 (print k) after n) same-machine p; bytes = b ∙ ap print same-machine; inside = rw (e, l) (simp length-append (omega arith)); count = rw b l }
 
   pub read-streamed : (input : List ℕ) (r : Held) (line′ bank′ out′ : List ℕ)
       → FedBy (feed input (machineOf line bank (emptied m))) (length input) (emptied m) r line′ bank′ out out′
-      → Streamed (feed input (machineOf line bank m)) r line′ bank′ out′
+      → Streamed (feed input (machineOf line bank m)) r line′ bank′ out out′
   read-streamed input r line′ bank′ out′ f =
       record { machine = f .machine ∙ rw same-machine; output = put-printed (λ b. feed input b .output) (f .output); held = f .held }
 
