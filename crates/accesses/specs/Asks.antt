@@ -9,13 +9,13 @@ use Rattle.model.specs.Definitions.Layout.{pageSize}
 use Rattle.model.specs.Definitions.Codec.{decode}
 use Rattle.model.specs.Definitions.WellFormed.{WellFormed}
 use Rattle.model.specs.Definitions.Steps.{Access, takes}
-use Rattle.steps.specs.Access.{accessOf}
+use Rattle.steps.specs.Blocks.{readOrWrite}
 use Rattle.exchange.specs.Banks.{OfBank}
 use Rattle.exchange.specs.Progress.{got}
 
 -- the access of the definitions that an ask stands for
 abbrev pub asked : Ask → Access
-asked q = accessOf (q .writes) (q .page) (q .offset) (q .value)
+asked q = readOrWrite (q .writes) (q .page) (q .offset) (q .value)
 
 -- a well-formed bank with so many boards and pages, and an ask whose numbers are in range
 pub record Asks (boards pages : ℕ) (q : Ask) (s : List ℕ) : Type 0 where
@@ -26,7 +26,7 @@ pub record Asks (boards pages : ℕ) (q : Ask) (s : List ℕ) : Type 0 where
   pub offset : q .offset < pageSize
 
 -- which got an access takes, by its flag
-pub got-takes : (writes : Bool) (p o v : ℕ) → takes (accessOf writes p o v) ≡ got writes
-unfolding takes accessOf got
+pub got-takes : (writes : Bool) (p o v : ℕ) → takes (readOrWrite writes p o v) ≡ got writes
+unfolding takes readOrWrite got
 got-takes true p o v = refl
 got-takes false p o v = refl

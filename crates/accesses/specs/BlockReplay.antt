@@ -9,12 +9,13 @@ use Rattle.model.specs.Definitions.Layout.{byteValues, lastSince, lastNumber}
 use Rattle.model.specs.Definitions.Bank.{Board, onWorking}
 use Rattle.model.specs.Definitions.WellFormed.{FieldsOk}
 use Rattle.model.specs.Definitions.Steps.{Access, pageNamed, valueOf, accessed}
-use Rattle.model.specs.Definitions.Replay.{lacking, differs, tookDue, replayOver, settled, replayed}
+use Rattle.model.specs.Definitions.Replay.{lacking, differs, tookDue, replayOver, replayed}
 use Rattle.model.specs.Laws.Logic.{cases}
 use Rattle.model.specs.Laws.Keeps.Replay.{tookDue-took}
-use Rattle.model.specs.Laws.BlockReplay.{settledFirst-fields, settled-all}
-use Rattle.steps.specs.Access.{accessOf, performed-fields}
-use Rattle.steps.specs.Replay.{usedUp-fields, tookDue-fields}
+use Rattle.steps.specs.Access.{performed-fields}
+use Rattle.steps.specs.Blocks.{readOrWrite}
+use Rattle.replay.specs.Got.{tookDue-fields}
+use Rattle.replay.specs.Used.{usedUp-fields}
 
 -- a due got is taken; then the access is repeated, unless no record is left
 unfoldable pub replayedBoard : Access → Board → Board
@@ -56,9 +57,9 @@ module _ {pages : ℕ} {x : Board} (ok : FieldsOk pages x) (a : Access) (h : Rep
   taken-right = tookDue-took a x .right (h .fits) (rw (ok .frames .count) (h .page))
 
 module _ {pages : ℕ} {x : Board} (ok : FieldsOk pages x) (writes : Bool) (p o v : ℕ) (small : v < byteValues)
-    (h : Repeats pages (accessOf writes p o v) x) where
+    (h : Repeats pages (readOrWrite writes p o v) x) where
   abbrev a : Access
-  a = accessOf writes p o v
+  a = readOrWrite writes p o v
 
   pub repeated-fields : FieldsOk pages (replayed a (tookDue a x))
   unfolding replayed
@@ -69,7 +70,3 @@ module _ {pages : ℕ} {x : Board} (ok : FieldsOk pages x) (writes : Bool) (p o 
   pub replayed-fields : FieldsOk pages (replayedBoard a x)
   unfolding replayedBoard
   replayed-fields = cases (FieldsOk pages) (replayOver (tookDue a x)) (λ t. taken-fields ok a h) (λ t. repeated-fields)
-
--- the end of replay, whatever the directory says
-pub settled-fields : {pages : ℕ} {x : Board} → FieldsOk pages x → (owned : ℕ → Bool) → FieldsOk pages (settled owned x)
-settled-fields {pages} {x} ok owned = rw (settled-all pages owned x ok) at (settledFirst-fields pages owned x ok pages (omega arith))

@@ -15,8 +15,8 @@ use Rattle.model.specs.Definitions.WellFormed.{RoomOk}
 use Rattle.model.specs.Definitions.Steps.{Access, pageNamed, takes, giver}
 use Rattle.model.specs.Definitions.Calls.{copiesOut, fetchNeed, dropNeed, lackingOf, need, short, shortBoard}
 use Rattle.model.specs.Laws.Logic.{byBool, byEq, clash}
-use Rattle.steps.specs.Access.{accessOf}
-use Rattle.steps.specs.Records.{volatileCount, storedCount}
+use Rattle.steps.specs.Blocks.{readOrWrite}
+use Rattle.model.specs.Contracts.{volatileCount, storedCount}
 use Rattle.exchange.specs.Progress.{got}
 
 -- a holder's need
@@ -64,15 +64,15 @@ module _ (k : Bank) (b o p c : ℕ) where
 -- ---- any access
 
 module _ (b p o v : ℕ) (k : Bank) (c : ℕ) where
-  pub need-fetch : (w : Bool) → lackingOf b (accessOf w p o v) k ≡ true → (owner : ℕ) → owner ≡ giver k p
-      → fetchNeed (got w) k b owner p c ≡ need b (accessOf w p o v) k c
-  unfolding need got accessOf takes pageNamed
+  pub need-fetch : (w : Bool) → lackingOf b (readOrWrite w p o v) k ≡ true → (owner : ℕ) → owner ≡ giver k p
+      → fetchNeed (got w) k b owner p c ≡ need b (readOrWrite w p o v) k c
+  unfolding need got readOrWrite takes pageNamed
   need-fetch true t owner e = cc
   need-fetch false t owner e = cc
 
-  pub need-own-write : (w : Bool) → w ≡ true → lackingOf b (accessOf w p o v) k ≡ false → (copies : ℕ) → copies ≡ entryAt k p .copies
-      → heldBy copies c ≡ need b (accessOf w p o v) k c
-  unfolding need dropNeed copiesOut heldBy accessOf pageNamed
+  pub need-own-write : (w : Bool) → w ≡ true → lackingOf b (readOrWrite w p o v) k ≡ false → (copies : ℕ) → copies ≡ entryAt k p .copies
+      → heldBy copies c ≡ need b (readOrWrite w p o v) k c
+  unfolding need dropNeed copiesOut heldBy readOrWrite pageNamed
   need-own-write false h t copies e = clash h refl
   need-own-write true h t copies e =
       byBool (member c copies)
@@ -82,8 +82,8 @@ module _ (b p o v : ℕ) (k : Bank) (c : ℕ) where
       (λ z. let f : eqb copies 0 ≡ false = ne-eqb copies 0 z in cc))
       (λ m. byBool (eqb copies 0) (λ z. cc) (λ z. cc))
 
-  pub need-nothing : (w : Bool) → w ≡ false → lackingOf b (accessOf w p o v) k ≡ false → 0 ≡ need b (accessOf w p o v) k c
-  unfolding need dropNeed copiesOut accessOf
+  pub need-nothing : (w : Bool) → w ≡ false → lackingOf b (readOrWrite w p o v) k ≡ false → 0 ≡ need b (readOrWrite w p o v) k c
+  unfolding need dropNeed copiesOut readOrWrite
   need-nothing true h t = clash refl h
   need-nothing false h t = cc
 

@@ -16,14 +16,15 @@ use Rattle.model.specs.Definitions.Bank.{Bank, boardAt, entryAt}
 use Rattle.model.specs.Definitions.Codec.{encode, decode}
 use Rattle.model.specs.Definitions.WellFormed.{isUp, WellFormed}
 use Rattle.model.specs.Definitions.Steps.{Run, step, Access, pageNamed, takes, valueOf, access, giver, dropCopies, fetch}
-use Rattle.model.specs.Definitions.Calls.{firstOf, unless, finished, copiesOut, lackingOf, shortBoard, isSome, numberIn, liveRefusals, prepared, performed, live}
+use Rattle.model.specs.Definitions.Calls.{firstOf, unless, finished, copiesOut, lackingOf, shortBoard, isSome, numberIn, liveRefusals, prepared, performed}
+use Rattle.model.specs.Definitions.Calls.{live}
 use Rattle.model.specs.Laws.Logic.{byBool, byEq, clash}
 use Rattle.model.specs.Laws.Runs.{SameSizes}
 use Rattle.model.specs.Laws.Runs.Calls.{follows-prepared}
 use Rattle.model.specs.Laws.Keeps.Clauses.{up-below}
-use Rattle.model.specs.Laws.BoardFields.{Space}
-use Rattle.model.specs.Laws.Keeps.Live.{Ready, CanAccess, can-drop, prepared-keeps, prepared-ready}
-use Rattle.steps.specs.Access.{accessOf}
+use Rattle.model.specs.Contracts.{Space, Ready, CanAccess}
+use Rattle.model.specs.Laws.Keeps.Live.{can-drop, prepared-keeps, prepared-ready}
+use Rattle.steps.specs.Blocks.{readOrWrite}
 use Rattle.exchange.specs.declared.progress.Loss.{Loss}
 use Rattle.exchange.specs.declared.progress.Loss.the-variants.{Nobody, Board}
 use Rattle.exchange.specs.Progress.{running, got, lossOf, Came}
@@ -46,33 +47,33 @@ out-some p k n = cc (ne-eqb (entryAt k p .copies) 0 n)
 -- ---- what comes before the access
 
 module _ (n b p o v : ℕ) (k : Bank) where
-  pub prepared-fetch : (w : Bool) → lackingOf b (accessOf w p o v) k ≡ true
-      → fetch (got w) b p (running n k) ≡ prepared b (accessOf w p o v) (running n k)
-  unfolding prepared got accessOf takes pageNamed
+  pub prepared-fetch : (w : Bool) → lackingOf b (readOrWrite w p o v) k ≡ true
+      → fetch (got w) b p (running n k) ≡ prepared b (readOrWrite w p o v) (running n k)
+  unfolding prepared got readOrWrite takes pageNamed
   prepared-fetch true t = cc
   prepared-fetch false t = cc
 
-  pub prepared-own-write : (w : Bool) → w ≡ true → lackingOf b (accessOf w p o v) k ≡ false
-      → running n (withoutOut p k) ≡ prepared b (accessOf w p o v) (running n k)
-  unfolding prepared copiesOut accessOf pageNamed step withoutOut
+  pub prepared-own-write : (w : Bool) → w ≡ true → lackingOf b (readOrWrite w p o v) k ≡ false
+      → running n (withoutOut p k) ≡ prepared b (readOrWrite w p o v) (running n k)
+  unfolding prepared copiesOut readOrWrite pageNamed step withoutOut
   prepared-own-write false h t = clash h refl
   prepared-own-write true h t = byBool (eqb (entryAt k p .copies) 0) (λ z. cc) (λ z. cc)
 
-  pub prepared-local-read : (w : Bool) → w ≡ false → lackingOf b (accessOf w p o v) k ≡ false → running n k ≡ prepared b (accessOf w p o v) (running n k)
-  unfolding prepared copiesOut accessOf
+  pub prepared-local-read : (w : Bool) → w ≡ false → lackingOf b (readOrWrite w p o v) k ≡ false → running n k ≡ prepared b (readOrWrite w p o v) (running n k)
+  unfolding prepared copiesOut readOrWrite
   prepared-local-read true h t = clash refl h
   prepared-local-read false h t = cc
 
 -- a board that holds a copy of a page that its owner writes has room for a record
-pub holder-space : (b p o v : ℕ) (k : Bank) (writes : Bool) → writes ≡ true → WellFormed k → CanAccess b (accessOf writes p o v) k
-    → firstOf (liveRefusals b (accessOf writes p o v) k) ≡ none → lackingOf b (accessOf writes p o v) k ≡ false → (c : ℕ) → c < length (k .boards)
+pub holder-space : (b p o v : ℕ) (k : Bank) (writes : Bool) → writes ≡ true → WellFormed k → CanAccess b (readOrWrite writes p o v) k
+    → firstOf (liveRefusals b (readOrWrite writes p o v) k) ≡ none → lackingOf b (readOrWrite writes p o v) k ≡ false → (c : ℕ) → c < length (k .boards)
     → member c (entryAt k p .copies) ≡ true → Space (boardAt k c)
-unfolding copiesOut accessOf pageNamed
+unfolding copiesOut readOrWrite pageNamed
 holder-space b p o v k false h w can passed t c l m = clash h refl
 holder-space b p o v k true h w can passed t c l m =
-    let out : copiesOut (accessOf true p o v) k ≡ true =
+    let out : copiesOut (readOrWrite true p o v) k ≡ true =
     byEq (entryAt k p .copies) 0 (λ z. clash (rw z at m) (member-zero c)) (λ z. cc (ne-eqb (entryAt k p .copies) 0 z)) in
-    omega (arith, can-drop b (accessOf true p o v) k w can passed t out c l m)
+    omega (arith, can-drop b (readOrWrite true p o v) k w can passed t out c l m)
 
 -- ---- the access itself
 

@@ -21,7 +21,7 @@ use Rattle.model.specs.Laws.Logic.{byBool}
 use Rattle.model.specs.Laws.Lists.{update-set}
 use Rattle.model.specs.Laws.Boards.{boards-onBoard, boardAt-same, onBoard-onBoard}
 use Rattle.model.specs.Laws.Runs.{SameSizes, follows-endReplay}
-use Rattle.model.specs.Laws.Keeps.Clauses.{InReplay, WellFormedBut}
+use Rattle.model.specs.Contracts.{InReplay, WellFormedBut}
 use Rattle.model.specs.Laws.Keeps.Replay.{endReplay-keeps}
 use Rattle.exchange.specs.Banks.{Holds, holds-wellFormed, holds-decode, holds-of}
 use Rattle.exchange.specs.Progress.{running, lostBy, Came}
@@ -73,7 +73,8 @@ module _ (b : ℕ) (a : Access) (k : Bank) (h : b < length (k .boards)) where
   live-over e =
       byBool (replayOver (tookDue a x))
       (λ t. t)
-      (λ t. byBool (replayOver (replayed a (tookDue a x))) (λ u. let z : _≡_ {A = ℕ} 0 1 = cc in absurd (omega arith)) (λ u. let z : _≡_ {A = ℕ} 0 1 = cc in absurd (omega arith)))
+      (λ t. byBool (replayOver (replayed a (tookDue a x))) (λ u. let z : _≡_ {A = ℕ} 0 1 = cc in absurd (omega arith))
+      (λ u. let z : _≡_ {A = ℕ} 0 1 = cc in absurd (omega arith)))
 
   record CameLast (v : ℕ) : Type 0 where
     on : replayOver (tookDue a x) ≡ false

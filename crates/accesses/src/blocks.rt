@@ -1,30 +1,26 @@
-// What an access does to its board's block: performed with its value, repeated from the log, and the end of replay.
+// What an access does to its board's block: performed with its value, or repeated from the log.
 use crate::ask::Ask;
+use replay::got::take_due;
+use replay::next::replay_over;
+use replay::used::replay_access;
 use steps::access::perform;
 use steps::access::value_of;
-use steps::replay::replay_access;
-use steps::replay::replay_over;
-use steps::replay::settle;
-use steps::replay::take_due;
-use stores::checkpoint::checkpoint;
-use stores::spend::Stored;
 ghost use mathlib.Core.Path.{_≡_};
-ghost use Prim.Native.Nat.{_+_, _≤_, _<_};
-ghost use Rattle.model.specs.Definitions.Parts.{member};
+ghost use Prim.Native.Nat.{_<_};
 ghost use Rattle.model.specs.Definitions.Layout.{pageSize, lastSince, lastNumber};
 ghost use Rattle.model.specs.Definitions.Bank.{onWorking};
 ghost use Rattle.model.specs.Definitions.Codec.{encodeBoard};
 ghost use Rattle.model.specs.Definitions.Steps.{valueOf, accessed};
-ghost use Rattle.model.specs.Definitions.Replay.{settled};
 ghost use Rattle.steps.specs.Blocks.{IsBlock, boardOf};
-ghost use Rattle.stores.specs.BoardRuns.{checkpointOn};
 ghost use Rattle.accesses.specs.Asks.{asked};
 ghost use Rattle.accesses.specs.BlockReplay.{replayedBoard, replayedTo, Repeats};
 
 // The access itself, and its value: "the byte read".
 pub fn perform_value(block: &mut [u8], pages: usize, ask: Ask) -> u8
-    requires { ⌜ IsBlock pages (now block) × (boardOf pages (now block) .working .number < lastNumber) × (boardOf pages (now block) .working .since < lastSince) × (ask .page < pages) × (ask .offset < pageSize) ⌝ }
-    ensures { λ r. ⌜ (r ≡ valueOf (asked ask) (boardOf pages (now (block .entry)) .working .frames)) × (now (block .exit) ≡ encodeBoard (onWorking (accessed (asked ask)) (boardOf pages (now (block .entry))))) ⌝ }
+    requires { ⌜ IsBlock pages (now block) × (boardOf pages (now block) .working .number < lastNumber) × (boardOf pages (now block) .working .since < lastSince)
+        × (ask .page < pages) × (ask .offset < pageSize) ⌝ }
+    ensures { λ r. ⌜ (r ≡ valueOf (asked ask) (boardOf pages (now (block .entry)) .working .frames))
+        × (now (block .exit) ≡ encodeBoard (onWorking (accessed (asked ask)) (boardOf pages (now (block .entry))))) ⌝ }
 {
     let page = ask.page;
     let offset = ask.offset;
@@ -44,7 +40,8 @@ pub enum Replayed {
 // A due got is taken; then the access is repeated, unless no record is left. The byte is read before the end of replay drops rights.
 pub fn replay(block: &mut [u8], pages: usize, ask: Ask) -> Replayed
     requires { ⌜ IsBlock pages (now block) × Repeats pages (asked ask) (boardOf pages (now block)) × (ask .page < pages) × (ask .offset < pageSize) ⌝ }
-    ensures { λ r. ⌜ (r ≡ replayedTo (asked ask) (boardOf pages (now (block .entry)))) × (now (block .exit) ≡ encodeBoard (replayedBoard (asked ask) (boardOf pages (now (block .entry))))) ⌝ }
+    ensures { λ r. ⌜ (r ≡ replayedTo (asked ask) (boardOf pages (now (block .entry))))
+        × (now (block .exit) ≡ encodeBoard (replayedBoard (asked ask) (boardOf pages (now (block .entry))))) ⌝ }
 {
     let page = ask.page;
     let offset = ask.offset;
@@ -59,14 +56,4 @@ pub fn replay(block: &mut [u8], pages: usize, ask: Ask) -> Replayed
         return Replayed::Last(byte);
     }
     Replayed::Going(byte)
-}
-
-// "End of replay": the rights settled by the directory, then a checkpoint.
-pub fn end_replay(block: &mut [u8], pages: usize, owned: u16) -> Stored
-    requires { ⌜ IsBlock pages (now block) ⌝ }
-    ensures run { λ r. ⌜ (now (block .exit) ≡ encodeBoard (checkpointOn pages (settled (λ p. member p owned) (boardOf pages (now (block .entry)))) .board)) × (r .stores ≡ checkpointOn pages (settled (λ p. member p owned) (boardOf pages (now (block .entry)))) .stores) × (r .lost ≡ checkpointOn pages (settled (λ p. member p owned) (boardOf pages (now (block .entry)))) .lost) ⌝ }
-    ensures few { λ r. ⌜ r .stores ≤ pages + 2 ⌝ }
-{
-    settle(block, pages, owned);
-    checkpoint(block, pages)
 }

@@ -4,4 +4,4 @@ pub mod blocks;
 pub mod live;
 pub mod need;
 pub mod outcome;
-pub mod replay;
+pub mod replaying;

@@ -29,8 +29,7 @@ ghost use Rattle.model.specs.Definitions.Codec.{decode};
 ghost use Rattle.model.specs.Definitions.WellFormed.{EntryOk, isUp};
 ghost use Rattle.model.specs.Definitions.Steps.{valueOf, access};
 ghost use Rattle.model.specs.Definitions.Calls.{firstOf, lackingOf, liveRefusals, prepared, performed, live};
-ghost use Rattle.model.specs.Laws.BoardFields.{Space};
-ghost use Rattle.model.specs.Laws.Keeps.Live.{Ready, CanAccess};
+ghost use Rattle.model.specs.Contracts.{Space, Ready, CanAccess};
 ghost use Rattle.exchange.specs.Banks.{OfBank, Holds};
 ghost use Rattle.exchange.specs.Progress.{running, lossOf, Came};
 ghost use Rattle.accesses.specs.Asks.{asked, Asks};
@@ -86,7 +85,9 @@ fn live_verdict(bank: &[u8], boards: usize, pages: usize, ask: Ask) -> Verdict
 
 // An own write takes back the copies that are out.
 fn drop_out(bank: &mut [u8], pages: usize, page: usize)
-    requires { ⌜ OfBank pages 0 (now bank) × (page < pages) × EntryOk (length (decode (now bank) .boards)) (entryAt (decode (now bank)) page) × ((c : ℕ) → c < length (decode (now bank) .boards) → member c (entryAt (decode (now bank)) page .copies) ≡ true → Space (boardAt (decode (now bank)) c)) ⌝ }
+    requires { ⌜ OfBank pages 0 (now bank) × (page < pages) × EntryOk (length (decode (now bank) .boards)) (entryAt (decode (now bank)) page)
+        × ((c : ℕ) → c < length (decode (now bank) .boards) → member c (entryAt (decode (now bank)) page .copies) ≡ true
+        → Space (boardAt (decode (now bank)) c)) ⌝ }
     ensures { λ _. ⌜ Holds (now (bank .exit)) (withoutOut page (decode (now (bank .entry)))) ⌝ }
 {
     if 0 < count_copies(read_copies(bank, page)) {
@@ -96,8 +97,10 @@ fn drop_out(bank: &mut [u8], pages: usize, page: usize)
 
 // What comes before the access itself: a fetch, or the copies of an owned page dropped, or nothing.
 fn prepare(bank: &mut [u8], pages: usize, ask: Ask) -> Progress
-    requires { ⌜ Asks (length (decode (now bank) .boards)) pages ask (now bank) × CanAccess (ask .board) (asked ask) (decode (now bank)) × (firstOf (liveRefusals (ask .board) (asked ask) (decode (now bank))) ≡ none) ⌝ }
-    ensures run { λ r. ⌜ ((n : ℕ) → Came (now (bank .exit)) (n + r .stores) (lossOf (r .loss)) (prepared (ask .board) (asked ask) (running n (decode (now (bank .entry)))))) ⌝ }
+    requires { ⌜ Asks (length (decode (now bank) .boards)) pages ask (now bank) × CanAccess (ask .board) (asked ask) (decode (now bank))
+        × (firstOf (liveRefusals (ask .board) (asked ask) (decode (now bank))) ≡ none) ⌝ }
+    ensures run { λ r. ⌜ ((n : ℕ) → Came (now (bank .exit)) (n + r .stores) (lossOf (r .loss))
+        (prepared (ask .board) (asked ask) (running n (decode (now (bank .entry)))))) ⌝ }
     ensures few { λ r. ⌜ r .stores ≤ 2 * slotCount ⌝ }
 {
     let page = ask.page;
@@ -117,8 +120,10 @@ fn prepare(bank: &mut [u8], pages: usize, ask: Ask) -> Progress
 
 // The access itself on its board's block, and its value.
 fn perform_at(bank: &mut [u8], pages: usize, ask: Ask) -> u8
-    requires { ⌜ OfBank pages (ask .board) (now bank) × Ready (asked ask) (boardAt (decode (now bank)) (ask .board)) × (ask .page < pages) × (ask .offset < pageSize) ⌝ }
-    ensures { λ r. ⌜ (r ≡ valueOf (asked ask) (boardAt (decode (now (bank .entry))) (ask .board) .working .frames)) × Holds (now (bank .exit)) (access (ask .board) (asked ask) (decode (now (bank .entry)))) ⌝ }
+    requires { ⌜ OfBank pages (ask .board) (now bank) × Ready (asked ask) (boardAt (decode (now bank)) (ask .board)) × (ask .page < pages)
+        × (ask .offset < pageSize) ⌝ }
+    ensures { λ r. ⌜ (r ≡ valueOf (asked ask) (boardAt (decode (now (bank .entry))) (ask .board) .working .frames))
+        × Holds (now (bank .exit)) (access (ask .board) (asked ask) (decode (now (bank .entry)))) ⌝ }
 {
     let board = ask.board;
     let a = block_at(pages, board);
@@ -128,8 +133,10 @@ fn perform_at(bank: &mut [u8], pages: usize, ask: Ask) -> u8
 
 // The access that codes 6 and 7 let pass.
 fn proceed(bank: &mut [u8], pages: usize, ask: Ask) -> Outcome
-    requires { ⌜ Asks (length (decode (now bank) .boards)) pages ask (now bank) × CanAccess (ask .board) (asked ask) (decode (now bank)) × (firstOf (liveRefusals (ask .board) (asked ask) (decode (now bank))) ≡ none) ⌝ }
-    ensures run { λ r. ⌜ ((n : ℕ) → Answered (now (bank .exit)) r n (performed (ask .board) (asked ask) (prepared (ask .board) (asked ask) (running n (decode (now (bank .entry))))))) ⌝ }
+    requires { ⌜ Asks (length (decode (now bank) .boards)) pages ask (now bank) × CanAccess (ask .board) (asked ask) (decode (now bank))
+        × (firstOf (liveRefusals (ask .board) (asked ask) (decode (now bank))) ≡ none) ⌝ }
+    ensures run { λ r. ⌜ ((n : ℕ) → Answered (now (bank .exit)) r n
+        (performed (ask .board) (asked ask) (prepared (ask .board) (asked ask) (running n (decode (now (bank .entry))))))) ⌝ }
     ensures few { λ r. ⌜ r .stores ≤ 2 * slotCount ⌝ }
 {
     let progress = prepare(bank, pages, ask);

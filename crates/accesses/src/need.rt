@@ -15,7 +15,7 @@ ghost use Rattle.model.specs.Definitions.Codec.{decode};
 ghost use Rattle.model.specs.Definitions.WellFormed.{RoomOk};
 ghost use Rattle.model.specs.Definitions.Steps.{giver};
 ghost use Rattle.model.specs.Definitions.Calls.{fetchNeed, lackingOf, need, shortBoard};
-ghost use Rattle.steps.specs.Records.{volatileCount, storedCount};
+ghost use Rattle.model.specs.Contracts.{volatileCount, storedCount};
 ghost use Rattle.exchange.specs.Banks.{OfBank};
 ghost use Rattle.exchange.specs.Progress.{got};
 ghost use Rattle.accesses.specs.Asks.{asked, Asks};
@@ -55,7 +55,8 @@ fn fetch_need(writes: bool, taker: usize, owner: usize, copies: u8, board: usize
 // What a board needs in its log for an access.
 fn need(ask: Ask, lacks: bool, owner: usize, copies: u8, board: usize) -> usize
     requires { ⌜ board < mostBoards ⌝ }
-    ensures { λ r. ⌜ ((k : Bank) → lacks ≡ lackingOf (ask .board) (asked ask) k → owner ≡ giver k (ask .page) → copies ≡ entryAt k (ask .page) .copies → r ≡ need (ask .board) (asked ask) k board) ⌝ }
+    ensures { λ r. ⌜ ((k : Bank) → lacks ≡ lackingOf (ask .board) (asked ask) k → owner ≡ giver k (ask .page) → copies ≡ entryAt k (ask .page) .copies
+        → r ≡ need (ask .board) (asked ask) k board) ⌝ }
 {
     let writes = ask.writes;
     if lacks {
@@ -70,7 +71,8 @@ fn need(ask: Ask, lacks: bool, owner: usize, copies: u8, board: usize) -> usize
 // Whether a board's log has too little room; one that needs nothing is not looked at.
 fn short_of(bank: &[u8], pages: usize, board: usize, need: usize) -> bool
     requires { ⌜ OfBank pages board (now bank) × RoomOk (boardAt (decode (now bank)) board) ⌝ }
-    ensures { λ r. ⌜ r ≡ ltb slotCount (storedCount (boardAt (decode (now (bank .entry))) board) + volatileCount (boardAt (decode (now (bank .entry))) board) + need) ⌝ }
+    ensures { λ r. ⌜ r ≡ ltb slotCount (storedCount (boardAt (decode (now (bank .entry))) board) + volatileCount
+        (boardAt (decode (now (bank .entry))) board) + need) ⌝ }
 {
     if need == 0 {
         return false;

@@ -6,7 +6,7 @@ use lib.Dec.{lit<}
 use Rattle.types.specs.declared.Answer.{Answer}
 use Rattle.types.specs.declared.Answer.the-variants.{Done, Malformed, OutOfRange, WrongState, CountersFull, ReplayDiffers, OwnerNotUp, LogFull, PowerLost}
 use Rattle.types.specs.declared.Outcome.{Outcome}
-use Rattle.model.specs.Definitions.Layout.{byteValues, mostPages, slotCount}
+use Rattle.model.specs.Definitions.Layout.{byteValues}
 use Rattle.model.specs.Definitions.Answers.{code, value, who}
 
 -- what each field counts in: code in ones, who in 2^8, stores in 2^16, value in 2^32
@@ -21,10 +21,6 @@ valueUnit = 4294967296
 
 unfoldable pub packed : Outcome → ℕ
 packed o = code (o .answer) + whoUnit * who (o .answer) + storesUnit * o .stores + valueUnit * value (o .answer)
-
--- Two flushes of 32 records and a checkpoint of P + 2 stores: no call makes more (engine's FewStores). So an outcome fits in one u64.
-abbrev pub mostStores : ℕ
-mostStores = 2 * slotCount + mostPages + 2
 
 -- ---- nothing is lost: the four fields are read back
 
@@ -70,7 +66,7 @@ packed-back o h k =
       valueRead = digits-value (code a) (who a) (o .stores) (value a) c h k;
     }
 
--- and the four fields tell the outcome
+-- and the four fields tell the outcome. Every code from 8 on reads as PowerLost; no call answers one past 8.
 unfoldable pub answerOf : ℕ → ℕ → ℕ → Answer
 answerOf zero w v = Done v
 answerOf (suc zero) w v = Malformed

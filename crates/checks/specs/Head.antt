@@ -4,7 +4,7 @@ use native.Mathlib.Omega.{arith}
 use mathlib.Core.List.{List}
 use lib.ListN.{length}
 use Rattle.model.specs.Definitions.Layout.{headSize}
-use Rattle.model.specs.Laws.BankSteps.{IsBank}
+use Rattle.model.specs.Contracts.{IsBank}
 use Rattle.steps.specs.Power.{directory-in}
 
 pub head-in : (s : List ℕ) → IsBank s → headSize ≤ length s

@@ -1,3 +1,3 @@
 pub mod Head
-pub mod Entries
+pub mod Findings
 pub mod Admission

@@ -1,15 +1,14 @@
 // The tests with which an access begins: its numbers, then codes 4 and 5 on its board's block.
 use format::layout::block_at;
 use format::layout::block_size;
+use replay::got::differs;
 use steps::access::counters_full;
-use steps::replay::differs;
 use types::PAGE_SIZE;
 ghost use mathlib.Core.Path.{_≡_};
 ghost use Prim.Native.Nat.{ℕ, _<_};
 ghost use Rattle.model.specs.Definitions.Bank.{boardAt};
 ghost use Rattle.model.specs.Definitions.Codec.{decode};
-ghost use Rattle.steps.specs.Blocks.{IsBlock, boardOf};
-ghost use Rattle.steps.specs.Access.{accessOf};
+ghost use Rattle.steps.specs.Blocks.{IsBlock, boardOf, readOrWrite};
 ghost use Rattle.exchange.specs.Banks.{OfBank};
 ghost use Rattle.checks.specs.Admission.{numbersFit, admissionOf};
 
@@ -39,7 +38,7 @@ pub enum Admission {
 // "access with since 65,535 or number 4,294,967,295", then of a replaying board an access that its log doesn't have.
 fn admit_block(block: &[u8], pages: usize, replaying: bool, page: usize, writes: bool) -> Admission
     requires { ⌜ IsBlock pages (now block) × (page < pages) ⌝ }
-    ensures { λ r. ⌜ ((o v : ℕ) → r ≡ admissionOf replaying (accessOf writes page o v) (boardOf pages (now (block .entry)))) ⌝ }
+    ensures { λ r. ⌜ ((o v : ℕ) → r ≡ admissionOf replaying (readOrWrite writes page o v) (boardOf pages (now (block .entry)))) ⌝ }
 {
     if counters_full(block, pages) {
         return Admission::CountersFull;
@@ -63,7 +62,7 @@ pub fn admit(
     writes: bool,
 ) -> Admission
     requires { ⌜ OfBank pages board (now bank) × (page < pages) ⌝ }
-    ensures { λ r. ⌜ ((o v : ℕ) → r ≡ admissionOf replaying (accessOf writes page o v) (boardAt (decode (now (bank .entry))) board)) ⌝ }
+    ensures { λ r. ⌜ ((o v : ℕ) → r ≡ admissionOf replaying (readOrWrite writes page o v) (boardAt (decode (now (bank .entry))) board)) ⌝ }
 {
     let a = block_at(pages, board);
     let size = block_size(pages);

@@ -1,16 +1,16 @@
 // What every call reads of a bank before it begins: the numbers of boards and pages, and a board's state.
 use exchange::state;
 use fields::bytes::get;
+use fields::bytes::wide;
 use format::layout::BOARDS_AT;
 use format::layout::PAGES_AT;
 use types::State;
-use validity::parts::wide;
 ghost use mathlib.Core.Path.{_≡_};
 ghost use Prim.Native.Nat.{_<_};
 ghost use lib.ListN.{length};
 ghost use Rattle.model.specs.Definitions.Bank.{boardAt};
 ghost use Rattle.model.specs.Definitions.Codec.{decode};
-ghost use Rattle.model.specs.Laws.BankSteps.{IsBank};
+ghost use Rattle.model.specs.Contracts.{IsBank};
 
 pub fn board_count(bank: &[u8]) -> usize
     requires { ⌜ IsBank (now bank) ⌝ }

@@ -16,48 +16,33 @@ use Rattle.types.specs.declared.Outcome.{Outcome}
 use Rattle.model.specs.Definitions.Layout.{byteValues, pageSize}
 use Rattle.model.specs.Definitions.Bank.{Board, Bank, boardAt}
 use Rattle.model.specs.Definitions.Codec.{decode}
-use Rattle.model.specs.Definitions.WellFormed.{wellFormed, isDown, isReplaying}
+use Rattle.model.specs.Definitions.WellFormed.{isDown, isReplaying}
 use Rattle.model.specs.Definitions.Steps.{start, Access}
 use Rattle.model.specs.Definitions.Replay.{differs}
-use Rattle.model.specs.Definitions.Calls.{Result, firstOf, unless, live, replaying, accessInRange, countersFull, accessRefusals, accessBank, Call, Reading, Writing, callBank, refused, call}
+use Rattle.model.specs.Definitions.Calls.{Result, firstOf, unless, live, replaying, accessInRange, countersFull, accessRefusals, accessBank, callOf, refused}
+use Rattle.model.specs.Definitions.Calls.{call}
 use Rattle.model.specs.Laws.Logic.{byBool, and-left, and-right}
-use Rattle.model.specs.Laws.Codes.Statement.{boardOf}
-use Rattle.model.specs.Laws.Keeps.Live.{CanAccess, isReplaying-replaying}
-use Rattle.model.specs.Laws.Keeps.Calls.{Entered, entered-live, entered, fitting}
-use Rattle.model.specs.Laws.BankSteps.{IsBank}
-use Rattle.steps.specs.Access.{accessOf}
+use Rattle.model.specs.Laws.Calls.{callOf-bank}
+use Rattle.model.specs.Laws.Keeps.Live.{isReplaying-replaying}
+use Rattle.model.specs.Contracts.{CanAccess, Entered, IsBank}
+use Rattle.model.specs.Laws.Keeps.Calls.{entered-live, entered, fitting}
+use Rattle.steps.specs.Blocks.{readOrWrite}
 use Rattle.exchange.specs.Progress.{running}
 use Rattle.accesses.specs.declared.ask.Ask.{Ask}
 use Rattle.accesses.specs.Asks.{asked, Asks}
 use Rattle.accesses.specs.Results.{Answered}
-use Rattle.checks.specs.Entries.{OnBoard, on-bank, on-formed}
+use Rattle.checks.specs.Findings.{OnBoard, on-bank, on-formed}
 use Rattle.checks.specs.Admission.{numbersFit, admissionOf}
-use Rattle.engine.specs.Replies.{call-refused, call-noBoard, listed}
+use Rattle.engine.specs.Replies.{call-refused, listed}
 use Rattle.checks.specs.declared.admission.Admission.{Admission}
 use Rattle.checks.specs.declared.admission.Admission.the-variants.{CountersFull as Full, Differs, Pass}
-
--- the call that a flag and numbers stand for; a read has no use for the value
-unfoldable pub callOf : Bool → ℕ → ℕ → ℕ → ℕ → Call
-callOf true b p o v = Writing b p o v
-callOf false b p o v = Reading b p o
-
-pub call-access : (writes : Bool) (b p o v : ℕ) (k : Bank) → callBank (callOf writes b p o v) k ≡ accessBank b (accessOf writes p o v) k
-unfolding callOf callBank accessOf
-call-access true b p o v k = refl
-call-access false b p o v k = refl
-
-pub access-noBoard : (writes : Bool) (b p o v : ℕ) (s : List ℕ) → (wellFormed s ≡ true) × (ltb b (length (decode s .boards)) ≡ false)
-    → call (callOf writes b p o v) s ≡ refused OutOfRange s
-unfolding callOf boardOf
-access-noBoard true b p o v s h = call-noBoard (Writing b p o v) s h
-access-noBoard false b p o v s h = call-noBoard (Reading b p o) s h
 
 -- ---- code 2
 
 -- a read's value is one that fits
 pub in-range : (writes : Bool) (b p o v : ℕ) (k : Bank) → (writes ≡ false → v < byteValues) → ltb b (length (k .boards)) ≡ true
-    → accessInRange b (accessOf writes p o v) k ≡ numbersFit (length (k .directory)) p o v
-unfolding accessInRange accessOf
+    → accessInRange b (readOrWrite writes p o v) k ≡ numbersFit (length (k .directory)) p o v
+unfolding accessInRange readOrWrite
 in-range true b p o v k small h = rw h
 in-range false b p o v k small h = byBool (ltb o pageSize) (λ t. rw (h, t, lt-ltb v byteValues (small refl))) (λ t. rw (h, t))
 
@@ -150,7 +135,8 @@ module _ {boards pages : ℕ} {q : Ask} {s : List ℕ} (h : Asks boards pages q 
     enters : Entered (q .board) (asked q) k
     enters = entered (q .board) (asked q) k (h .formed) none-holds
 
-    pub can-repeat : rep ≡ true → Entered (q .board) (asked q) k × (boardAt k (q .board) .state ≡ Replaying) × (differs (asked q) (boardAt k (q .board)) ≡ false)
+    pub can-repeat : rep ≡ true → Entered (q .board) (asked q) k × (boardAt k (q .board) .state ≡ Replaying)
+        × (differs (asked q) (boardAt k (q .board)) ≡ false)
     can-repeat t =
         let u : isReplaying (boardAt k (q .board) .state) ≡ true = sym r ∙ t in
         (enters, isReplaying-replaying (boardAt k (q .board) .state) u, fitting (q .board) (asked q) k (h .formed) none-holds u)
@@ -171,19 +157,19 @@ module _ {boards pages : ℕ} {q : Ask} {s : List ℕ} (h : Asks boards pages q 
 
 module _ {b : ℕ} {s : List ℕ} {st : State} (on : OnBoard b s st) (writes : Bool) (p o v : ℕ) (small : writes ≡ false → v < byteValues)
     {pages : ℕ} (e : pages ≡ length (decode s .directory)) where
-  numbers : accessInRange b (accessOf writes p o v) (decode s) ≡ numbersFit pages p o v
+  numbers : accessInRange b (readOrWrite writes p o v) (decode s) ≡ numbersFit pages p o v
   numbers = in-range writes b p o v (decode s) small (listed on) ∙ rw e
 
-  pub numbers-refused : numbersFit pages p o v ≡ false → call (callOf writes b p o v) s ≡ refused OutOfRange s
+  pub numbers-refused : numbersFit pages p o v ≡ false → call (callOf b (readOrWrite writes p o v)) s ≡ refused OutOfRange s
   numbers-refused h =
-      call-refused s (on .formed) (callOf writes b p o v) OutOfRange
-      (call-access writes b p o v (decode s) ∙ access-out b (accessOf writes p o v) (decode s) (numbers ∙ h))
+      call-refused s (on .formed) (callOf b (readOrWrite writes p o v)) OutOfRange
+      (callOf-bank b (readOrWrite writes p o v) (decode s) ∙ access-out b (readOrWrite writes p o v) (decode s) (numbers ∙ h))
 
   module _ (h : numbersFit pages p o v ≡ true) where
-    pub access-refused : isDown st ≡ true → call (callOf writes b p o v) s ≡ refused (WrongState b) s
+    pub access-refused : isDown st ≡ true → call (callOf b (readOrWrite writes p o v)) s ≡ refused (WrongState b) s
     access-refused d =
-        call-refused s (on .formed) (callOf writes b p o v) (WrongState b)
-        (call-access writes b p o v (decode s) ∙ access-down b (accessOf writes p o v) (decode s) (numbers ∙ h) (rw (on .state) d))
+        call-refused s (on .formed) (callOf b (readOrWrite writes p o v)) (WrongState b)
+        (callOf-bank b (readOrWrite writes p o v) (decode s) ∙ access-down b (readOrWrite writes p o v) (decode s) (numbers ∙ h) (rw (on .state) d))
 
     pub asks-of : Asks (length (decode s .boards)) pages (record { board = b; writes = writes; page = p; offset = o; value = v }) s
     asks-of =

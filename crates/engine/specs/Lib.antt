@@ -1,5 +1,4 @@
 pub mod Contracts
-pub mod FewStores
 pub mod Replies
 pub mod Admissions
 pub mod Restarts

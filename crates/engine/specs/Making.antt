@@ -10,7 +10,7 @@ use Rattle.model.specs.Definitions.Layout.{bankSize}
 use Rattle.model.specs.Definitions.Bank.{fresh}
 use Rattle.model.specs.Definitions.Calls.{refused, make}
 use Rattle.engine.specs.Replies.{done}
-use Rattle.model.specs.Definitions.WellFormed.{sizesAllowed}
+use Rattle.model.specs.Definitions.Check.{sizesAllowed}
 
 module _ (boards pages : ℕ) (s : List ℕ) where
   pub make-range : sizesAllowed boards pages ≡ false → make boards pages s ≡ refused OutOfRange s

@@ -9,13 +9,14 @@ use lib.Dec.{eqb}
 use Rattle.types.specs.declared.Answer.the-variants.{Done}
 use Rattle.types.specs.declared.Outcome.{Outcome}
 use Rattle.model.specs.Definitions.Layout.{bankSize}
-use Rattle.model.specs.Definitions.WellFormed.{SizesOk, sizesAllowed}
+use Rattle.model.specs.Definitions.WellFormed.{SizesOk}
+use Rattle.model.specs.Definitions.Check.{sizesAllowed}
 use Rattle.model.specs.Definitions.Calls.{Call, Reply, refused, call, make}
 use Rattle.model.specs.Laws.Logic.{cases}
 use Rattle.model.specs.Laws.Fresh.{sizes-say}
 use Rattle.model.specs.History.Statement.{Observed, made, begin, runOf, PremisesSeen, ClaimsSeen, Premises, Claims}
 use Rattle.model.specs.History.OnBytes.{make-begins}
-use Rattle.model.specs.History.Theorem.{one-memory}
+use Rattle.history.specs.Theorem.{one-memory}
 use Rattle.engine.specs.Contracts.{Replied}
 
 -- what the contracts allow: each call is run on the bytes that the last one left, and answers and leaves what its contract says
@@ -60,5 +61,6 @@ one-memory-seen n p s₀ s o v r d xs ok h =
     let k : made s ≡ begin n p = ap made b in
     let run : xs ≡ runOf (calls xs) s = seen-own xs s ok in
     let premises : Premises (calls xs) (made s) = subst (λ ys. PremisesSeen ys (made s)) run h in
-    let claims : Claims (calls xs) (made s) = subst (Claims (calls xs)) (sym k) (one-memory n p (make-sizes n p s₀ v e) (calls xs) (subst (Premises (calls xs)) k premises)) in
+    let claims : Claims (calls xs) (made s) =
+    subst (Claims (calls xs)) (sym k) (one-memory n p (make-sizes n p s₀ v e) (calls xs) (subst (Premises (calls xs)) k premises)) in
     subst (λ ys. ClaimsSeen ys (made s)) (sym run) claims

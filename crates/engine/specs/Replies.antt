@@ -14,20 +14,30 @@ use Rattle.types.specs.declared.Outcome.{Outcome}
 use Rattle.model.specs.Definitions.Layout.{noFuse}
 use Rattle.model.specs.Definitions.Bank.{Bank, boardAt, onBoard}
 use Rattle.model.specs.Definitions.Codec.{encode, decode}
-use Rattle.model.specs.Definitions.WellFormed.{wellFormed, isUp, isDown}
+use Rattle.model.specs.Definitions.WellFormed.{isUp, isDown}
+use Rattle.model.specs.Definitions.Check.{wellFormed}
 use Rattle.model.specs.Definitions.Steps.{Run, start, step, powerOff, withFuse, checkpoint}
-use Rattle.model.specs.Definitions.Calls.{Result, firstOf, unless, finished, accessInRange, accessRefusals, accessBank, checkpointBank, cutBank, fuseBank, restartBank, Call, Reading, Writing, Checkpointing, Cutting, Fusing, Restarting, callBank, Reply, refused, replyOf, call}
+use Rattle.model.specs.Definitions.Calls.{Result, firstOf, unless, finished, accessInRange, accessRefusals, accessBank, checkpointBank, cutBank, fuseBank}
+use Rattle.model.specs.Definitions.Calls.{restartBank, Call, Reading, Writing, Checkpointing, Cutting, Fusing, Restarting, callBank, Reply, refused, replyOf}
+use Rattle.model.specs.Definitions.Calls.{call}
 use Rattle.model.specs.Laws.CodecBankBack.{encode-decode}
-use Rattle.model.specs.Laws.Codes.Statement.{boardOf}
+use Rattle.model.specs.Laws.Codes.Statement.{boardNamed}
+use Rattle.model.specs.Laws.FewStores.{call-few}
+use Rattle.model.specs.Contracts.{mostStores}
 use Rattle.exchange.specs.Progress.{lostBy, Came}
 use Rattle.accesses.specs.Results.{Answered, endedAs}
 use Rattle.accesses.specs.Repeated.{finished-ended}
-use Rattle.answers.specs.Packed.{mostStores}
 use Rattle.engine.specs.Contracts.{Replied}
-use Rattle.checks.specs.Entries.{OnBoard}
-use Rattle.engine.specs.FewStores.{replied-few}
+use Rattle.checks.specs.declared.entry.Refusal.{Refusal}
+use Rattle.checks.specs.declared.entry.Finding.{Finding}
+use Rattle.checks.specs.declared.entry.Finding.the-variants.{Refused}
+use Rattle.checks.specs.Findings.{OnBoard, findingOf, refusalAnswer, refused-says}
 
 -- ---- the contract of a call, from its reply
+
+-- its second half follows from the first
+pub replied-few : (c : Call) (s : List ℕ) {o : Outcome} {t : List ℕ} → Replied (call c s) o t → Replied (call c s) o t × (o .stores ≤ mostStores)
+replied-few c s h = (h, rw (h .0) (call-few c s))
 
 -- a refusal: no store, the bytes as they were
 pub refused-replied : {y : Reply} {a : Answer} {o : Outcome} {s : List ℕ} → y ≡ refused a s → o ≡ record { answer = a; stores = 0 }
@@ -54,7 +64,8 @@ module _ (b : ℕ) (k : Bank) where
   unfolding cutBank unless firstOf finished step start
   cut-ran h d = cc
 
-  checkpoint-wrong : ltb b (length (k .boards)) ≡ true → isUp (boardAt k b .state) ≡ false → checkpointBank b k ≡ record { answer = WrongState b; run = start k }
+  checkpoint-wrong : ltb b (length (k .boards)) ≡ true → isUp (boardAt k b .state) ≡ false
+      → checkpointBank b k ≡ record { answer = WrongState b; run = start k }
   unfolding checkpointBank unless firstOf
   checkpoint-wrong h u = cc
 
@@ -80,7 +91,7 @@ module _ (b : ℕ) (k : Bank) where
 -- ---- on bytes
 
 -- "1: not well formed"
-pub call-malformed : (c : Call) (s : List ℕ) → wellFormed s ≡ false → call c s ≡ refused Malformed s
+call-malformed : (c : Call) (s : List ℕ) → wellFormed s ≡ false → call c s ≡ refused Malformed s
 unfolding call
 call-malformed c s v = cc
 
@@ -117,8 +128,8 @@ module _ (s : List ℕ) (v : wellFormed s ≡ true) where
       (omega (arith, o .1, came .stores))
 
 -- "2: board ≥ N", of any call
-out-of-bank : (c : Call) (k : Bank) → ltb (boardOf c) (length (k .boards)) ≡ false → callBank c k ≡ record { answer = OutOfRange; run = start k }
-unfolding boardOf callBank accessInRange accessRefusals accessBank checkpointBank cutBank fuseBank restartBank unless firstOf
+out-of-bank : (c : Call) (k : Bank) → ltb (boardNamed c) (length (k .boards)) ≡ false → callBank c k ≡ record { answer = OutOfRange; run = start k }
+unfolding boardNamed callBank accessInRange accessRefusals accessBank checkpointBank cutBank fuseBank restartBank unless firstOf
 out-of-bank (Reading b p o) k h = cc
 out-of-bank (Writing b p o v) k h = cc
 out-of-bank (Checkpointing b) k h = cc
@@ -126,8 +137,14 @@ out-of-bank (Cutting b) k h = cc
 out-of-bank (Fusing b n) k h = cc
 out-of-bank (Restarting b) k h = cc
 
-pub call-noBoard : (c : Call) (s : List ℕ) → (wellFormed s ≡ true) × (ltb (boardOf c) (length (decode s .boards)) ≡ false) → call c s ≡ refused OutOfRange s
-call-noBoard c s h = call-refused s (h .0) c OutOfRange (out-of-bank c (decode s) (h .1))
+-- what every call of a board finds first: where that refuses it, so does the call
+pub found-replied : (c : Call) (s : List ℕ) {b : ℕ} → boardNamed c ≡ b → {e : Finding} {a : Refusal} {o : Outcome} → e ≡ findingOf b s → e ≡ Refused a
+    → o ≡ record { answer = refusalAnswer a; stores = 0 } → Replied (call c s) o s × (o .stores ≤ mostStores)
+found-replied c s {b} own told q r =
+    refused-replied
+    (refused-says b s told (λ x. call c s ≡ refused (refusalAnswer x) s) (call-malformed c s)
+    (λ v h. call-refused s v c OutOfRange (out-of-bank c (decode s) (rw own h))) q)
+    r
 
 -- ---- on the bytes of a bank that has the board
 

@@ -17,16 +17,16 @@ use Rattle.model.specs.Definitions.Replay.{loaded, usedUp, replayOver, endRepla
 use Rattle.model.specs.Definitions.Calls.{firstOf, unless, finished, restartBank, Restarting, callBank, refused, call}
 use Rattle.model.specs.Laws.Boards.{boardAt-same}
 use Rattle.model.specs.Laws.BlockReplay.{loaded-fields}
-use Rattle.model.specs.Laws.Keeps.Clauses.{Fits, InReplay, WellFormedBut, but, onBoard-but}
+use Rattle.model.specs.Laws.Keeps.Clauses.{but, onBoard-but}
+use Rattle.model.specs.Contracts.{Fits, InReplay, WellFormedBut, mostStores}
 use Rattle.model.specs.Laws.Keeps.Replay.{loaded-inReplay, usedUp-inReplay}
 use Rattle.model.specs.Laws.Runs.{sizes-onBoard}
-use Rattle.steps.specs.Replay.{usedUp-fields}
+use Rattle.replay.specs.Used.{usedUp-fields}
 use Rattle.exchange.specs.Banks.{Holds, OfBank, holds-decode, holds-of}
 use Rattle.exchange.specs.Progress.{running, lostBy, Came}
 use Rattle.accesses.specs.Results.{endedAs}
-use Rattle.answers.specs.Packed.{mostStores}
 use Rattle.engine.specs.Contracts.{Replied}
-use Rattle.checks.specs.Entries.{OnBoard}
+use Rattle.checks.specs.Findings.{OnBoard}
 use Rattle.engine.specs.Replies.{call-refused, ran-replied, ended-replied, listed}
 
 -- the board's step
@@ -83,7 +83,8 @@ module _ {b : ℕ} {s : List ℕ} {st : State} (on : OnBoard b s st) where
         → Replied (call (Restarting b) s) (record { answer = Done n; stores = 0 }) t × (0 ≤ mostStores)
     unfolding callBank start
     goes-replied o =
-        ran-replied s (on .formed) (Restarting b) (record { answer = Done (boardAt (decode s) b .stable .selected .number); run = start (resumed b (decode s)) })
+        ran-replied s (on .formed) (Restarting b)
+        (record { answer = Done (boardAt (decode s) b .stable .selected .number); run = start (resumed b (decode s)) })
         (restart-going b (decode s) (on .inside) (listed on) (rw (on .state) d) o) (h .bytes) (ap (λ (i : ℕ). Done i) e) refl
 
     pub ends-replied : replayOver (restarted (boardAt (decode s) b)) ≡ true → {u : List ℕ} {o : Outcome} (m : ℕ) (l : Bool)

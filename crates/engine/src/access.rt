@@ -1,15 +1,17 @@
 // Reads and writes: the tests on entry in document 01's order, then the access, live or repeated from the log.
 use accesses::ask::Ask;
 use accesses::live::live;
-use accesses::replay::replay;
+use accesses::replaying::replay;
 use checks::admission::Admission;
 use checks::admission::admit;
 use checks::admission::numbers_fit;
 use checks::bank::board_count;
 use checks::bank::page_count;
-use checks::entry::Entry;
+use checks::entry::Finding;
 use checks::entry::enter;
 use checks::entry::refuse;
+use checks::entry::refuse_entry;
+use checks::entry::wrong_state;
 use steps::state::is_down;
 use steps::state::is_replaying;
 use types::Answer;
@@ -22,16 +24,17 @@ ghost use Rattle.model.specs.Definitions.Layout.{byteValues};
 ghost use Rattle.model.specs.Definitions.Bank.{boardAt};
 ghost use Rattle.model.specs.Definitions.Codec.{decode};
 ghost use Rattle.model.specs.Definitions.WellFormed.{isDown, isReplaying};
-ghost use Rattle.model.specs.Definitions.Calls.{accessBank, call, Reading, Writing};
+ghost use Rattle.model.specs.Definitions.Calls.{accessBank, call, callOf, Reading, Writing};
+ghost use Rattle.steps.specs.Blocks.{readOrWrite};
 ghost use Rattle.accesses.specs.Asks.{asked, Asks};
 ghost use Rattle.accesses.specs.Results.{Answered};
-ghost use Rattle.answers.specs.Packed.{mostStores};
+ghost use Rattle.model.specs.Contracts.{mostStores};
 ghost use Rattle.engine.specs.Contracts.{Replied};
-ghost use Rattle.engine.specs.Admissions.{callOf};
 
 // An access whose numbers fit, of a board that has power: codes 4 and 5, then the access.
 fn access_board(bank: &mut [u8], pages: usize, ask: Ask, replaying: bool) -> Outcome
-    requires { ⌜ Asks (length (decode (now bank) .boards)) pages ask (now bank) × (isDown (boardAt (decode (now bank)) (ask .board) .state) ≡ false) × (replaying ≡ isReplaying (boardAt (decode (now bank)) (ask .board) .state)) ⌝ }
+    requires { ⌜ Asks (length (decode (now bank) .boards)) pages ask (now bank) × (isDown (boardAt (decode (now bank)) (ask .board) .state) ≡ false)
+        × (replaying ≡ isReplaying (boardAt (decode (now bank)) (ask .board) .state)) ⌝ }
     ensures { λ r. ⌜ Answered (now (bank .exit)) r 0 (accessBank (ask .board) (asked ask) (decode (now (bank .entry)))) ⌝ }
 {
     let board = ask.board;
@@ -51,19 +54,17 @@ fn access_board(bank: &mut [u8], pages: usize, ask: Ask, replaying: bool) -> Out
 // A read or a write, by its flag; a read's value is one that fits.
 fn access(bank: &mut [u8], board: u32, writes: bool, page: u32, offset: u32, value: u32) -> Outcome
     requires { ⌜ (writes ≡ false → value < byteValues) ⌝ }
-    ensures reply { λ r. ⌜ Replied (call (callOf writes board page offset value) (now (bank .entry))) r (now (bank .exit)) ⌝ }
+    ensures reply { λ r. ⌜ Replied (call (callOf board (readOrWrite writes page offset value)) (now (bank .entry))) r (now (bank .exit)) ⌝ }
     ensures few { λ r. ⌜ r .stores ≤ mostStores ⌝ }
 {
     match enter(bank, board) {
-        Entry::Unreadable => refuse(Answer::Malformed),
-        Entry::NoBoard => refuse(Answer::OutOfRange),
-        Entry::Board(state) => {
+        Finding::Board(state) => {
             let pages = page_count(bank);
             if !numbers_fit(pages, page, offset, value) {
                 return refuse(Answer::OutOfRange);
             }
             if is_down(state) {
-                return refuse(Answer::WrongState(board as u8));
+                return wrong_state(board);
             }
             let ask = Ask {
                 board: board as usize,
@@ -74,6 +75,7 @@ fn access(bank: &mut [u8], board: u32, writes: bool, page: u32, offset: u32, val
             };
             access_board(bank, pages, ask, is_replaying(state))
         }
+        Finding::Refused(refusal) => refuse_entry(refusal),
     }
 }
 

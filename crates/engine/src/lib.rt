@@ -1,6 +1,5 @@
 // Document 01's calls, on bytes of any length and content: each answers and leaves what the definitions say.
 pub mod access;
-pub mod c;
 pub mod checkpoint;
 pub mod make;
 pub mod power;

@@ -7,7 +7,7 @@ use types::Answer;
 use types::Outcome;
 ghost use Prim.Native.Nat.{_≤_};
 ghost use Rattle.model.specs.Definitions.Calls.{make as making};
-ghost use Rattle.answers.specs.Packed.{mostStores};
+ghost use Rattle.model.specs.Contracts.{mostStores};
 ghost use Rattle.engine.specs.Contracts.{Replied};
 
 // "making a bank checks 2 before 1"

@@ -1,8 +1,10 @@
 // The calls about a board's power: a cut, and a fuse that cuts after some stores.
 use checks::bank::page_count;
-use checks::entry::Entry;
+use checks::entry::Finding;
 use checks::entry::enter;
 use checks::entry::refuse;
+use checks::entry::refuse_entry;
+use checks::entry::wrong_state;
 use format::layout;
 use format::layout::block_at;
 use format::layout::block_size;
@@ -21,8 +23,7 @@ ghost use Rattle.model.specs.Definitions.Bank.{onBoard};
 ghost use Rattle.model.specs.Definitions.Codec.{encode, decode};
 ghost use Rattle.model.specs.Definitions.Steps.{withFuse};
 ghost use Rattle.model.specs.Definitions.Calls.{call, Cutting, Fusing};
-ghost use Rattle.model.specs.Laws.BankSteps.{IsBank};
-ghost use Rattle.answers.specs.Packed.{mostStores};
+ghost use Rattle.model.specs.Contracts.{IsBank, mostStores};
 ghost use Rattle.engine.specs.Contracts.{Replied};
 
 // "65,535 none", as wide as the number that a call is given.
@@ -34,11 +35,10 @@ pub fn cut(bank: &mut [u8], board: u32) -> Outcome
     ensures few { λ r. ⌜ r .stores ≤ mostStores ⌝ }
 {
     match enter(bank, board) {
-        Entry::Unreadable => refuse(Answer::Malformed),
-        Entry::NoBoard => refuse(Answer::OutOfRange),
-        Entry::Board(state) => {
+        Finding::Refused(refusal) => refuse_entry(refusal),
+        Finding::Board(state) => {
             if is_down(state) {
-                refuse(Answer::WrongState(board as u8))
+                wrong_state(board)
             } else {
                 let pages = page_count(bank);
                 power_off(bank, pages, board as usize);
@@ -68,7 +68,7 @@ fn set_board_fuse(bank: &mut [u8], pages: usize, board: usize, stores: u16)
 {
     let a = block_at(pages, board);
     let size = block_size(pages);
-    set_fuse(&mut bank[a..a + size], stores);
+    set_fuse(&mut bank[a..a + size], pages, stores);
 }
 
 // "Fuse k .. : cut after its k-th next store."
@@ -77,14 +77,13 @@ pub fn fuse(bank: &mut [u8], board: u32, stores: u32) -> Outcome
     ensures few { λ r. ⌜ r .stores ≤ mostStores ⌝ }
 {
     match enter(bank, board) {
-        Entry::Unreadable => refuse(Answer::Malformed),
-        Entry::NoBoard => refuse(Answer::OutOfRange),
-        Entry::Board(state) => {
+        Finding::Refused(refusal) => refuse_entry(refusal),
+        Finding::Board(state) => {
             if !settable(stores) {
                 return refuse(Answer::OutOfRange);
             }
             if is_down(state) {
-                return refuse(Answer::WrongState(board as u8));
+                return wrong_state(board);
             }
             let pages = page_count(bank);
             set_board_fuse(bank, pages, board as usize, stores as u16);

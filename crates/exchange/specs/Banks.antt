@@ -16,7 +16,8 @@ use Rattle.model.specs.Laws.WellFormedTest.{fields-of}
 use Rattle.model.specs.Laws.Boards.{directory-onEntry}
 use Rattle.model.specs.Laws.Runs.{sizes-onBoard}
 use Rattle.model.specs.Laws.BlockFields.{read-frame}
-use Rattle.model.specs.Laws.BankSteps.{Fields, IsBank, isBank-encode, entry-of, onBoard-fields, onEntry-fields}
+use Rattle.model.specs.Laws.BankSteps.{isBank-encode, entry-of, onBoard-fields, onEntry-fields}
+use Rattle.model.specs.Contracts.{Fields, IsBank}
 use Rattle.steps.specs.Blocks.{boardOf}
 use Rattle.steps.specs.Power.{directory-in}
 use Rattle.steps.specs.BankBlocks.{LentBlock, lent-block, lent-board, lent-step}

@@ -7,12 +7,13 @@ use Rattle.types.specs.declared.Kind.{Kind}
 use Rattle.model.specs.Definitions.Bank.{onWorking}
 use Rattle.model.specs.Definitions.Codec.{encodeBoard}
 use Rattle.model.specs.Definitions.Steps.{recorded, withFrame}
-use Rattle.model.specs.Laws.Keeps.Records.{Recordable}
-use Rattle.model.specs.Laws.BoardFields.{Space, recorded-fields}
+use Rattle.model.specs.Laws.BoardFields.{recorded-fields}
+use Rattle.model.specs.Contracts.{Space, Recordable}
 use Rattle.steps.specs.Blocks.{IsBlock, boardOf}
-use Rattle.steps.specs.Access.{board-written, block-written}
+use Rattle.steps.specs.BlockLaws.{board-written, block-written}
 
-module _ {pages : ℕ} {l m : List ℕ} (kind : Kind) (bytes : List ℕ) (b : IsBlock pages l) (s : Space (boardOf pages l)) (v : Recordable pages kind bytes) (e : m ≡ encodeBoard (onWorking (recorded kind bytes) (boardOf pages l))) where
+module _ {pages : ℕ} {l m : List ℕ} (kind : Kind) (bytes : List ℕ) (b : IsBlock pages l) (s : Space (boardOf pages l)) (v : Recordable pages kind bytes)
+    (e : m ≡ encodeBoard (onWorking (recorded kind bytes) (boardOf pages l))) where
   pub recorded-block : IsBlock pages m
   recorded-block = block-written _ (b .few) (recorded-fields (b .fields) kind bytes v s) e
 

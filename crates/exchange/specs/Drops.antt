@@ -21,8 +21,8 @@ use Rattle.model.specs.Definitions.Steps.{dropped, dropAt}
 use Rattle.model.specs.Laws.Logic.{byBool, byEq, clash}
 use Rattle.model.specs.Laws.Sets.{member-with-same, member-with-other, member-without-same, member-without-other, member-none, member-past, without-le}
 use Rattle.model.specs.Laws.Boards.{boards-onBoard, boardAt-same, boardAt-other, droppedIf, boards-dropAt, boardAt-dropAt, gives}
-use Rattle.model.specs.Laws.BoardFields.{Space}
-use Rattle.fields.specs.Copies.{lowest-member, without-in}
+use Rattle.model.specs.Contracts.{Space}
+use Rattle.fields.specs.Sets.{lowest-member, without-in}
 use Rattle.exchange.specs.Banks.{Holds, OfBank, holds-decode, holds-of}
 
 -- a slot for the record on every board that loses its right
@@ -111,7 +111,8 @@ dropping-last {s} {k} losers p d =
     = dropAt-same (gone losers 0) (λ c. member c losers) p k (λ c l. byBool (member c losers) (λ t. cc (member-none c)) (λ t. cc)) in
     rw e at (d .holds)
 
-module _ {s : List ℕ} {k : Bank} {losers left p b : ℕ} (d : Dropping s k losers left p) (n : losers < 2 ^ length (k .boards)) (m : length (k .boards) ≤ mostBoards) (some : left ≢ 0) (e : b ≡ trailingZeros mostBoards left) where
+module _ {s : List ℕ} {k : Bank} {losers left p b : ℕ} (d : Dropping s k losers left p) (n : losers < 2 ^ length (k .boards))
+    (m : length (k .boards) ≤ mostBoards) (some : left ≢ 0) (e : b ≡ trailingZeros mostBoards left) where
   pub lowest-below : b < mostBoards
   lowest-below =
       let h : 2 ^ length (k .boards) ≤ 2 ^ mostBoards = pow-mono m in

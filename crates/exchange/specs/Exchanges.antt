@@ -16,7 +16,7 @@ use Rattle.model.specs.Definitions.Steps.{frameOf, giveCopy, dropAt, dropCopies
 use Rattle.model.specs.Laws.Logic.{byEq, clash}
 use Rattle.model.specs.Laws.Sets.{member-with-other, member-without-same, member-without-other, with-below, without-le}
 use Rattle.model.specs.Laws.Boards.{tookCopy, withCopy, giveCopy-parts, withoutCopies, dropCopies-parts, ownedBy, tookOwn, gives, passOwnership-parts}
-use Rattle.model.specs.Laws.BoardFields.{Space}
+use Rattle.model.specs.Contracts.{Space}
 use Rattle.exchange.specs.Banks.{Holds, holds-decode, entry-read, entry-holds}
 use Rattle.exchange.specs.Drops.{CanDrop, dropAt-same, gives-set}
 
@@ -47,7 +47,8 @@ copies-dropped {xs} {ys} {zs} {k} p owner copies l h r q d w =
 
 -- ---- a page passed on
 
-module _ {xs : List ℕ} {k : Bank} (o w p copies losers : ℕ) (l : p < length (k .directory)) (h : Holds xs k) (n : o ≢ w) (q : copies ≡ entryPart xs p .copies) (m : losers ≡ withMember o (withoutMember w copies)) where
+module _ {xs : List ℕ} {k : Bank} (o w p copies losers : ℕ) (l : p < length (k .directory)) (h : Holds xs k) (n : o ≢ w) (q : copies ≡ entryPart xs p .copies)
+    (m : losers ≡ withMember o (withoutMember w copies)) where
   passing : copies ≡ entryAt k p .copies
   passing = q ∙ ap (λ (e : Entry). e .copies) (entry-read h p l)
 

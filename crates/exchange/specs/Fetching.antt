@@ -21,10 +21,10 @@ use Rattle.model.specs.Definitions.WellFormed.{EntryOk, WellFormed}
 use Rattle.model.specs.Definitions.Steps.{Run, step, frameOf, giver, show, giveCopy, passOwnership, readFetch, writeFetch}
 use Rattle.model.specs.Laws.Runs.{Changed, entryAt-changed, Follows, follows-trans, follows-step, follows-note-flush, sizes-passOwnership, sizes-giveCopy}
 use Rattle.model.specs.Laws.Runs.Stores.{FlushedWith, show-changed, note-flush-changed}
-use Rattle.model.specs.Laws.BoardFields.{Space}
-use Rattle.model.specs.Laws.Keeps.Clauses.{RoomFor, up-below}
+use Rattle.model.specs.Laws.Keeps.Clauses.{up-below}
+use Rattle.model.specs.Contracts.{RoomFor, Space, CanFetch}
 use Rattle.model.specs.Laws.Keeps.Rights.{entry-at}
-use Rattle.model.specs.Laws.Keeps.Fetches.{CanFetch, show-keeps, room-taker, room-shower, room-owner, got-keeps, room-got}
+use Rattle.model.specs.Laws.Keeps.Fetches.{show-keeps, room-taker, room-shower, room-owner, got-keeps, room-got}
 use Rattle.exchange.specs.Banks.{Holds, OfBank, holds-bank, holds-decode, holds-wellFormed}
 use Rattle.exchange.specs.Progress.{running, Came, CanShow, getOwn}
 
@@ -108,7 +108,8 @@ module _ (g : CopyOrOwn) {s : List ℕ} {pages b p o : ℕ} (ready : Ready g pag
 
 -- ---- a read fetch
 
-module _ {s : List ℕ} {pages b p o : ℕ} (ready : Ready GotCopy pages b p o s) (n : ℕ) {l : List ℕ} {m : ℕ} {q : Option ℕ} (ran : Came l m q (show o p (running n (decode s)))) where
+module _ {s : List ℕ} {pages b p o : ℕ} (ready : Ready GotCopy pages b p o s) (n : ℕ) {l : List ℕ} {m : ℕ} {q : Option ℕ}
+    (ran : Came l m q (show o p (running n (decode s)))) where
   pub read-lost : (d : ℕ) → q ≡ some d → Came l m q (readFetch b p (running n (decode s)))
   unfolding readFetch
   read-lost d e =
@@ -125,7 +126,8 @@ or-holds : (a : Bool) {t : Bool} → t ≡ true → (a || t) ≡ true
 or-holds true h = refl
 or-holds false h = h
 
-module _ {s : List ℕ} {pages b p o : ℕ} (ready : Ready GotOwn pages b p o s) (n : ℕ) {l : List ℕ} {m : ℕ} {q : Option ℕ} (ran : Came l m q (show o p (running n (decode s)))) where
+module _ {s : List ℕ} {pages b p o : ℕ} (ready : Ready GotOwn pages b p o s) (n : ℕ) {l : List ℕ} {m : ℕ} {q : Option ℕ}
+    (ran : Came l m q (show o p (running n (decode s)))) where
   -- power was lost in the owner's part
   pub write-lost : (d : ℕ) → q ≡ some d → Came l m q (writeFetch b p (running n (decode s)))
   unfolding writeFetch
@@ -187,7 +189,8 @@ module _ {s : List ℕ} {pages b p o : ℕ} (ready : Ready GotOwn pages b p o s)
           let done : getOwn o b p (show o p (running n (decode s))) .lost ≡ none = rw gave at (sym (took .lost) ∙ still) in
           let room : RoomFor 1 (boardAt (decode j) d)
           = rw (holds-decode got-bank, gave, ready .3)
-          (room-got b p (running n (decode s)) (ready .1) (ready .2) d (rw (ready .3) at done) (rw (got-changed .boards, gave-changed .boards) at h) other (rw (e, ready .3) at loses)) in
+          (room-got b p (running n (decode s)) (ready .1) (ready .2) d (rw (ready .3) at done) (rw (got-changed .boards, gave-changed .boards) at h) other
+          (rw (e, ready .3) at loses)) in
           omega arith
 
       pub got-space-owner : Space (boardAt (decode j) o)

@@ -4,4 +4,4 @@ pub mod Drops
 pub mod Exchanges
 pub mod Fetching
 pub mod Progress
-pub mod Runs
+pub mod LentRuns

@@ -13,7 +13,7 @@ use Rattle.exchange.specs.declared.progress.Loss.the-variants.{Nobody, B
 use Rattle.model.specs.Definitions.Bank.{Bank, boardAt}
 use Rattle.model.specs.Definitions.Codec.{encode}
 use Rattle.model.specs.Definitions.Steps.{Run, step, note, flush, frameOf}
-use Rattle.model.specs.Laws.Keeps.Clauses.{RoomFor}
+use Rattle.model.specs.Contracts.{RoomFor}
 
 -- a call that goes on, after n stores
 abbrev pub running : ℕ → Bank → Run

@@ -13,7 +13,7 @@ ghost use Rattle.model.specs.Definitions.Codec.{encodeBoard};
 ghost use Rattle.model.specs.Definitions.Steps.{dropped};
 ghost use Rattle.model.specs.Definitions.WellFormed.{FrameOk};
 ghost use Rattle.model.specs.Laws.Boards.{tookCopy, tookOwn};
-ghost use Rattle.model.specs.Laws.BoardFields.{Space};
+ghost use Rattle.model.specs.Contracts.{Space};
 ghost use Rattle.steps.specs.Blocks.{IsBlock, boardOf};
 
 // "records got copy, gains the copy"; the frame is the giver's.

@@ -23,7 +23,7 @@ ghost use Rattle.model.specs.Definitions.Codec.{decode};
 ghost use Rattle.model.specs.Definitions.WellFormed.{FrameOk, EntryOk};
 ghost use Rattle.model.specs.Definitions.Steps.{frameOf, giveCopy, dropped, dropAt, dropCopies, passOwnership};
 ghost use Rattle.model.specs.Laws.Boards.{tookCopy, tookOwn};
-ghost use Rattle.model.specs.Laws.BoardFields.{Space};
+ghost use Rattle.model.specs.Contracts.{Space};
 ghost use Rattle.exchange.specs.Banks.{Holds, OfBank};
 
 // A board's frame of a page, by value.
@@ -72,7 +72,8 @@ fn drop_at(bank: &mut [u8], pages: usize, board: usize, page: usize)
 
 // The boards of a set drop their right, the lowest first; no board sees another's drop.
 fn drop_all(bank: &mut [u8], pages: usize, losers: u8, page: usize)
-    requires { ⌜ OfBank pages 0 (now bank) × (losers < 2 ^ length (decode (now bank) .boards)) × (page < pages) × ((c : ℕ) → c < length (decode (now bank) .boards) → member c losers ≡ true → Space (boardAt (decode (now bank)) c)) ⌝ }
+    requires { ⌜ OfBank pages 0 (now bank) × (losers < 2 ^ length (decode (now bank) .boards)) × (page < pages)
+        × ((c : ℕ) → c < length (decode (now bank) .boards) → member c losers ≡ true → Space (boardAt (decode (now bank)) c)) ⌝ }
     ensures { λ _. ⌜ Holds (now (bank .exit)) (dropAt (λ c. member c losers) page (decode (now (bank .entry)))) ⌝ }
 {
     let mut left = losers;
@@ -85,7 +86,9 @@ fn drop_all(bank: &mut [u8], pages: usize, losers: u8, page: usize)
 
 // "each holder records dropped and loses its copy, the copy-set empties"
 pub fn drop_copies(bank: &mut [u8], pages: usize, page: usize)
-    requires { ⌜ OfBank pages 0 (now bank) × (page < pages) × EntryOk (length (decode (now bank) .boards)) (entryAt (decode (now bank)) page) × ((c : ℕ) → c < length (decode (now bank) .boards) → member c (entryAt (decode (now bank)) page .copies) ≡ true → Space (boardAt (decode (now bank)) c)) ⌝ }
+    requires { ⌜ OfBank pages 0 (now bank) × (page < pages) × EntryOk (length (decode (now bank) .boards)) (entryAt (decode (now bank)) page)
+        × ((c : ℕ) → c < length (decode (now bank) .boards) → member c (entryAt (decode (now bank)) page .copies) ≡ true
+        → Space (boardAt (decode (now bank)) c)) ⌝ }
     ensures { λ _. ⌜ Holds (now (bank .exit)) (dropCopies page (decode (now (bank .entry)))) ⌝ }
 {
     let owner = read_owner(bank, page);
@@ -108,7 +111,10 @@ fn own_to(bank: &mut [u8], pages: usize, board: usize, page: usize, frame: Frame
 // "then together owner and all copy holders but the writer record dropped and lose the right, the writer gains right own and the page,
 // the directory names the writer, the copy-set empties"; the page is read before the old owner drops it.
 pub fn pass_ownership(bank: &mut [u8], pages: usize, owner: usize, board: usize, page: usize)
-    requires { ⌜ OfBank pages board (now bank) × (owner < length (decode (now bank) .boards)) × (owner ≢ board) × (page < pages) × EntryOk (length (decode (now bank) .boards)) (entryAt (decode (now bank)) page) × (Space (boardAt (decode (now bank)) owner)) × ((c : ℕ) → c < length (decode (now bank) .boards) → c ≢ board → member c (entryAt (decode (now bank)) page .copies) ≡ true → Space (boardAt (decode (now bank)) c)) ⌝ }
+    requires { ⌜ OfBank pages board (now bank) × (owner < length (decode (now bank) .boards)) × (owner ≢ board) × (page < pages)
+        × EntryOk (length (decode (now bank) .boards)) (entryAt (decode (now bank)) page) × (Space (boardAt (decode (now bank)) owner))
+        × ((c : ℕ) → c < length (decode (now bank) .boards) → c ≢ board → member c (entryAt (decode (now bank)) page .copies) ≡ true
+        → Space (boardAt (decode (now bank)) c)) ⌝ }
     ensures { λ _. ⌜ Holds (now (bank .exit)) (passOwnership owner board page (decode (now (bank .entry)))) ⌝ }
 {
     let passed = page_frame(bank, pages, owner, page);

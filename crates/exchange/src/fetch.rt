@@ -19,15 +19,15 @@ ghost use Rattle.model.specs.Definitions.Bank.{boardAt};
 ghost use Rattle.model.specs.Definitions.Codec.{decode};
 ghost use Rattle.model.specs.Definitions.WellFormed.{WellFormed};
 ghost use Rattle.model.specs.Definitions.Steps.{giver, show, readFetch, writeFetch, fetch};
-ghost use Rattle.model.specs.Laws.Keeps.Clauses.{RoomFor};
-ghost use Rattle.model.specs.Laws.Keeps.Fetches.{CanFetch};
+ghost use Rattle.model.specs.Contracts.{RoomFor, CanFetch};
 ghost use Rattle.exchange.specs.Banks.{OfBank};
 ghost use Rattle.exchange.specs.Progress.{running, lostBy, lossOf, Came, got, CanShow, getOwn};
 
 // The giver's part of every fetch: "owner records shown and flushes".
 fn show(bank: &mut [u8], pages: usize, owner: usize, page: usize) -> Stored
     requires { ⌜ OfBank pages owner (now bank) × WellFormed (decode (now bank)) × (page < pages) × CanShow owner (decode (now bank)) ⌝ }
-    ensures run { λ r. ⌜ ((n : ℕ) → Came (now (bank .exit)) (n + r .stores) (lostBy owner (r .lost)) (show owner page (running n (decode (now (bank .entry)))))) ⌝ }
+    ensures run { λ r. ⌜ ((n : ℕ) → Came (now (bank .exit)) (n + r .stores) (lostBy owner (r .lost)) (show owner page (running n (decode (now (bank .entry))))))
+        ⌝ }
     ensures few { λ r. ⌜ r .stores ≤ slotCount ⌝ }
 {
     log_through(
@@ -41,8 +41,10 @@ fn show(bank: &mut [u8], pages: usize, owner: usize, page: usize) -> Stored
 
 // "owner records shown and flushes; reader records got copy, gains the copy and its bit"
 fn read_fetch(bank: &mut [u8], pages: usize, owner: usize, board: usize, page: usize) -> Progress
-    requires { ⌜ OfBank pages board (now bank) × WellFormed (decode (now bank)) × CanFetch GotCopy board page (decode (now bank)) × (owner ≡ giver (decode (now bank)) page) ⌝ }
-    ensures run { λ r. ⌜ ((n : ℕ) → Came (now (bank .exit)) (n + r .stores) (lossOf (r .loss)) (readFetch board page (running n (decode (now (bank .entry)))))) ⌝ }
+    requires { ⌜ OfBank pages board (now bank) × WellFormed (decode (now bank)) × CanFetch GotCopy board page (decode (now bank))
+        × (owner ≡ giver (decode (now bank)) page) ⌝ }
+    ensures run { λ r. ⌜ ((n : ℕ) → Came (now (bank .exit)) (n + r .stores) (lossOf (r .loss)) (readFetch board page (running n (decode (now (bank .entry))))))
+        ⌝ }
     ensures few { λ r. ⌜ r .stores ≤ 2 * slotCount ⌝ }
 {
     let shown = show(bank, pages, owner, page);
@@ -61,8 +63,10 @@ fn read_fetch(bank: &mut [u8], pages: usize, owner: usize, board: usize, page: u
 
 // The writer's part: "writer records got own and flushes", with the page of the owner, by value.
 fn get_own(bank: &mut [u8], pages: usize, owner: usize, board: usize, page: usize) -> Stored
-    requires { ⌜ OfBank pages board (now bank) × WellFormed (decode (now bank)) × (owner < length (decode (now bank) .boards)) × (boardAt (decode (now bank)) board .state ≡ Up) × RoomFor 1 (boardAt (decode (now bank)) board) × (page < pages) ⌝ }
-    ensures run { λ r. ⌜ ((n : ℕ) → Came (now (bank .exit)) (n + r .stores) (lostBy board (r .lost)) (getOwn owner board page (running n (decode (now (bank .entry)))))) ⌝ }
+    requires { ⌜ OfBank pages board (now bank) × WellFormed (decode (now bank)) × (owner < length (decode (now bank) .boards))
+        × (boardAt (decode (now bank)) board .state ≡ Up) × RoomFor 1 (boardAt (decode (now bank)) board) × (page < pages) ⌝ }
+    ensures run { λ r. ⌜ ((n : ℕ) → Came (now (bank .exit)) (n + r .stores) (lostBy board (r .lost))
+        (getOwn owner board page (running n (decode (now (bank .entry)))))) ⌝ }
     ensures few { λ r. ⌜ r .stores ≤ slotCount ⌝ }
 {
     let frame = page_frame(bank, pages, owner, page);
@@ -78,8 +82,10 @@ fn get_own(bank: &mut [u8], pages: usize, owner: usize, board: usize, page: usiz
 
 // "owner records shown and flushes; writer records got own and flushes; then together .."
 fn write_fetch(bank: &mut [u8], pages: usize, owner: usize, board: usize, page: usize) -> Progress
-    requires { ⌜ OfBank pages board (now bank) × WellFormed (decode (now bank)) × CanFetch GotOwn board page (decode (now bank)) × (owner ≡ giver (decode (now bank)) page) ⌝ }
-    ensures run { λ r. ⌜ ((n : ℕ) → Came (now (bank .exit)) (n + r .stores) (lossOf (r .loss)) (writeFetch board page (running n (decode (now (bank .entry)))))) ⌝ }
+    requires { ⌜ OfBank pages board (now bank) × WellFormed (decode (now bank)) × CanFetch GotOwn board page (decode (now bank))
+        × (owner ≡ giver (decode (now bank)) page) ⌝ }
+    ensures run { λ r. ⌜ ((n : ℕ) → Came (now (bank .exit)) (n + r .stores) (lossOf (r .loss)) (writeFetch board page (running n (decode (now (bank .entry))))))
+        ⌝ }
     ensures few { λ r. ⌜ r .stores ≤ 2 * slotCount ⌝ }
 {
     let shown = show(bank, pages, owner, page);
@@ -113,8 +119,10 @@ pub fn fetch(
     page: usize,
     writes: bool,
 ) -> Progress
-    requires { ⌜ OfBank pages board (now bank) × WellFormed (decode (now bank)) × CanFetch (got writes) board page (decode (now bank)) × (owner ≡ giver (decode (now bank)) page) ⌝ }
-    ensures run { λ r. ⌜ ((n : ℕ) → Came (now (bank .exit)) (n + r .stores) (lossOf (r .loss)) (fetch (got writes) board page (running n (decode (now (bank .entry)))))) ⌝ }
+    requires { ⌜ OfBank pages board (now bank) × WellFormed (decode (now bank)) × CanFetch (got writes) board page (decode (now bank))
+        × (owner ≡ giver (decode (now bank)) page) ⌝ }
+    ensures run { λ r. ⌜ ((n : ℕ) → Came (now (bank .exit)) (n + r .stores) (lossOf (r .loss))
+        (fetch (got writes) board page (running n (decode (now (bank .entry)))))) ⌝ }
     ensures few { λ r. ⌜ r .stores ≤ 2 * slotCount ⌝ }
 {
     if writes {

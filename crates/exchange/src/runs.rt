@@ -16,8 +16,7 @@ ghost use Rattle.model.specs.Definitions.Bank.{boardAt};
 ghost use Rattle.model.specs.Definitions.Codec.{decode};
 ghost use Rattle.model.specs.Definitions.WellFormed.{WellFormed};
 ghost use Rattle.model.specs.Definitions.Steps.{step, note, flush, checkpoint};
-ghost use Rattle.model.specs.Laws.Keeps.Clauses.{RoomFor};
-ghost use Rattle.model.specs.Laws.Keeps.Records.{Recordable};
+ghost use Rattle.model.specs.Contracts.{RoomFor, Recordable};
 ghost use Rattle.exchange.specs.Banks.{OfBank};
 ghost use Rattle.exchange.specs.Progress.{running, lostBy, Came};
 
@@ -29,8 +28,10 @@ pub fn log_through(
     kind: Kind,
     bytes: [u8; PAGE_SIZE],
 ) -> Stored
-    requires { ⌜ OfBank pages board (now bank) × WellFormed (decode (now bank)) × (boardAt (decode (now bank)) board .state ≡ Up) × RoomFor 1 (boardAt (decode (now bank)) board) × Recordable pages kind bytes ⌝ }
-    ensures run { λ r. ⌜ ((n : ℕ) → Came (now (bank .exit)) (n + r .stores) (lostBy board (r .lost)) (flush board (step (note board kind bytes) (running n (decode (now (bank .entry))))))) ⌝ }
+    requires { ⌜ OfBank pages board (now bank) × WellFormed (decode (now bank)) × (boardAt (decode (now bank)) board .state ≡ Up)
+        × RoomFor 1 (boardAt (decode (now bank)) board) × Recordable pages kind bytes ⌝ }
+    ensures run { λ r. ⌜ ((n : ℕ) → Came (now (bank .exit)) (n + r .stores) (lostBy board (r .lost))
+        (flush board (step (note board kind bytes) (running n (decode (now (bank .entry))))))) ⌝ }
     ensures few { λ r. ⌜ r .stores ≤ slotCount ⌝ }
 {
     let a = block_at(pages, board);
@@ -44,7 +45,8 @@ pub fn log_through(
 
 pub fn checkpoint(bank: &mut [u8], pages: usize, board: usize) -> Stored
     requires { ⌜ OfBank pages board (now bank) × WellFormed (decode (now bank)) × (boardAt (decode (now bank)) board .state ≢ Replaying) ⌝ }
-    ensures run { λ r. ⌜ ((n : ℕ) → Came (now (bank .exit)) (n + r .stores) (lostBy board (r .lost)) (checkpoint board (running n (decode (now (bank .entry)))))) ⌝ }
+    ensures run { λ r. ⌜ ((n : ℕ) → Came (now (bank .exit)) (n + r .stores) (lostBy board (r .lost))
+        (checkpoint board (running n (decode (now (bank .entry)))))) ⌝ }
     ensures few { λ r. ⌜ r .stores ≤ pages + 2 ⌝ }
 {
     let a = block_at(pages, board);

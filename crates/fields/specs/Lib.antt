@@ -1,2 +1,2 @@
-pub mod Records
-pub mod Copies
+pub mod SlotParts
+pub mod Sets

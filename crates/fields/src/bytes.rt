@@ -4,9 +4,16 @@ ghost use mathlib.Core.Path.{_≡_};
 ghost use mathlib.Core.List.{[], _∷_};
 ghost use Prim.Native.Nat.{_+_, _≤_, _<_};
 ghost use lib.ListN.{length};
-ghost use Rattle.model.specs.Definitions.Layout.{pageSize};
+ghost use Rattle.model.specs.Definitions.Layout.{byteValues, pageSize};
 ghost use Rattle.words.specs.LittleEndian.{bytesOf, numberOf};
 ghost use Rattle.model.specs.Definitions.Parts.{part, splice, byteAt, zeros};
+
+// A byte as a number that counts or indexes.
+pub fn wide(b: u8) -> usize
+    ensures { λ r. ⌜ (r ≡ b) × (r < byteValues) ⌝ }
+{
+    b as usize
+}
 
 pub fn get(s: &[u8], at: usize) -> u8
     requires { ⌜ at < length (now s) ⌝ }

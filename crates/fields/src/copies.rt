@@ -1,6 +1,9 @@
-// A copy-set byte, "where bit b stands for board b": its ones, its lowest holder, and one board in or out, by arithmetic.
+// A copy-set byte, "where bit b stands for board b": its ones, its lowest holder, and one board in or out, as in any set.
+use crate::sets::has;
+use crate::sets::with_member;
+use crate::sets::without_member;
 ghost use mathlib.Core.Path.{_≡_};
-ghost use Prim.Native.Nat.{_^_, _<_};
+ghost use Prim.Native.Nat.{_<_};
 ghost use lib.Count.{ones, trailingZeros};
 ghost use Rattle.model.specs.Definitions.Layout.{mostBoards};
 ghost use Rattle.model.specs.Definitions.Parts.{member, withMember, withoutMember};
@@ -19,37 +22,23 @@ pub fn lowest_holder(copies: u8) -> usize
     u8::trailing_zeros(copies) as usize
 }
 
-// The number whose only bit stands for a board.
-pub fn bit(board: usize) -> u8
-    requires { ⌜ board < mostBoards ⌝ }
-    ensures { λ r. ⌜ r ≡ 2 ^ board ⌝ }
-{
-    1 << board
-}
-
 pub fn holds(board: usize, copies: u8) -> bool
     requires { ⌜ board < mostBoards ⌝ }
     ensures { λ r. ⌜ r ≡ member board copies ⌝ }
 {
-    copies / bit(board) % 2 == 1
+    has(board, copies as u16)
 }
 
 pub fn with_holder(board: usize, copies: u8) -> u8
     requires { ⌜ board < mostBoards ⌝ }
     ensures { λ r. ⌜ r ≡ withMember board copies ⌝ }
 {
-    if holds(board, copies) {
-        return copies;
-    }
-    copies + bit(board)
+    with_member(board, copies as u16) as u8
 }
 
 pub fn without_holder(board: usize, copies: u8) -> u8
     requires { ⌜ board < mostBoards ⌝ }
     ensures { λ r. ⌜ r ≡ withoutMember board copies ⌝ }
 {
-    if holds(board, copies) {
-        return copies - bit(board);
-    }
-    copies
+    without_member(board, copies as u16) as u8
 }

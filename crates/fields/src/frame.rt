@@ -38,7 +38,7 @@ pub fn right_byte(right: Right) -> u8
 }
 
 // The frame in its 17 bytes.
-pub fn read_frame(part: &[u8]) -> Frame
+fn read_frame(part: &[u8]) -> Frame
     requires { ⌜ length (now part) ≡ frameSize ⌝ }
     ensures { λ r. ⌜ r ≡ decodeFrame (now (part .entry)) ⌝ }
 {
@@ -48,7 +48,7 @@ pub fn read_frame(part: &[u8]) -> Frame
 }
 
 // A frame over the whole of its 17 bytes.
-pub fn write_frame(part: &mut [u8], frame: Frame)
+fn write_frame(part: &mut [u8], frame: Frame)
     requires { ⌜ length (now part) ≡ frameSize ⌝ }
     ensures { λ _. ⌜ now (part .exit) ≡ encodeFrame frame ⌝ }
 {

@@ -19,7 +19,7 @@ ghost use lib.ListN.{length};
 ghost use Rattle.model.specs.Definitions.Parts.{part, splice};
 ghost use Rattle.model.specs.Definitions.Layout.{mark0At, slotSize};
 ghost use Rattle.model.specs.Definitions.Codec.{mark0, mark1, pageOf, kindOf, encodeRecord, decodeRecord};
-ghost use Rattle.fields.specs.Records.{kindBytes};
+ghost use Rattle.fields.specs.SlotParts.{kindBytes};
 
 // "Marks: "GC" got copy, "GO" got own, "SH" shown, "DR" dropped."
 pub const GOT_MARK0: u8 = b'G';
@@ -37,7 +37,7 @@ pub const DROPPED_MARK0: u8 = b'D';
 pub const DROPPED_MARK1: u8 = b'R';
 
 // The kind that a mark and a page stand for.
-pub fn read_kind(m0: u8, m1: u8, page: u8) -> Kind
+fn read_kind(m0: u8, m1: u8, page: u8) -> Kind
     ensures { λ r. ⌜ r ≡ kindOf m0 m1 page ⌝ }
 {
     if m0 == GOT_MARK0 {
@@ -53,7 +53,7 @@ pub fn read_kind(m0: u8, m1: u8, page: u8) -> Kind
 }
 
 // The first byte of a kind's mark.
-pub fn first_mark(kind: Kind) -> u8
+fn first_mark(kind: Kind) -> u8
     ensures { λ r. ⌜ r ≡ mark0 kind ⌝ }
 {
     match kind {
@@ -64,7 +64,7 @@ pub fn first_mark(kind: Kind) -> u8
 }
 
 // The second byte of a kind's mark; a got's says copy or own.
-pub fn second_mark(kind: Kind) -> u8
+fn second_mark(kind: Kind) -> u8
     ensures { λ r. ⌜ r ≡ mark1 kind ⌝ }
 {
     match kind {
@@ -78,7 +78,7 @@ pub fn second_mark(kind: Kind) -> u8
 }
 
 // The page that a kind carries.
-pub fn page_of(kind: Kind) -> u8
+fn page_of(kind: Kind) -> u8
     ensures { λ r. ⌜ r ≡ pageOf kind ⌝ }
 {
     match kind {
@@ -89,7 +89,7 @@ pub fn page_of(kind: Kind) -> u8
 }
 
 // The record in a slot.
-pub fn read_record(slot: &[u8]) -> Record
+fn read_record(slot: &[u8]) -> Record
     requires { ⌜ length (now slot) ≡ slotSize ⌝ }
     ensures { λ r. ⌜ r ≡ decodeRecord (now (slot .entry)) ⌝ }
 {
@@ -111,7 +111,7 @@ fn write_kind(slot: &mut [u8], kind: Kind)
 }
 
 // A record over a whole slot.
-pub fn write_record(slot: &mut [u8], r: Record)
+fn write_record(slot: &mut [u8], r: Record)
     requires { ⌜ length (now slot) ≡ slotSize ⌝ }
     ensures { λ _. ⌜ now (slot .exit) ≡ encodeRecord r ⌝ }
 {

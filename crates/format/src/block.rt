@@ -33,7 +33,8 @@ ghost use lib.ListN.{length};
 ghost use lib.Dec.{eqb};
 ghost use Rattle.words.specs.LittleEndian.{bytesOf, numberOf};
 ghost use Rattle.model.specs.Definitions.Parts.{part, splice, byteAt, zeros};
-ghost use Rattle.model.specs.Definitions.Layout.{mostPages, fuseSize, numberSize, sinceSize, frameSize, slotSize, stateAt, selectorAt, fuseAt, numberAt, sinceAt, placeAt, volatileCountAt, framesAt, slotsAt, slotsSize};
+ghost use Rattle.model.specs.Definitions.Layout.{mostPages, fuseSize, numberSize, sinceSize, frameSize, slotSize, stateAt, selectorAt, fuseAt, numberAt};
+ghost use Rattle.model.specs.Definitions.Layout.{sinceAt, placeAt, volatileCountAt, framesAt, slotsAt, slotsSize};
 ghost use Rattle.model.specs.Definitions.Codec.{stateByte, stateOf, selectorByte, encodeFrame, decodeFrame, encodeRecord, decodeRecord};
 
 // ---- state

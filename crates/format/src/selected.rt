@@ -11,7 +11,8 @@ ghost use Prim.Native.Nat.{_+_, _*_, _≤_, _<_};
 ghost use lib.ListN.{length};
 ghost use Rattle.words.specs.LittleEndian.{numberOf};
 ghost use Rattle.model.specs.Definitions.Parts.{part, splice, byteAt};
-ghost use Rattle.model.specs.Definitions.Layout.{mostPages, slotCount, numberSize, frameSize, slotSize, framesAt, areaNumberAt, areaCountAt, areaFramesAt, areaSlotsAt, areaSize, blockSize};
+ghost use Rattle.model.specs.Definitions.Layout.{mostPages, slotCount, numberSize, frameSize, slotSize, framesAt, areaNumberAt, areaCountAt, areaFramesAt};
+ghost use Rattle.model.specs.Definitions.Layout.{areaSlotsAt, areaSize, blockSize};
 ghost use Rattle.model.specs.Definitions.Codec.{decodeFrame, encodeRecord, decodeRecord};
 ghost use Rattle.format.specs.Areas.{selectedAt, selectedPart, withSelected};
 

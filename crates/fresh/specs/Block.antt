@@ -11,13 +11,15 @@ use Rattle.words.specs.LittleEndian.{bytesOf}
 use Rattle.words.specs.LittleEndianLaws.{length-bytesOf}
 use Rattle.types.specs.declared.Right.the-variants.{Own}
 use Rattle.model.specs.Definitions.Parts.{splice, zeros, encodeAll}
-use Rattle.model.specs.Definitions.Layout.{noFuse, fuseSize, numberSize, rightAt, frameSize, slotsSize, fuseAt, numberAt, framesAt, areaAt, areaFramesAt, blockSize}
+use Rattle.model.specs.Definitions.Layout.{noFuse, fuseSize, numberSize, rightAt, frameSize, slotsSize, fuseAt, numberAt, framesAt, areaAt, areaFramesAt}
+use Rattle.model.specs.Definitions.Layout.{blockSize}
 use Rattle.model.specs.Definitions.Bank.{emptyLog, freshFrames, freshBoard}
 use Rattle.model.specs.Definitions.Codec.{rightByte, stateByte, selectorByte, encodeFrame, encodeArea, encodeFixed, encodeStable, encodeBoard}
 use Rattle.model.specs.Laws.Parts.{length-splice, splice-amid, splice-at}
 use Rattle.model.specs.Laws.Fresh.{zeros-length}
 use Rattle.model.specs.Laws.BlockWorking.{zeros-append, encode-emptyLog}
-use Rattle.fresh.specs.Rights.{frameWhere, framesWhere, frames-length, frames-same, frames-none, frames-next, ownBelow, own-first, own-waits, own-done, own-other, own-last}
+use Rattle.fresh.specs.Rights.{frameWhere, framesWhere, frames-length, frames-same, frames-none, frames-next, ownBelow, own-first, own-waits, own-done}
+use Rattle.fresh.specs.Rights.{own-other, own-last}
 
 -- ---- a block: zeros but for the fuse and the rights of the own pages, three times
 
@@ -83,7 +85,8 @@ owned-with pages p v n h =
     let m : length x ≡ slotsSize + areaFramesAt = simp length-append (omega arith) in
     simp (append-assoc, add-zero)
     (simp append-assoc at
-    (thrice fixedBytes v x x (zeros slotsSize) (rightByte Own ∷ []) framesAt (areaAt pages 0 + areaFramesAt) (areaAt pages 1 + areaFramesAt) (p * frameSize) fixed-length (omega arith) (omega arith) (omega arith)))
+    (thrice fixedBytes v x x (zeros slotsSize) (rightByte Own ∷ []) framesAt (areaAt pages 0 + areaFramesAt) (areaAt pages 1 + areaFramesAt)
+    (p * frameSize) fixed-length (omega arith) (omega arith) (omega arith)))
 
 -- ---- from zeros to a fresh board
 
@@ -102,7 +105,8 @@ fused pages =
     let rest : ℕ = blockSize pages - numberAt in
     let e : zeros (blockSize pages) ≡ zeros fuseAt ++ (zeros fuseSize ++ zeros rest) = simp zeros-append (ap zeros (omega arith)) in
     rw e
-    (splice-at (zeros fuseAt) (zeros fuseSize) (bytesOf fuseSize noFuse) (zeros rest) fuseAt (zeros-length fuseAt) (zeros-length fuseSize ∙ sym (length-bytesOf fuseSize noFuse))
+    (splice-at (zeros fuseAt) (zeros fuseSize) (bytesOf fuseSize noFuse) (zeros rest) fuseAt (zeros-length fuseAt)
+    (zeros-length fuseSize ∙ sym (length-bytesOf fuseSize noFuse))
     ∙ simp (append-assoc, zeros-append) (ap (λ (n : ℕ). zeros fuseAt ++ (bytesOf fuseSize noFuse ++ zeros n)) (omega arith)))
 
 module _ (boards pages b : ℕ) where

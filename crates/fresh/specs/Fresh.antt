@@ -41,7 +41,8 @@ pub blocks-length : (boards pages i : ℕ) → length (freshBlocks boards pages 
 blocks-length boards pages i = all-length encodeBoard (blockSize pages) (freshBoard boards pages) (block-wide boards pages) i
 
 -- the head byte by byte
-pub head-made : (s : List ℕ) {t₁ t₂ t₃ t₄ : List ℕ} (boards pages : ℕ) → headSize ≤ length s → t₁ ≡ splice s 0 (headMark0 ∷ []) → t₂ ≡ splice t₁ 1 (headMark1 ∷ [])
+pub head-made : (s : List ℕ) {t₁ t₂ t₃ t₄ : List ℕ} (boards pages : ℕ) → headSize ≤ length s → t₁ ≡ splice s 0 (headMark0 ∷ [])
+    → t₂ ≡ splice t₁ 1 (headMark1 ∷ [])
     → t₃ ≡ splice t₂ boardsAt (boards ∷ []) → t₄ ≡ splice t₃ pagesAt (pages ∷ []) → t₄ ≡ splice s 0 (freshHead boards pages)
 head-made s boards pages h e₁ e₂ e₃ e₄ =
     rw (
@@ -61,7 +62,8 @@ unfolding encode fresh
 bank-written boards pages s e =
     let d : length (freshDirectory boards pages) ≡ pages * entrySize = directory-length boards pages in
     let k : length (freshBlocks boards pages boards) ≡ boards * blockSize pages = blocks-length boards pages boards in
-    splice-triple s (freshHead boards pages) (freshDirectory boards pages) (freshBlocks boards pages boards) headSize (blocksAt pages) refl (omega arith) (omega arith)
+    splice-triple s (freshHead boards pages) (freshDirectory boards pages) (freshBlocks boards pages boards) headSize (blocksAt pages) refl (omega arith)
+    (omega arith)
     ∙ rw (length-tabulate boards (freshBoard boards pages), length-tabulate pages (freshEntry boards))
 
 -- the bytes of all blocks are zero yet
@@ -81,7 +83,8 @@ blocks-zero boards pages {n} e =
     let z : length (zeros n) ≡ n = zeros-length n in
     let d : length (freshDirectory boards pages) ≡ pages * entrySize = directory-length boards pages in
     let k : length (splice (zeros n) 0 (freshHead boards pages)) ≡ n = length-splice (zeros n) 0 (freshHead boards pages) (omega arith) ∙ z in
-    part-splice-after (splice (zeros n) 0 (freshHead boards pages)) headSize (freshDirectory boards pages) (blocksAt pages) (boards * blockSize pages) (omega arith) (omega arith)
+    part-splice-after (splice (zeros n) 0 (freshHead boards pages)) headSize (freshDirectory boards pages) (blocksAt pages) (boards * blockSize pages)
+    (omega arith) (omega arith)
     ∙ part-splice-after (zeros n) 0 (freshHead boards pages) (blocksAt pages) (boards * blockSize pages) (omega arith) (omega arith)
     ∙ part-zeros n (blocksAt pages) (boards * blockSize pages) (omega arith)
 
@@ -120,7 +123,8 @@ module _ {boards pages : ℕ} {l₀ l : List ℕ} {i a n : ℕ} (b : NextBlock b
       let k : length (freshBlocks boards pages i) ≡ i * size = blocks-length boards pages i in
       let e : a + n - a ≡ size = omega (arith, b .size) in
       let kept : part l (blocksAt pages + i * size) size ≡ part l₀ (blocksAt pages + i * size) size
-      = rw (b .bytes) (part-splice-after l₀ (blocksAt pages) (freshBlocks boards pages i) (blocksAt pages + i * size) size (omega arith) (omega (arith, b .whole))) in
+      = rw (b .bytes) (part-splice-after l₀ (blocksAt pages) (freshBlocks boards pages i) (blocksAt pages + i * size) size (omega arith)
+      (omega (arith, b .whole))) in
       rw (e, b .place)
       (kept ∙ sym (part-part l₀ (blocksAt pages) (boards * size) (i * size) size m) ∙ rw (b .zero) (part-zeros (boards * size) (i * size) size m))
 

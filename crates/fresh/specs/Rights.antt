@@ -94,7 +94,12 @@ frames-next f g pages q waits done other h =
     let k : p < pages = omega (arith, simp length-set at l) in
     byEq p q
     (λ e. cc (getD-set-same fs q ownFrame emptyFrame (omega arith), getD-tabulate pages p (frameWhere g) emptyFrame k))
-    (λ d. cc (getD-set-other fs q p ownFrame emptyFrame d, getD-tabulate pages p (frameWhere f) emptyFrame k, getD-tabulate pages p (frameWhere g) emptyFrame k, other p d))) in
+    (λ d. cc (
+      getD-set-other fs q p ownFrame emptyFrame d,
+      getD-tabulate pages p (frameWhere f) emptyFrame k,
+      getD-tabulate pages p (frameWhere g) emptyFrame k,
+      other p d,
+    ))) in
     own-over (framesWhere f pages) (q * frameSize) was (omega (arith, frames-length f pages))
     ∙ sym (encodeAll-set encodeFrame frameSize fs q ownFrame wide (length-encodeFrame ownFrame (zeros-length pageSize)) (omega arith))
     ∙ ap (encodeAll encodeFrame) now

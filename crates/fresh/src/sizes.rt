@@ -3,7 +3,7 @@ use format::layout::MOST_BOARDS;
 use format::layout::MOST_PAGES;
 ghost use mathlib.Core.Path.{_≡_};
 ghost use Prim.Native.Nat.{_<_};
-ghost use Rattle.model.specs.Definitions.WellFormed.{sizesAllowed};
+ghost use Rattle.model.specs.Definitions.Check.{sizesAllowed};
 
 // "A bank has N boards (1 to 8) and P pages (1 to 16)"
 pub fn sizes_allowed(boards: u32, pages: u32) -> bool

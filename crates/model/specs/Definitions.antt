@@ -4,6 +4,7 @@ pub mod Layout
 pub mod Bank
 pub mod Codec
 pub mod WellFormed
+pub mod Check
 pub mod Steps
 pub mod Replay
 pub mod Answers

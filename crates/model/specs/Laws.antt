@@ -6,11 +6,12 @@ pub mod Parts
 pub mod Codec
 pub mod CodecBank
 pub mod CodecBack
-pub mod CodecBankBack
 pub mod CodecAt
 pub mod Tests
+pub mod BoardTests
 pub mod ReadTests
 pub mod WrittenTests
+pub mod CodecBankBack
 pub mod WellFormedTest
 pub mod Fresh
 pub mod Boards
@@ -18,6 +19,8 @@ pub mod Runs
 pub mod Keeps
 pub mod Codes
 pub mod Refusals
+pub mod FewStores
+pub mod Calls
 pub mod BoardFields
 pub mod BlockFields
 pub mod BlockWorking

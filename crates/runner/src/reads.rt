@@ -1,5 +1,6 @@
 // One input, read by read: what a read prints is written out before the next one.
 use libc::STDOUT_FILENO;
+use lines::tally::stopped;
 use script::feed::Machine;
 use script::feed::start;
 use script::stream::BANK_BUFFER;
@@ -7,10 +8,10 @@ use script::stream::LINE_BUFFER;
 use script::stream::OUT_PER_BYTE;
 use script::stream::end_input;
 use script::stream::feed_read;
-use script::tally::stopped;
 ghost use Prim.Native.Nat.{_+_, _*_, _≤_};
 ghost use lib.ListN.{length};
-ghost use Rattle.script.specs.Contracts.{InBuffers, Buffers, mostLine, mostLast};
+ghost use Rattle.lines.specs.Contracts.{mostLine, mostLast};
+ghost use Rattle.script.specs.Contracts.{InBuffers, Buffers};
 
 // How much is read at once.
 const READ_BUFFER: usize = 4096;
@@ -124,7 +125,7 @@ fn run_reads(
     run_end(line, bank, out, machine)
 }
 
-// A whole input. Whether it was run to its end.
+// A whole input. Whether it was run to its end. It promises nothing: no contract can say what is read and written, and the buffers are its own.
 pub fn run_input(fd: i32, name: &[u8]) -> bool {
     let mut input = [0u8; READ_BUFFER];
     let mut line = [0u8; LINE_BUFFER];

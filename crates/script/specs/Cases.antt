@@ -3,12 +3,13 @@ use mathlib.Core.Path.{_≡_, refl}
 use Prim.Native.Nat.{ℕ}
 use Prim.Native.Char.{code}
 use Prim.Native.String as text
-use mathlib.Core.List.{List, [], _∷_}
+use mathlib.Core.List.{List, [], _∷_, _++_}
 use Rattle.model.specs.Cases.Evaluate.{evaluate}
-use Rattle.script.specs.Definitions.Numbers.{digitsIn, decimal, isDigit, valueFrom, leadingZero, digitsFrom, number}
-use Rattle.script.specs.Definitions.Lines.{longer, words, andOne, more, numbersFrom, withOne, withTwo, withThree, withFour, requestOf, requestIn, request}
-use Rattle.script.specs.Definitions.Output.{field, printedOf, unreadable, lineOf, lastLine}
-use Rattle.script.specs.Definitions.Runner.{unread, worked, made, work, counted, begin, stepOf, line, linesFrom, runLines, run}
+use Rattle.lines.specs.Definitions.Numbers.{digitsIn, decimal, isDigit, valueFrom, leadingZero, digitsFrom, number}
+use Rattle.lines.specs.Definitions.Lines.{longer, words, andOne, more, numbersFrom, withOne, withTwo, withThree, withFour, requestOf, requestIn, request}
+use Rattle.lines.specs.Definitions.Tally.{counted}
+use Rattle.lines.specs.Definitions.Output.{field, printedOf, unreadable, lineOf, lastLine}
+use Rattle.script.specs.Definitions.Runner.{unread, worked, made, work, begin, stepOf, line, linesFrom, runLines, run}
 
 -- a text's bytes
 unfoldable pub bytes : text.String → List ℕ
@@ -16,8 +17,16 @@ bytes text.[] = []
 bytes (text._∷_ c s) = code c ∷ bytes s
 
 -- A theorem that says `unfolding evaluate scripts` computes with the definitions of the line runner too
+unfoldable texts : Unit {0}
+unfolding digitsIn decimal isDigit valueFrom leadingZero digitsFrom number field printedOf unreadable lineOf lastLine counted bytes
+texts = tt
+
+unfoldable requests : Unit {0}
+unfolding longer words andOne more numbersFrom withOne withTwo withThree withFour requestOf requestIn request
+requests = tt
+
 unfoldable pub scripts : Unit {0}
-unfolding digitsIn decimal isDigit valueFrom leadingZero digitsFrom number longer words andOne more numbersFrom withOne withTwo withThree withFour requestOf requestIn request field printedOf unreadable lineOf lastLine unread worked made work counted begin stepOf line linesFrom runLines run bytes
+unfolding texts requests unread worked made work begin stepOf line linesFrom runLines run
 scripts = tt
 
 pub no-bank : run (bytes "R 0 0 0\nN 2 1\n\nC 9") ≡ bytes "1 1 0 0 0\n2 9 0 0 0\n3 9 0 0 0\n4 1 0 0 0\n4 0 4\n"
@@ -56,7 +65,8 @@ seven-lines = refl
 
 -- the letter, the count of numbers
 pub other-lines : run (bytes "X 0\nr 0 0 0\nR\nRR 0 0 0\nR 0 0\nR 0 0 0 0\nW 0 0 0\nW 0 0 0 0 0\nC\nC 0 0\nF 0\nR0 0 0\n 0\n0 C\nN 1 1\n")
-    ≡ bytes "1 9 0 0 0\n2 9 0 0 0\n3 9 0 0 0\n4 9 0 0 0\n5 9 0 0 0\n6 9 0 0 0\n7 9 0 0 0\n8 9 0 0 0\n9 9 0 0 0\n10 9 0 0 0\n11 9 0 0 0\n12 9 0 0 0\n13 9 0 0 0\n14 9 0 0 0\n15 9 0 0 0\n15 0 15\n"
+    ≡ bytes "1 9 0 0 0\n2 9 0 0 0\n3 9 0 0 0\n4 9 0 0 0\n5 9 0 0 0\n6 9 0 0 0\n7 9 0 0 0\n8 9 0 0 0\n"
+    ++ bytes "9 9 0 0 0\n10 9 0 0 0\n11 9 0 0 0\n12 9 0 0 0\n13 9 0 0 0\n14 9 0 0 0\n15 9 0 0 0\n15 0 15\n"
 unfolding evaluate scripts
 other-lines = refl
 
@@ -73,7 +83,9 @@ unfolding evaluate scripts
 numbers = refl
 
 -- "at most 64 bytes": an over-long line is one line
-pub long-lines : run (bytes "C 00000000000000000000000000000000000000000000000000000000000000\nC 000000000000000000000000000000000000000000000000000000000000000\nC 1\nRRRRRRRRRRRRRRRRRRRRRRRRRRRRRRRRRRRRRRRRRRRRRRRRRRRRRRRRRRRRRRRRRRRRRRRRRRRRRRRRRRRRRRRRRRRRRRRRRRRRRRRRRRRRRRRRRRRRRRRRRRRRRRRRRRRRRRRRRRRRRRRRRRRRRRRRRRRRRRRRRRRRRRRRRRRRRRRRRRRRRRRRRRRRRRRRRRRRRRRR\nC 1\n")
+pub long-lines : run (bytes "C 00000000000000000000000000000000000000000000000000000000000000\nC 000000000000000000000000000000000000000000000000000000000000000\nC 1\n"
+    ++ (bytes "RRRRRRRRRRRRRRRRRRRRRRRRRRRRRRRRRRRRRRRRRRRRRRRRRRRRRRRRRRRRRRRRRRRRRRRRRRRRRRRRRRRRRRRRRRRRRRRRRRRR"
+    ++ bytes "RRRRRRRRRRRRRRRRRRRRRRRRRRRRRRRRRRRRRRRRRRRRRRRRRRRRRRRRRRRRRRRRRRRRRRRRRRRRRRRRRRRRRRRRRRRRRRRRRRRR\nC 1\n"))
     ≡ bytes "1 9 0 0 0\n2 9 0 0 0\n3 1 0 0 0\n4 9 0 0 0\n5 1 0 0 0\n5 0 5\n"
 unfolding evaluate scripts
 long-lines = refl

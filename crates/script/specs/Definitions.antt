@@ -1,5 +1,2 @@
--- Document 01, "Line runner", as definitions. No proof stands here.
-pub mod Numbers
-pub mod Lines
-pub mod Output
+-- Document 01, "Line runner", as definitions: a line's work and the whole runner. Numbers, lines, output and tally are in crates/lines. No proof stands here.
 pub mod Runner

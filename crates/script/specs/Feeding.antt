@@ -1,14 +1,14 @@
 -- The runner as a machine that is fed the input byte by byte, so that a program can stream input of any length in bounded memory. What it prints in all is
 -- `run` (Laws/Feeding). Assumes nothing.
 use Prim.Native.Nat.{ℕ}
-use mathlib.Core.Bool.{Bool, true, false, _||_}
+use mathlib.Core.Bool.{true, false, _||_}
 use mathlib.Core.List.{List, [], _∷_, _++_}
 use lib.ListN.{length}
-use lib.Dec.{eqb, ltb, leb}
-use Rattle.script.specs.declared.tally.Tally.{Tally}
-use Rattle.script.specs.Definitions.Lines.{mostBytes}
-use Rattle.script.specs.Definitions.Output.{newline, lastLine}
-use Rattle.script.specs.Definitions.Runner.{State, begin, Step, line, mostLines}
+use lib.Dec.{eqb, ltb}
+use Rattle.lines.specs.Definitions.Lines.{mostBytes}
+use Rattle.lines.specs.Definitions.Output.{newline, lastLine}
+use Rattle.lines.specs.Definitions.Tally.{stopped}
+use Rattle.script.specs.Definitions.Runner.{State, begin, Step, line}
 
 -- what is kept between two bytes: the bytes of the line that has begun, and the state
 pub record Machine : Type 0 where
@@ -26,10 +26,6 @@ pub record Fed : Type 0 where
 -- of a line that is too long one byte too many is kept and no more
 unfoldable pub withByte : List ℕ → ℕ → List ℕ
 withByte w c = elim (ltb mostBytes (length w)) [ true ↦ w | false ↦ w ++ (c ∷ []) ]
-
--- "reading stops after line 4,294,967,295"
-unfoldable pub stopped : Tally → Bool
-stopped t = leb mostLines (t .read)
 
 -- a line has ended
 unfoldable pub ended : Step → Fed
@@ -53,13 +49,17 @@ unfoldable pub feed : List ℕ → Machine → Fed
 feed [] m = record { machine = m; output = [] }
 feed (c ∷ cs) m = let f : Fed = feedByte c m in behind (f .output) (feed cs (f .machine))
 
--- the end of input ends a line that has begun; then the three numbers
-unfoldable pub finish : Machine → List ℕ
-finish m =
+-- the end of input ends a line that has begun
+unfoldable pub atEnd : Machine → Fed
+atEnd m =
     elim (stopped (m .state .tally) || eqb (length (m .pending)) 0) [
-      | true ↦ lastLine (m .state .tally)
-      | false ↦ let t : Step = line (m .pending) (m .state) in t .output ++ lastLine (t .state .tally)
+      | true ↦ record { machine = m; output = [] }
+      | false ↦ ended (line (m .pending) (m .state))
     ]
+
+-- then come the three numbers
+unfoldable pub finish : Machine → List ℕ
+finish m = let f : Fed = atEnd m in f .output ++ lastLine (f .machine .state .tally)
 
 -- all that is printed
 unfoldable pub fedWhole : Fed → List ℕ

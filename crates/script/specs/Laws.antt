@@ -1,10 +1,6 @@
 -- Theorems about the line runner's definitions.
 pub mod Feeding
 pub mod Runner
-pub mod Numbers
-pub mod Lines
-pub mod Output
-pub mod Tally
 pub mod Work
 pub mod Progress
 pub mod Machine

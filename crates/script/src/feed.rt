@@ -1,17 +1,19 @@
 // The runner fed byte by byte, in bounded memory: the bytes of the line that has begun, the bank, and the output.
 use crate::line::Progress;
 use crate::line::run_line;
-use crate::print::put_last;
-use crate::tally::no_lines;
-use crate::tally::stopped;
-use crate::text::MOST_BYTES;
-use crate::text::NEWLINE;
+use lines::print::put_last;
+use lines::tally::Tally;
+use lines::tally::stopped;
+use lines::text::MOST_BYTES;
+use lines::text::NEWLINE;
 ghost use mathlib.Core.Path.{_≡_};
+ghost use mathlib.Core.List.{[], _∷_};
 ghost use Prim.Native.Nat.{_+_, _≤_};
 ghost use lib.ListN.{length};
-ghost use Rattle.script.specs.Definitions.Runner.{run};
-ghost use Rattle.script.specs.Feeding.{feedByte, feed as feedBytes, finish as finishing};
-ghost use Rattle.script.specs.Contracts.{InBuffers, RunningFor, FedBy, machineOf, fromNothing, Buffers, Put, mostLine, mostLast};
+ghost use Rattle.model.specs.Definitions.Parts.{splice};
+ghost use Rattle.lines.specs.Contracts.{Put, mostLine, mostLast};
+ghost use Rattle.script.specs.Feeding.{atEnd, finish as finishing};
+ghost use Rattle.script.specs.Contracts.{InBuffers, RunningFor, FedBy, machineOf, fromNothing};
 
 // What is kept between two bytes: how many bytes of a line there are, and how far the runner is.
 pub struct Machine {
@@ -22,7 +24,7 @@ pub struct Machine {
 // One byte of input.
 pub fn feed_byte(c: u8, line: &mut [u8], bank: &mut [u8], out: &mut [u8], from: Machine) -> Machine
     requires { ⌜ RunningFor 1 (now line) (now bank) (now out) from ⌝ }
-    ensures { λ r. ⌜ FedBy (feedByte c (machineOf (now (line .entry)) (now (bank .entry)) from)) 1 from r (now (line .exit)) (now (bank .exit)) (now (out .entry)) (now (out .exit)) ⌝ }
+    ensures { λ r. ⌜ FedBy (c ∷ []) from r (now (line .entry)) (now (bank .entry)) (now (out .entry)) (now (line .exit)) (now (bank .exit)) (now (out .exit)) ⌝ }
 {
     let pending = from.pending;
     let progress = from.progress;
@@ -57,7 +59,8 @@ pub fn feed(
     from: Machine,
 ) -> Machine
     requires { ⌜ RunningFor (length (now input)) (now line) (now bank) (now out) from ⌝ }
-    ensures { λ r. ⌜ FedBy (feedBytes (now (input .entry)) (machineOf (now (line .entry)) (now (bank .entry)) from)) (length (now (input .entry))) from r (now (line .exit)) (now (bank .exit)) (now (out .entry)) (now (out .exit)) ⌝ }
+    ensures { λ r. ⌜ FedBy (now (input .entry)) from r (now (line .entry)) (now (bank .entry)) (now (out .entry)) (now (line .exit)) (now (bank .exit))
+        (now (out .exit)) ⌝ }
 {
     let mut machine = from;
     let mut i = 0;
@@ -72,7 +75,11 @@ pub fn feed(
 pub fn start() -> Machine
     ensures { λ r. ⌜ r ≡ fromNothing ⌝ }
 {
-    let tally = no_lines();
+    let tally = Tally {
+        read: 0,
+        done: 0,
+        refused: 0,
+    };
     let progress = Progress {
         size: 0,
         tally,
@@ -84,11 +91,13 @@ pub fn start() -> Machine
     }
 }
 
-// The end of input: a line that has begun ends, then come the three numbers. The answer is the place behind the output. The bank is left open: nothing reads
-// it any more.
+// The end of input: a line that has begun ends, then come the three numbers. The answer is the place behind the output.
 pub fn finish(line: &[u8], bank: &mut [u8], out: &mut [u8], from: Machine) -> usize
     requires { ⌜ InBuffers (now line) (now bank) from × (from .progress .at + mostLine + mostLast ≤ length (now out)) ⌝ }
-    ensures { λ r. ⌜ Put (now (out .entry)) (from .progress .at) (finishing (machineOf (now (line .entry)) (now (bank .entry)) from)) (now (out .exit)) r ⌝ }
+    ensures output { λ r. ⌜ Put (now (out .entry)) (from .progress .at) (finishing (machineOf (now (line .entry)) (now (bank .entry)) from))
+        (now (out .exit)) r ⌝ }
+    ensures bank { λ _. ⌜ now (bank .exit) ≡ splice (now (bank .entry)) 0
+        (atEnd (machineOf (now (line .entry)) (now (bank .entry)) from) .machine .state .bank) ⌝ }
 {
     let pending = from.pending;
     let progress = from.progress;
@@ -104,13 +113,4 @@ pub fn finish(line: &[u8], bank: &mut [u8], out: &mut [u8], from: Machine) -> us
     let total = last.tally;
     let end = last.at;
     put_last(out, end, total)
-}
-
-// A whole input that a buffer holds: the output stands at the beginning of `out`, and the answer is its length. Line and bank are room to work in, left open.
-pub fn run_script(input: &[u8], line: &mut [u8], bank: &mut [u8], out: &mut [u8]) -> usize
-    requires { ⌜ Buffers (length (now input)) (now line) (now bank) (now out) ⌝ }
-    ensures { λ r. ⌜ Put (now (out .entry)) 0 (run (now (input .entry))) (now (out .exit)) r ⌝ }
-{
-    let machine = feed(input, line, bank, out, start());
-    finish(line, bank, out, machine)
 }

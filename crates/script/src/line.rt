@@ -1,9 +1,9 @@
 // The line runner on buffers: a line from its bytes to the bytes that it prints.
-use crate::print::put_line;
-use crate::request::read_request;
-use crate::tally::Tally;
-use crate::tally::with_line;
 use crate::work::line_work;
+use lines::print::put_line;
+use lines::request::read_request;
+use lines::tally::Tally;
+use lines::tally::with_line;
 ghost use Rattle.script.specs.Definitions.Runner.{line as lineStep};
 ghost use Rattle.script.specs.Contracts.{Ready, Ran, stateOf};
 
@@ -17,7 +17,8 @@ pub struct Progress {
 // One line's bytes, without the byte 10 that ends it.
 pub fn run_line(line: &[u8], bank: &mut [u8], out: &mut [u8], from: Progress) -> Progress
     requires { ⌜ Ready (now bank) (now out) from ⌝ }
-    ensures { λ r. ⌜ Ran (lineStep (now (line .entry)) (stateOf (now (bank .entry)) from)) from r (now (bank .exit)) (now (out .entry)) (now (out .exit)) ⌝ }
+    ensures { λ r. ⌜ Ran (lineStep (now (line .entry)) (stateOf (now (bank .entry)) from)) from r (now (bank .entry)) (now (out .entry)) (now (bank .exit))
+        (now (out .exit)) ⌝ }
 {
     let size = from.size;
     let tally = from.tally;

@@ -3,14 +3,16 @@ use crate::feed::Machine;
 use crate::feed::feed;
 use crate::feed::finish;
 use crate::line::Progress;
-use crate::print::MOST_LINE;
-use crate::text::MOST_BYTES;
 use format::layout::MOST_BANK;
+use lines::print::MOST_LINE;
+use lines::text::MOST_BYTES;
 ghost use mathlib.Core.Path.{_≡_};
 ghost use Prim.Native.Nat.{_+_, _*_, _≤_};
 ghost use lib.ListN.{length};
-ghost use Rattle.script.specs.Feeding.{feed as feedBytes, finish as finishing};
-ghost use Rattle.script.specs.Contracts.{InBuffers, machineOf, mostLine, mostLast, emptied, Streamed, Written};
+ghost use Rattle.model.specs.Definitions.Parts.{splice};
+ghost use Rattle.lines.specs.Contracts.{mostLine, mostLast};
+ghost use Rattle.script.specs.Feeding.{atEnd, finish as finishing};
+ghost use Rattle.script.specs.Contracts.{InBuffers, machineOf, emptied, Streamed, Written};
 
 // What a stream's buffers hold: a line and one byte more, the largest bank, and for each byte of a read the longest line that it can print.
 pub const LINE_BUFFER: usize = MOST_BYTES + 1;
@@ -45,15 +47,18 @@ pub fn feed_read(
     from: Machine,
 ) -> Machine
     requires { ⌜ InBuffers (now line) (now bank) from × (mostLine * length (now input) ≤ length (now out)) ⌝ }
-    ensures { λ r. ⌜ Streamed (feedBytes (now (input .entry)) (machineOf (now (line .entry)) (now (bank .entry)) from)) r (now (line .exit)) (now (bank .exit)) (now (out .entry)) (now (out .exit)) ⌝ }
+    ensures { λ r. ⌜ Streamed (now (input .entry)) from r (now (line .entry)) (now (bank .entry)) (now (out .entry)) (now (line .exit)) (now (bank .exit))
+        (now (out .exit)) ⌝ }
 {
     feed(input, line, bank, out, empty_out(from))
 }
 
-// The end of input. The answer is how many bytes of `out` it prints. The bank is left open: nothing reads it any more.
+// The end of input. The answer is how many bytes of `out` it prints.
 pub fn end_input(line: &[u8], bank: &mut [u8], out: &mut [u8], from: Machine) -> usize
     requires { ⌜ InBuffers (now line) (now bank) from × (mostLine + mostLast ≤ length (now out)) ⌝ }
-    ensures { λ r. ⌜ Written (now (out .entry)) (finishing (machineOf (now (line .entry)) (now (bank .entry)) from)) r (now (out .exit)) ⌝ }
+    ensures output { λ r. ⌜ Written (now (out .entry)) (finishing (machineOf (now (line .entry)) (now (bank .entry)) from)) r (now (out .exit)) ⌝ }
+    ensures bank { λ _. ⌜ now (bank .exit) ≡ splice (now (bank .entry)) 0
+        (atEnd (machineOf (now (line .entry)) (now (bank .entry)) from) .machine .state .bank) ⌝ }
 {
     finish(line, bank, out, empty_out(from))
 }

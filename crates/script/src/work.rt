@@ -1,8 +1,4 @@
 // One line's work: the call that it asks for, on the bank's part of a buffer that holds the largest.
-use crate::print::Printed;
-use crate::print::printed_of;
-use crate::print::unreadable;
-use crate::request::Request;
 use engine::access::read;
 use engine::access::write;
 use engine::checkpoint::checkpoint;
@@ -12,6 +8,10 @@ use engine::power::fuse;
 use engine::restart::restart;
 use format::layout::bank_size;
 use fresh::sizes::sizes_allowed;
+use lines::print::Printed;
+use lines::print::printed_of;
+use lines::print::unreadable;
+use lines::request::Request;
 use types::Answer;
 use types::Outcome;
 ghost use mathlib.Core.Path.{_≡_};
@@ -19,7 +19,7 @@ ghost use Prim.Native.Nat.{_≤_};
 ghost use lib.ListN.{length, take};
 ghost use Rattle.script.specs.Definitions.Runner.{work};
 ghost use Rattle.script.specs.Contracts.{called, mostBank, Works};
-ghost use Rattle.script.specs.declared.request.Request.the-variants.{Make};
+ghost use Rattle.lines.specs.declared.request.Request.the-variants.{Make};
 
 // What a line prints, and how many bytes the bank has then: 0 where there is none.
 pub struct Work {
@@ -47,7 +47,7 @@ fn do_call(bank: &mut [u8], request: Request) -> Printed
 // N on line 1: a bank in the first bytes of the buffer, or none.
 fn make_bank(bank: &mut [u8], boards: u32, pages: u32) -> Work
     requires { ⌜ length (now bank) ≡ mostBank ⌝ }
-    ensures { λ r. ⌜ Works (work 1 (Make boards pages) (now (bank .entry))) r (now (bank .exit)) ⌝ }
+    ensures { λ r. ⌜ Works (work 1 (Make boards pages) (now (bank .entry))) r (now (bank .entry)) (now (bank .exit)) ⌝ }
 {
     if !sizes_allowed(boards, pages) {
         let refused = Outcome {
@@ -70,7 +70,7 @@ fn make_bank(bank: &mut [u8], boards: u32, pages: u32) -> Work
 // A line that is not an N on line 1, on the bank's part of the buffer.
 fn call_line(bank: &mut [u8], size: usize, request: Request) -> Work
     requires { ⌜ size ≤ length (now bank) ⌝ }
-    ensures { λ r. ⌜ Works (called request (take size (now (bank .entry)))) r (now (bank .exit)) ⌝ }
+    ensures { λ r. ⌜ Works (called request (take size (now (bank .entry)))) r (now (bank .entry)) (now (bank .exit)) ⌝ }
 {
     let printed = do_call(&mut bank[..size], request);
     Work { printed, size }
@@ -79,7 +79,7 @@ fn call_line(bank: &mut [u8], size: usize, request: Request) -> Work
 // Line `number`, which asks for `request`.
 pub fn line_work(bank: &mut [u8], size: usize, number: u32, request: Request) -> Work
     requires { ⌜ (length (now bank) ≡ mostBank) × (size ≤ length (now bank)) ⌝ }
-    ensures { λ r. ⌜ Works (work number request (take size (now (bank .entry)))) r (now (bank .exit)) ⌝ }
+    ensures { λ r. ⌜ Works (work number request (take size (now (bank .entry)))) r (now (bank .entry)) (now (bank .exit)) ⌝ }
 {
     if number != 1 {
         return call_line(bank, size, request);

@@ -1,7 +1,7 @@
--- An access given by a flag and plain numbers, and what the reads and writes of an access say of the board that a block stands for.
+-- An access on a block: what its reads and writes say of the board that the block stands for, and its tests by a flag and plain numbers.
 -- Assumes nothing.
-use mathlib.Core.Path.{_≡_, sym, ap, _∙_}
-use Prim.Native.Nat.{ℕ, _+_, _*_, _≤_, _<_}
+use mathlib.Core.Path.{_≡_, refl, ap, _∙_}
+use Prim.Native.Nat.{ℕ, _+_, _*_, _<_}
 use mathlib.Core.Bool.{Bool, true, false, _||_}
 use mathlib.Core.List.{List, [], _∷_}
 use lib.ListN.{length}
@@ -11,35 +11,19 @@ use Rattle.words.specs.LittleEndian.{bytesOf, numberOf}
 use Rattle.types.specs.declared.Right.{Right}
 use Rattle.types.specs.declared.Frame.{Frame}
 use Rattle.model.specs.Definitions.Parts.{part, splice, byteAt}
-use Rattle.model.specs.Definitions.Layout.{byteValues, mostPages, pageSize, lastSince, lastNumber, numberSize, sinceSize, frameSize, rightAt, frameBytesAt, numberAt, sinceAt, framesAt}
+use Rattle.model.specs.Definitions.Layout.{byteValues, pageSize, lastSince, lastNumber, numberSize, sinceSize, frameSize, rightAt, frameBytesAt, numberAt}
+use Rattle.model.specs.Definitions.Layout.{sinceAt, framesAt}
 use Rattle.model.specs.Definitions.Bank.{Board, frameAt, onWorking, onFrames}
 use Rattle.model.specs.Definitions.Codec.{rightOf, encodeFrame, encodeBoard, decodeBoard}
 use Rattle.model.specs.Definitions.WellFormed.{FieldsOk}
-use Rattle.model.specs.Definitions.Steps.{Access, Read, Write, pageNamed, lacks, cellsWritten, cellByte, withBytes, accessed, withFrame}
+use Rattle.model.specs.Definitions.Steps.{Read, Write, pageNamed, lacks, cellsWritten, cellByte, withBytes, accessed, withFrame}
 use Rattle.model.specs.Definitions.Replay.{lacking}
 use Rattle.model.specs.Definitions.Calls.{countersFull}
 use Rattle.model.specs.Laws.Codec.{rightOf-rightByte}
-use Rattle.model.specs.Laws.CodecBank.{decode-encodeBoard}
 use Rattle.model.specs.Laws.Keeps.Accesses.{writable}
 use Rattle.model.specs.Laws.BlockFields.{read-right, read-byte, write-frame, write-byte}
 use Rattle.model.specs.Laws.BlockWorking.{accessed-read, accessed-fields}
-use Rattle.steps.specs.Blocks.{IsBlock, boardOf}
-
--- the access that a flag and numbers stand for; a read has no use for the value
-unfoldable pub accessOf : Bool → ℕ → ℕ → ℕ → Access
-accessOf true p o v = Write p o v
-accessOf false p o v = Read p o
-
--- ---- a block and the board that it stands for
-
-module _ {pages : ℕ} {l : List ℕ} (y : Board) (few : pages ≤ mostPages) (ok : FieldsOk pages y) (e : l ≡ encodeBoard y) where
-  -- what a step leaves stands for the stepped board
-  pub board-written : boardOf pages l ≡ y
-  board-written = rw e (decode-encodeBoard pages y ok)
-
-  -- so the next step may follow
-  pub block-written : IsBlock pages l
-  block-written = record { few = few; fields = rw board-written ok; back = rw board-written (sym e) }
+use Rattle.steps.specs.Blocks.{IsBlock, boardOf, readOrWrite}
 
 module _ {pages : ℕ} {l : List ℕ} (b : IsBlock pages l) where
   -- ---- reading
@@ -75,10 +59,15 @@ module _ {pages : ℕ} {l : List ℕ} (b : IsBlock pages l) where
 
 -- ---- the tests of an access
 
+pub named-page : (writes : Bool) (p o v : ℕ) → pageNamed (readOrWrite writes p o v) ≡ p
+unfolding pageNamed readOrWrite
+named-page true p o v = refl
+named-page false p o v = refl
+
 -- the right to the page, looked up
 pub lacking-of : (writes : Bool) (p o v : ℕ) (fs : List Frame) (r : Right) → r ≡ frameAt fs p .right
-    → lacking (accessOf writes p o v) fs ≡ lacks (accessOf writes p o v) r
-unfolding lacking pageNamed accessOf
+    → lacking (readOrWrite writes p o v) fs ≡ lacks (readOrWrite writes p o v) r
+unfolding lacking pageNamed readOrWrite
 lacking-of true p o v fs r e = rw e
 lacking-of false p o v fs r e = rw e
 
@@ -91,13 +80,13 @@ counters-test pages l t e = e
 
 -- ---- an access that doesn't lack its right leaves every field in range
 
-written-bytes : (writes : Bool) (p o v : ℕ) → v < byteValues → Each (λ w. w .1 < byteValues) (cellsWritten (accessOf writes p o v))
-unfolding cellsWritten accessOf
+written-bytes : (writes : Bool) (p o v : ℕ) → v < byteValues → Each (λ w. w .1 < byteValues) (cellsWritten (readOrWrite writes p o v))
+unfolding cellsWritten readOrWrite
 written-bytes true p o v h = each-cons h each-nil
 written-bytes false p o v h = each-nil
 
 pub performed-fields : {pages : ℕ} {x : Board} → FieldsOk pages x → (writes : Bool) (p o v : ℕ) → v < byteValues
-    → lacking (accessOf writes p o v) (x .working .frames) ≡ false → x .working .number < lastNumber → x .working .since < lastSince
-    → FieldsOk pages (onWorking (accessed (accessOf writes p o v)) x)
+    → lacking (readOrWrite writes p o v) (x .working .frames) ≡ false → x .working .number < lastNumber → x .working .since < lastSince
+    → FieldsOk pages (onWorking (accessed (readOrWrite writes p o v)) x)
 performed-fields {pages} {x} ok writes p o v h l n s =
-    accessed-fields ok (accessOf writes p o v) (writable (accessOf writes p o v) (x .working .frames) l (written-bytes writes p o v h)) n s
+    accessed-fields ok (readOrWrite writes p o v) (writable (readOrWrite writes p o v) (x .working .frames) l (written-bytes writes p o v h)) n s

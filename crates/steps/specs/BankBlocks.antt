@@ -1,6 +1,6 @@
 -- A board's block lent from the bytes of a bank: that it is a block, and what the bank is when the block comes back changed. For any step of one
 -- board. Assumes nothing.
-use mathlib.Core.Path.{_≡_, sym, ap, _∙_}
+use mathlib.Core.Path.{_≡_, sym, _∙_}
 use Prim.Native.Nat.{ℕ, _+_, _*_, _-_, _≤_, _<_}
 use native.Mathlib.Omega.{arith}
 use mathlib.Core.List.{List, _++_}
@@ -13,14 +13,11 @@ use Rattle.model.specs.Definitions.WellFormed.{FieldsOk}
 use Rattle.model.specs.Laws.CodecBank.{stateOf-stateByte, decode-encodeBoard, length-encode}
 use Rattle.model.specs.Laws.Parts.{index-in}
 use Rattle.model.specs.Laws.BlockFields.{read-state}
-use Rattle.model.specs.Laws.BankSteps.{Fields, fields-at, block-part, encode-board}
+use Rattle.model.specs.Laws.BankSteps.{fields-at, block-part, encode-board}
+use Rattle.model.specs.Contracts.{Fields}
 use Rattle.fields.proofs.Lent.{lent-written}
-use Rattle.steps.specs.Blocks.{IsBlock, boardOf, block-length}
-
-pub isBlock-encode : (pages : ℕ) (x : Board) → pages ≤ mostPages → FieldsOk pages x → IsBlock pages (encodeBoard x)
-isBlock-encode pages x h ok =
-    let e : boardOf pages (encodeBoard x) ≡ x = decode-encodeBoard pages x ok in
-    record { few = h; fields = rw e ok; back = ap encodeBoard e }
+use Rattle.steps.specs.Blocks.{IsBlock, boardOf}
+use Rattle.steps.specs.BlockLaws.{block-length, isBlock-encode}
 
 -- `&mut s[a..a + n]` is the block of board b in the bytes of a bank
 pub record LentBlock (k : Bank) (s : List ℕ) (pages b a n : ℕ) : Type 0 where

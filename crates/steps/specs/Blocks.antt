@@ -1,22 +1,39 @@
--- What a step's contract asks of a block: that it is the encoding of a board whose fields are in range. Assumes nothing.
+-- Words of the steps' contracts: a block, the board that it stands for, an access by its flag, and what a flush does to a board. No law stands
+-- here. Assumes nothing.
 use mathlib.Core.Path.{_≡_}
-use Prim.Native.Nat.{ℕ, _≤_}
-use mathlib.Core.List.{List}
-use lib.ListN.{length}
-use Rattle.model.specs.Definitions.Layout.{mostPages, blockSize}
-use Rattle.model.specs.Definitions.Bank.{Board}
+use Prim.Native.Nat.{ℕ, _*_, _≤_}
+use mathlib.Core.Bool.{Bool, true, false}
+use mathlib.Core.List.{List, [], _++_}
+use Rattle.types.specs.declared.Record.{Record}
+use Rattle.model.specs.Definitions.Parts.{zeros}
+use Rattle.model.specs.Definitions.Layout.{mostPages, slotSize}
+use Rattle.model.specs.Definitions.Bank.{Board, onWorking}
 use Rattle.model.specs.Definitions.Codec.{encodeBoard, decodeBoard}
 use Rattle.model.specs.Definitions.WellFormed.{FieldsOk}
-use Rattle.model.specs.Laws.CodecBank.{length-encodeBoard}
+use Rattle.model.specs.Definitions.Steps.{Access, Read, Write}
+use Rattle.model.specs.Laws.BlockAreas.{withRecord}
+use Rattle.model.specs.Laws.BlockFields.{withLog}
+use Rattle.model.specs.Laws.BlockStable.{onSelected}
 
 -- the board that a block stands for
 abbrev pub boardOf : ℕ → List ℕ → Board
 boardOf pages l = decodeBoard pages l
 
+-- the encoding of a board whose fields are in range
 pub record IsBlock (pages : ℕ) (l : List ℕ) : Type 0 where
   pub few : pages ≤ mostPages
   pub fields : FieldsOk pages (decodeBoard pages l)
   pub back : encodeBoard (decodeBoard pages l) ≡ l
 
-pub block-length : {pages : ℕ} {l : List ℕ} → IsBlock pages l → length l ≡ blockSize pages
-block-length {pages} {l} b = rw (b .back) at (length-encodeBoard pages (boardOf pages l) (b .fields))
+-- the access that a flag and numbers stand for; a read has no use for the value
+unfoldable pub readOrWrite : Bool → ℕ → ℕ → ℕ → Access
+readOrWrite true p o v = Write p o v
+readOrWrite false p o v = Read p o
+
+-- "one record appended to the selected area", nothing else changed
+abbrev pub withStored : Record → Board → Board
+withStored r x = onSelected (withRecord r) x
+
+-- the end of a flush of n records: none is volatile any more, their slots are zero, the other slots as they were
+unfoldable pub flushEnded : ℕ → Board → Board
+flushEnded n x = onWorking (withLog (record { records = []; rest = zeros (n * slotSize) ++ x .working .log .rest })) x

@@ -10,7 +10,8 @@ use Rattle.words.specs.LittleEndian.{bytesOf, numberOf}
 use Rattle.words.specs.LittleEndianLaws.{length-bytesOf}
 use Rattle.types.specs.declared.Frame.{Frame}
 use Rattle.model.specs.Definitions.Parts.{part, splice, byteAt, zeros}
-use Rattle.model.specs.Definitions.Layout.{numberSize, sinceSize, frameSize, slotsSize, areaNumberAt, areaFramesAt, areaSize, areaAt, selectorAt, numberAt, sinceAt, volatileCountAt, framesAt, slotsAt}
+use Rattle.model.specs.Definitions.Layout.{numberSize, sinceSize, frameSize, slotsSize, areaNumberAt, areaFramesAt, areaSize, areaAt, selectorAt, numberAt}
+use Rattle.model.specs.Definitions.Layout.{sinceAt, volatileCountAt, framesAt, slotsAt}
 use Rattle.model.specs.Definitions.Bank.{Board, frameAt, onWorking}
 use Rattle.model.specs.Definitions.Codec.{encodeFrame, decodeFrame, selectorByte, encodeBoard}
 use Rattle.model.specs.Definitions.Steps.{storedFrame, storedHead, storedSelector, restedWorking}

@@ -13,13 +13,15 @@ use Rattle.model.specs.Definitions.Layout.{slotSize, noFuse}
 use Rattle.model.specs.Definitions.Bank.{Log, Board, onWorking}
 use Rattle.model.specs.Definitions.WellFormed.{FieldsOk, RoomOk}
 use Rattle.model.specs.Definitions.Steps.{poweredOff, withFuse, burnt, movedRecord, storedRecord}
+use Rattle.model.specs.Contracts.{storedCount, volatileCount}
 use Rattle.model.specs.Laws.Logic.{byBool, byEq}
 use Rattle.model.specs.Laws.BlockFields.{withLog, withFuse-fields}
 use Rattle.model.specs.Laws.BlockWorking.{flushedLog, next-record, poweredOff-log}
 use Rattle.model.specs.Laws.BlockAreas.{withRecord}
 use Rattle.model.specs.Laws.BlockStable.{onSelected}
-use Rattle.model.specs.Laws.BlockFlush.{flushing, flushing-count, flushing-fields, working-storedRecords, fuseAfter, fuseAfter-none, fuseAfter-set, storedBurnt, storedBurnt-parts, storedBurnt-log}
-use Rattle.steps.specs.Records.{volatileCount, storedCount, withStored, flushEnded}
+use Rattle.model.specs.Laws.BlockFlush.{flushing, flushing-count, flushing-fields, working-storedRecords, fuseAfter, fuseAfter-none, fuseAfter-set, storedBurnt}
+use Rattle.model.specs.Laws.BlockFlush.{storedBurnt-parts, storedBurnt-log}
+use Rattle.steps.specs.Blocks.{withStored, flushEnded}
 
 -- the board after j turns: that of j stores, the fuse lowered after each, with the volatile log of before the flush
 unfoldable pub flushTurns : ℕ → Board → Board

@@ -23,17 +23,16 @@ ghost use Rattle.model.specs.Definitions.Codec.{encodeBoard};
 ghost use Rattle.model.specs.Definitions.Steps.{Read, Write, lacks, cellByte, valueOf, accessed, withFrame};
 ghost use Rattle.model.specs.Definitions.Replay.{lacking};
 ghost use Rattle.model.specs.Definitions.Calls.{countersFull};
-ghost use Rattle.steps.specs.Blocks.{IsBlock, boardOf};
-ghost use Rattle.steps.specs.Access.{accessOf};
+ghost use Rattle.steps.specs.Blocks.{IsBlock, boardOf, readOrWrite};
 
 // "access with since 65,535 or number 4,294,967,295": the last value of each counter
-pub const LAST_SINCE: u16 = 65535;
+const LAST_SINCE: u16 = 65535;
 
-pub const LAST_NUMBER: u32 = 4294967295;
+const LAST_NUMBER: u32 = 4294967295;
 
 // ---- reading
 
-pub fn read_byte(block: &[u8], pages: usize, page: usize, offset: usize) -> u8
+fn read_byte(block: &[u8], pages: usize, page: usize, offset: usize) -> u8
     requires { ⌜ IsBlock pages (now block) × (page < pages) × (offset < pageSize) ⌝ }
     ensures { λ r. ⌜ r ≡ cellByte (boardOf pages (now (block .entry)) .working .frames) (record { page = page; offset = offset }) ⌝ }
 {
@@ -43,7 +42,7 @@ pub fn read_byte(block: &[u8], pages: usize, page: usize, offset: usize) -> u8
     )
 }
 
-pub fn right(block: &[u8], pages: usize, page: usize) -> Right
+fn right(block: &[u8], pages: usize, page: usize) -> Right
     requires { ⌜ IsBlock pages (now block) × (page < pages) ⌝ }
     ensures { λ r. ⌜ r ≡ frameAt (boardOf pages (now (block .entry)) .working .frames) page .right ⌝ }
 {
@@ -53,7 +52,7 @@ pub fn right(block: &[u8], pages: usize, page: usize) -> Right
 // "value (the byte read ..; 0 for the rest)"
 pub fn value_of(block: &[u8], pages: usize, writes: bool, page: usize, offset: usize) -> u8
     requires { ⌜ IsBlock pages (now block) × (page < pages) × (offset < pageSize) ⌝ }
-    ensures { λ r. ⌜ ((v : ℕ) → r ≡ valueOf (accessOf writes page offset v) (boardOf pages (now (block .entry)) .working .frames)) ⌝ }
+    ensures { λ r. ⌜ ((v : ℕ) → r ≡ valueOf (readOrWrite writes page offset v) (boardOf pages (now (block .entry)) .working .frames)) ⌝ }
 {
     if writes {
         return 0;
@@ -62,8 +61,8 @@ pub fn value_of(block: &[u8], pages: usize, writes: bool, page: usize, offset: u
 }
 
 // "local if a read has any right or a write has right own": whether a right is too little.
-pub fn too_little(right: Right, writes: bool) -> bool
-    ensures { λ r. ⌜ ((p o v : ℕ) → r ≡ lacks (accessOf writes p o v) right) ⌝ }
+fn too_little(right: Right, writes: bool) -> bool
+    ensures { λ r. ⌜ ((p o v : ℕ) → r ≡ lacks (readOrWrite writes p o v) right) ⌝ }
 {
     match right {
         Right::None => true,
@@ -75,7 +74,7 @@ pub fn too_little(right: Right, writes: bool) -> bool
 // Whether an access lacks the right to its page.
 pub fn lacks_right(block: &[u8], pages: usize, page: usize, writes: bool) -> bool
     requires { ⌜ IsBlock pages (now block) × (page < pages) ⌝ }
-    ensures { λ r. ⌜ ((o v : ℕ) → r ≡ lacking (accessOf writes page o v) (boardOf pages (now (block .entry)) .working .frames)) ⌝ }
+    ensures { λ r. ⌜ ((o v : ℕ) → r ≡ lacking (readOrWrite writes page o v) (boardOf pages (now (block .entry)) .working .frames)) ⌝ }
 {
     too_little(right(block, pages, page), writes)
 }
@@ -93,8 +92,9 @@ pub fn counters_full(block: &[u8], pages: usize) -> bool
 // ---- writing
 
 // "A done access adds 1 to access number and since": all that a read does.
-pub fn read_access(block: &mut [u8], pages: usize)
-    requires { ⌜ IsBlock pages (now block) × (boardOf pages (now block) .working .number < lastNumber) × (boardOf pages (now block) .working .since < lastSince) ⌝ }
+fn read_access(block: &mut [u8], pages: usize)
+    requires { ⌜ IsBlock pages (now block) × (boardOf pages (now block) .working .number < lastNumber)
+        × (boardOf pages (now block) .working .since < lastSince) ⌝ }
     ensures { λ _. ⌜ ((p o : ℕ) → now (block .exit) ≡ encodeBoard (onWorking (accessed (Read p o)) (boardOf pages (now (block .entry))))) ⌝ }
 {
     let number = read_number(block);
@@ -104,8 +104,9 @@ pub fn read_access(block: &mut [u8], pages: usize)
 }
 
 // A write counts as a read does; its byte besides.
-pub fn write_access(block: &mut [u8], pages: usize, page: usize, offset: usize, value: u8)
-    requires { ⌜ IsBlock pages (now block) × (boardOf pages (now block) .working .number < lastNumber) × (boardOf pages (now block) .working .since < lastSince) × (page < pages) × (offset < pageSize) ⌝ }
+fn write_access(block: &mut [u8], pages: usize, page: usize, offset: usize, value: u8)
+    requires { ⌜ IsBlock pages (now block) × (boardOf pages (now block) .working .number < lastNumber) × (boardOf pages (now block) .working .since < lastSince)
+        × (page < pages) × (offset < pageSize) ⌝ }
     ensures { λ _. ⌜ now (block .exit) ≡ encodeBoard (onWorking (accessed (Write page offset value)) (boardOf pages (now (block .entry)))) ⌝ }
 {
     read_access(block, pages);
@@ -118,8 +119,9 @@ pub fn write_access(block: &mut [u8], pages: usize, page: usize, offset: usize, 
 
 // Either of the two, by its flag; a read has no use for the value.
 pub fn perform(block: &mut [u8], pages: usize, writes: bool, page: usize, offset: usize, value: u8)
-    requires { ⌜ IsBlock pages (now block) × (boardOf pages (now block) .working .number < lastNumber) × (boardOf pages (now block) .working .since < lastSince) × (page < pages) × (offset < pageSize) ⌝ }
-    ensures { λ _. ⌜ now (block .exit) ≡ encodeBoard (onWorking (accessed (accessOf writes page offset value)) (boardOf pages (now (block .entry)))) ⌝ }
+    requires { ⌜ IsBlock pages (now block) × (boardOf pages (now block) .working .number < lastNumber) × (boardOf pages (now block) .working .since < lastSince)
+        × (page < pages) × (offset < pageSize) ⌝ }
+    ensures { λ _. ⌜ now (block .exit) ≡ encodeBoard (onWorking (accessed (readOrWrite writes page offset value)) (boardOf pages (now (block .entry)))) ⌝ }
 {
     if writes {
         write_access(block, pages, page, offset, value);

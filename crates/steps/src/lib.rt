@@ -4,5 +4,4 @@ pub mod checkpoint;
 pub mod fuse;
 pub mod power;
 pub mod records;
-pub mod replay;
 pub mod state;

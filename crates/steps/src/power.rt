@@ -20,7 +20,7 @@ ghost use Rattle.model.specs.Definitions.Parts.{part, splice};
 ghost use Rattle.model.specs.Definitions.Layout.{mostBoards, headSize, entrySize};
 ghost use Rattle.model.specs.Definitions.Codec.{encodeEntry, decodeEntry, encodeBoard, encode, decode};
 ghost use Rattle.model.specs.Definitions.Steps.{forgotten, poweredOff, powerOff};
-ghost use Rattle.model.specs.Laws.BankSteps.{IsBank};
+ghost use Rattle.model.specs.Contracts.{IsBank};
 ghost use Rattle.steps.specs.Blocks.{IsBlock, boardOf};
 
 // "Cut: frames, since, access number, replay place, volatile log and slots become zero, fuse none, state dark"
@@ -37,7 +37,8 @@ pub fn wipe(block: &mut [u8], pages: usize)
 // A page's copy-set without the board's bit.
 fn forget_page(bank: &mut [u8], page: usize, board: usize)
     requires { ⌜ (headSize + page * entrySize + entrySize ≤ length (now bank)) × (board < mostBoards) ⌝ }
-    ensures { λ _. ⌜ now (bank .exit) ≡ splice (now (bank .entry)) (headSize + page * entrySize) (encodeEntry (forgotten board (decodeEntry (part (now (bank .entry)) (headSize + page * entrySize) entrySize)))) ⌝ }
+    ensures { λ _. ⌜ now (bank .exit) ≡ splice (now (bank .entry)) (headSize + page * entrySize)
+        (encodeEntry (forgotten board (decodeEntry (part (now (bank .entry)) (headSize + page * entrySize) entrySize)))) ⌝ }
 {
     let owner = read_owner(bank, page);
     let copies = read_copies(bank, page);
@@ -47,7 +48,11 @@ fn forget_page(bank: &mut [u8], page: usize, board: usize)
 // "its copy-set bits 0"
 pub fn forget(bank: &mut [u8], pages: usize, board: usize)
     requires { ⌜ IsBank (now bank) × (pages ≡ length (decode (now bank) .directory)) × (board < mostBoards) ⌝ }
-    ensures { λ _. ⌜ now (bank .exit) ≡ encode (record { directory = map (forgotten board) (decode (now (bank .entry)) .directory); boards = decode (now (bank .entry)) .boards }) ⌝ }
+    ensures { λ _. ⌜ now (bank .exit) ≡ encode (record {
+      directory = map (forgotten board) (decode (now (bank .entry)) .directory);
+      boards =
+          decode (now (bank .entry)) .boards;
+    }) ⌝ }
 {
     let mut page = 0;
     while page < pages {

@@ -21,9 +21,8 @@ ghost use Rattle.model.specs.Definitions.Bank.{onWorking};
 ghost use Rattle.model.specs.Definitions.Codec.{encodeBoard};
 ghost use Rattle.model.specs.Definitions.Steps.{recorded};
 ghost use Rattle.model.specs.Definitions.WellFormed.{RecordOk};
-ghost use Rattle.model.specs.Laws.Keeps.Records.{Recordable};
-ghost use Rattle.steps.specs.Blocks.{IsBlock, boardOf};
-ghost use Rattle.steps.specs.Records.{volatileCount, storedCount, withStored, flushEnded};
+ghost use Rattle.model.specs.Contracts.{storedCount, volatileCount, Recordable};
+ghost use Rattle.steps.specs.Blocks.{IsBlock, boardOf, withStored, flushEnded};
 
 // ---- how many records a board has
 
@@ -34,7 +33,7 @@ pub fn volatile_count(block: &[u8]) -> usize
     read_volatile_count(block) as usize
 }
 
-pub fn stored_count(block: &[u8], pages: usize) -> usize
+fn stored_count(block: &[u8], pages: usize) -> usize
     requires { ⌜ IsBlock pages (now block) ⌝ }
     ensures { λ r. ⌜ r ≡ storedCount (boardOf pages (now (block .entry))) ⌝ }
 {

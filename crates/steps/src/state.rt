@@ -1,37 +1,34 @@
 // What a board's state says of it.
+use format::block::state_byte;
 use types::State;
 ghost use mathlib.Core.Path.{_≡_};
+ghost use lib.Dec.{eqb};
+ghost use Rattle.model.specs.Definitions.Codec.{stateByte};
 ghost use Rattle.model.specs.Definitions.WellFormed.{isUp, isDown, isReplaying};
+
+fn same(a: State, b: State) -> bool
+    ensures { λ r. ⌜ r ≡ eqb (stateByte a) (stateByte b) ⌝ }
+{
+    state_byte(a) == state_byte(b)
+}
 
 // Runs live.
 pub fn is_up(state: State) -> bool
     ensures { λ r. ⌜ r ≡ isUp state ⌝ }
 {
-    match state {
-        State::Up => true,
-        State::Down => false,
-        State::Replaying => false,
-    }
+    same(state, State::Up)
 }
 
 // Has no power.
 pub fn is_down(state: State) -> bool
     ensures { λ r. ⌜ r ≡ isDown state ⌝ }
 {
-    match state {
-        State::Up => false,
-        State::Down => true,
-        State::Replaying => false,
-    }
+    same(state, State::Down)
 }
 
 // Repeats its log.
 pub fn is_replaying(state: State) -> bool
     ensures { λ r. ⌜ r ≡ isReplaying state ⌝ }
 {
-    match state {
-        State::Up => false,
-        State::Down => false,
-        State::Replaying => true,
-    }
+    same(state, State::Replaying)
 }

@@ -21,12 +21,11 @@ use Rattle.model.specs.Laws.BlockFields.{read-record}
 use Rattle.model.specs.Laws.BlockStable.{withRecord-fields}
 use Rattle.model.specs.Laws.BlockFlush.{storedBurnt}
 use Rattle.model.specs.Laws.BoardFields.{recorded-fields}
-use Rattle.model.specs.Laws.Keeps.Clauses.{RoomFor}
-use Rattle.model.specs.Laws.Keeps.Records.{Recordable}
-use Rattle.steps.specs.Blocks.{IsBlock, boardOf, block-length}
-use Rattle.steps.specs.Access.{board-written, block-written}
-use Rattle.steps.specs.Records.{volatileCount, storedCount, withStored, flushEnded}
-use Rattle.steps.specs.Flush.{flushTurns, flushTurns-none, flushTurns-off, flushTurns-fuse, flushTurns-next, flushTurns-ended, flushTurns-working, flushTurns-stored, flushTurns-fields}
+use Rattle.model.specs.Contracts.{RoomFor, Recordable, volatileCount, storedCount}
+use Rattle.steps.specs.Blocks.{IsBlock, boardOf, withStored, flushEnded}
+use Rattle.steps.specs.BlockLaws.{block-length, board-written, block-written}
+use Rattle.steps.specs.Flush.{flushTurns, flushTurns-none, flushTurns-off, flushTurns-fuse, flushTurns-next, flushTurns-ended, flushTurns-working}
+use Rattle.steps.specs.Flush.{flushTurns-stored, flushTurns-fields}
 use Rattle.stores.specs.BoardRuns.{BoardRun, begun, spent, storeOn, storeRecordsOn, flushOn, loggedOn}
 use Rattle.stores.specs.RunLaws.{spent-cut, spent-kept, storeOn-cut, storeOn-kept, storeRecordsOn-lost, storeRecordsOn-next}
 use Rattle.stores.specs.RunFields.{recorded-room}
@@ -123,7 +122,8 @@ module _ {pages : ℕ} {l : List ℕ} {n j : ℕ} {m : List ℕ} (v : Flushing p
         turned =
             let e : withStored r (boardOf pages m) ≡ withStored (getD (x .working .log .records) j r) (flushTurns j x)
             = ap (λ (y : Board). withStored r y) board ∙ ap (λ (q : Record). withStored q (flushTurns j x)) next-read in
-            ap burnt (board-written (withStored r (boardOf pages m)) (b .few) appended-ok w ∙ e) ∙ flushTurns-next x (b .fields .fuse) j r (omega (arith, v .count))
+            ap burnt (board-written (withStored r (boardOf pages m)) (b .few) appended-ok w ∙ e)
+            ∙ flushTurns-next x (b .fields .fuse) j r (omega (arith, v .count))
 
         module _ {o : List ℕ} {t : Bool} (s : Spent pages a o t) where
           blown : eqb (burnt (storedRecord (storedBurnt j x)) .fuse) 0 ≡ t
@@ -161,7 +161,8 @@ module _ {pages : ℕ} {l : List ℕ} {n j : ℕ} {m : List ℕ} (v : Flushing p
 
 -- ---- a record noted, then the flush
 
-module _ {pages : ℕ} {l : List ℕ} (b : IsBlock pages l) (kind : Kind) (bytes : List ℕ) (room : RoomFor 1 (boardOf pages l)) (v : Recordable pages kind bytes) {m : List ℕ} (w : m ≡ encodeBoard (onWorking (recorded kind bytes) (boardOf pages l))) where
+module _ {pages : ℕ} {l : List ℕ} (b : IsBlock pages l) (kind : Kind) (bytes : List ℕ) (room : RoomFor 1 (boardOf pages l))
+    (v : Recordable pages kind bytes) {m : List ℕ} (w : m ≡ encodeBoard (onWorking (recorded kind bytes) (boardOf pages l))) where
   noted-ok : FieldsOk pages (onWorking (recorded kind bytes) (boardOf pages l))
   noted-ok = recorded-fields (b .fields) kind bytes v (omega arith)
 

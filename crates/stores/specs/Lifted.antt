@@ -12,7 +12,8 @@ use borrow.Author.Tests.{eqb-true, eqb-false}
 use Rattle.types.specs.declared.Kind.{Kind}
 use Rattle.model.specs.Definitions.Parts.{update}
 use Rattle.model.specs.Definitions.Bank.{Board, Bank, noBoard, boardAt, onBoard, onWorking}
-use Rattle.model.specs.Definitions.Steps.{Run, step, forgotten, poweredOff, powerOff, burnt, store, recorded, note, storedRecord, storeRecords, flush, storedFrame, storedHead, storedSelector, restedWorking, storeFrames, checkpoint}
+use Rattle.model.specs.Definitions.Steps.{Run, step, forgotten, poweredOff, powerOff, burnt, store, recorded, note, storedRecord, storeRecords, flush}
+use Rattle.model.specs.Definitions.Steps.{storedFrame, storedHead, storedSelector, restedWorking, storeFrames, checkpoint}
 use Rattle.model.specs.Laws.Logic.{byBool}
 use Rattle.model.specs.Laws.Lists.{update-set}
 use Rattle.model.specs.Laws.EachFirst.{update-same}

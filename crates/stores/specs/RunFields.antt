@@ -19,8 +19,7 @@ use Rattle.model.specs.Laws.BlockStable.{storedFrame-fields, storedHead-fields,
 use Rattle.model.specs.Laws.BlockWorking.{rested-fields}
 use Rattle.model.specs.Laws.BlockFlush.{storedRecords, storedRecords-fields}
 use Rattle.model.specs.Laws.BoardFields.{recorded-fields, burnt-fields, poweredOff-fields}
-use Rattle.model.specs.Laws.Keeps.Clauses.{RoomFor}
-use Rattle.model.specs.Laws.Keeps.Records.{Recordable}
+use Rattle.model.specs.Contracts.{RoomFor, Recordable}
 use Rattle.stores.specs.BoardRuns.{BoardRun, begun, spent, stepOn, storeOn, storeRecordsOn, flushOn, loggedOn, storeFramesOn, checkpointOn}
 use Rattle.stores.specs.RunLaws.{stepOn-lost, stepOn-going}
 

@@ -10,7 +10,7 @@ use Rattle.model.specs.Definitions.Codec.{encodeBoard}
 use Rattle.model.specs.Definitions.WellFormed.{FieldsOk}
 use Rattle.model.specs.Definitions.Steps.{burnt}
 use Rattle.steps.specs.Blocks.{IsBlock, boardOf}
-use Rattle.steps.specs.Access.{board-written, block-written}
+use Rattle.steps.specs.BlockLaws.{board-written, block-written}
 use Rattle.stores.specs.BoardRuns.{BoardRun, spent, stepOn, storeOn}
 use Rattle.stores.specs.RunFields.{spent-fields}
 

@@ -14,7 +14,9 @@ ghost use Rattle.stores.specs.BoardRuns.{begun, storeFramesOn, checkpoin
 // The frames, "in page order".
 fn store_frames(block: &mut [u8], pages: usize) -> Stored
     requires { ⌜ IsBlock pages (now block) ⌝ }
-    ensures run { λ r. ⌜ (now (block .exit) ≡ encodeBoard (storeFramesOn 0 pages (begun (boardOf pages (now (block .entry)))) .board)) × (r .stores ≡ storeFramesOn 0 pages (begun (boardOf pages (now (block .entry)))) .stores) × (r .lost ≡ storeFramesOn 0 pages (begun (boardOf pages (now (block .entry)))) .lost) ⌝ }
+    ensures run { λ r. ⌜ (now (block .exit) ≡ encodeBoard (storeFramesOn 0 pages (begun (boardOf pages (now (block .entry)))) .board))
+        × (r .stores ≡ storeFramesOn 0 pages (begun (boardOf pages (now (block .entry)))) .stores)
+        × (r .lost ≡ storeFramesOn 0 pages (begun (boardOf pages (now (block .entry)))) .lost) ⌝ }
     ensures few { λ r. ⌜ r .stores ≤ pages ⌝ }
 {
     let mut page = 0;
@@ -37,7 +39,9 @@ fn store_frames(block: &mut [u8], pages: usize) -> Stored
 // The frames, then the head, the selector, and what follows them; each only while there is power.
 pub fn checkpoint(block: &mut [u8], pages: usize) -> Stored
     requires { ⌜ IsBlock pages (now block) ⌝ }
-    ensures run { λ r. ⌜ (now (block .exit) ≡ encodeBoard (checkpointOn pages (boardOf pages (now (block .entry))) .board)) × (r .stores ≡ checkpointOn pages (boardOf pages (now (block .entry))) .stores) × (r .lost ≡ checkpointOn pages (boardOf pages (now (block .entry))) .lost) ⌝ }
+    ensures run { λ r. ⌜ (now (block .exit) ≡ encodeBoard (checkpointOn pages (boardOf pages (now (block .entry))) .board))
+        × (r .stores ≡ checkpointOn pages (boardOf pages (now (block .entry))) .stores)
+        × (r .lost ≡ checkpointOn pages (boardOf pages (now (block .entry))) .lost) ⌝ }
     ensures few { λ r. ⌜ r .stores ≤ pages + 2 ⌝ }
 {
     let frames = store_frames(block, pages);

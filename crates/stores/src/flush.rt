@@ -13,15 +13,15 @@ ghost use Prim.Native.Nat.{_≤_, _<_};
 ghost use Rattle.model.specs.Definitions.Layout.{slotCount};
 ghost use Rattle.model.specs.Definitions.Codec.{encodeBoard};
 ghost use Rattle.model.specs.Definitions.WellFormed.{RoomOk};
-ghost use Rattle.model.specs.Laws.Keeps.Clauses.{RoomFor};
-ghost use Rattle.model.specs.Laws.Keeps.Records.{Recordable};
+ghost use Rattle.model.specs.Contracts.{RoomFor, Recordable};
 ghost use Rattle.steps.specs.Blocks.{IsBlock, boardOf};
 ghost use Rattle.stores.specs.BoardRuns.{flushOn, loggedOn};
 
 // The volatile log stays in the bytes until the last record is stored; a power loss on the way empties it anyhow.
 pub fn flush(block: &mut [u8], pages: usize) -> Stored
     requires { ⌜ IsBlock pages (now block) × RoomOk (boardOf pages (now block)) ⌝ }
-    ensures run { λ r. ⌜ (now (block .exit) ≡ encodeBoard (flushOn (boardOf pages (now (block .entry))) .board)) × (r .stores ≡ flushOn (boardOf pages (now (block .entry))) .stores) × (r .lost ≡ flushOn (boardOf pages (now (block .entry))) .lost) ⌝ }
+    ensures run { λ r. ⌜ (now (block .exit) ≡ encodeBoard (flushOn (boardOf pages (now (block .entry))) .board))
+        × (r .stores ≡ flushOn (boardOf pages (now (block .entry))) .stores) × (r .lost ≡ flushOn (boardOf pages (now (block .entry))) .lost) ⌝ }
     ensures few { λ r. ⌜ r .stores ≤ slotCount ⌝ }
 {
     let n = volatile_count(block);
@@ -47,7 +47,9 @@ pub fn flush(block: &mut [u8], pages: usize) -> Stored
 // A record noted, and the whole log flushed behind it.
 pub fn log_through(block: &mut [u8], pages: usize, kind: Kind, bytes: [u8; PAGE_SIZE]) -> Stored
     requires { ⌜ IsBlock pages (now block) × RoomFor 1 (boardOf pages (now block)) × Recordable pages kind bytes ⌝ }
-    ensures run { λ r. ⌜ (now (block .exit) ≡ encodeBoard (loggedOn kind bytes (boardOf pages (now (block .entry))) .board)) × (r .stores ≡ loggedOn kind bytes (boardOf pages (now (block .entry))) .stores) × (r .lost ≡ loggedOn kind bytes (boardOf pages (now (block .entry))) .lost) ⌝ }
+    ensures run { λ r. ⌜ (now (block .exit) ≡ encodeBoard (loggedOn kind bytes (boardOf pages (now (block .entry))) .board))
+        × (r .stores ≡ loggedOn kind bytes (boardOf pages (now (block .entry))) .stores)
+        × (r .lost ≡ loggedOn kind bytes (boardOf pages (now (block .entry))) .lost) ⌝ }
     ensures few { λ r. ⌜ r .stores ≤ slotCount ⌝ }
 {
     record(block, pages, kind, bytes);

@@ -17,9 +17,10 @@ pub struct Stored {
 // "A store lowers its board's set fuse; at 0 the board goes dark right after it": says whether it did.
 pub fn spend(block: &mut [u8], pages: usize) -> bool
     requires { ⌜ IsBlock pages (now block) ⌝ }
-    ensures { λ r. ⌜ (r ≡ eqb (burnt (boardOf pages (now (block .entry))) .fuse) 0) × (now (block .exit) ≡ encodeBoard (spent (boardOf pages (now (block .entry))))) ⌝ }
+    ensures { λ r. ⌜ (r ≡ eqb (burnt (boardOf pages (now (block .entry))) .fuse) 0)
+        × (now (block .exit) ≡ encodeBoard (spent (boardOf pages (now (block .entry))))) ⌝ }
 {
-    let blown = burn(block);
+    let blown = burn(block, pages);
     if blown {
         wipe(block, pages);
     }

@@ -61,3 +61,10 @@ pub struct Outcome {
     pub answer: Answer,
     pub stores: u32,
 }
+
+// An answer as document 01's numbers.
+pub struct AnswerNumbers {
+    pub code: u8,
+    pub value: u32,
+    pub who: u8,
+}

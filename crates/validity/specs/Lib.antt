@@ -1,5 +1,3 @@
 pub mod Search
-pub mod PartChecks
-pub mod BlockChecks
-pub mod BoardChecks
-pub mod BankChecks
+pub mod Words
+pub mod Order

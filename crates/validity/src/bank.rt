@@ -1,9 +1,9 @@
 // Whether bytes are a well-formed bank: head, directory, every block, and the search for a malformed slot.
+use crate::block::area_count;
 use crate::block::block_fits;
-use crate::block::stored_count;
 use crate::parts::directory_valid;
 use crate::parts::slot_valid;
-use crate::parts::wide;
+use fields::bytes::wide;
 use fields::widths::SLOT_SIZE;
 use format::block::read_volatile_count;
 use format::layout::BOARDS_AT;
@@ -23,20 +23,20 @@ use format::layout::block_at;
 use format::layout::block_size;
 use format::layout::slots_at;
 ghost use mathlib.Core.Path.{_≡_};
-ghost use mathlib.Core.Bool.{true};
+ghost use mathlib.Core.Bool.{true, _&&_};
 ghost use Prim.Native.Nat.{max, _+_, _≤_, _<_};
 ghost use lib.ListN.{length};
-ghost use Rattle.model.specs.Definitions.Parts.{everyBelow};
+ghost use lib.Dec.{ltb, leb};
 ghost use Rattle.model.specs.Definitions.Layout.{mostBoards, mostPages, slotCount, slotsSize, blockSize, bankSize};
-ghost use Rattle.model.specs.Definitions.WellFormed.{headValid, wellFormed};
-ghost use Rattle.validity.specs.BlockChecks.{countsValid, longestLog, recordValid, storedValid, slotsValid, recordsValid};
-ghost use Rattle.validity.specs.BankChecks.{inRange, directoryOf, blockOfPages, blockFits};
+ghost use Rattle.model.specs.Definitions.Check.{headValid, blockFits, recordValid, storedValid, slotsValid, directoryOf, blockOf, blocksFit, logsValid};
+ghost use Rattle.model.specs.Definitions.Check.{wellFormed};
+ghost use Rattle.validity.specs.Search.{longestLog};
 
 // ---- the head
 
 // A number of boards or pages: at least one.
 fn in_range(n: usize, most: usize) -> bool
-    ensures { λ r. ⌜ r ≡ inRange n most ⌝ }
+    ensures { λ r. ⌜ r ≡ (ltb 0 n && leb n most) ⌝ }
 {
     if n == 0 {
         return false;
@@ -73,7 +73,7 @@ fn head_valid(bank: &[u8]) -> bool
 // The directory and a board's block, each handed on as its own part.
 fn block_fits_at(bank: &[u8], boards: usize, pages: usize, board: usize) -> bool
     requires { ⌜ (length (now bank) ≡ bankSize boards pages) × (boards ≤ mostBoards) × (pages ≤ mostPages) × (board < boards) ⌝ }
-    ensures { λ r. ⌜ r ≡ blockFits pages (directoryOf pages (now (bank .entry))) (blockOfPages pages (now (bank .entry)) board) board ⌝ }
+    ensures { λ r. ⌜ r ≡ blockFits pages (directoryOf pages (now (bank .entry))) (blockOf pages (now (bank .entry)) board) board ⌝ }
 {
     let n = pages * ENTRY_SIZE;
     let a = block_at(pages, board);
@@ -88,7 +88,7 @@ fn block_fits_at(bank: &[u8], boards: usize, pages: usize, board: usize) -> bool
 
 fn blocks_fit(bank: &[u8], boards: usize, pages: usize) -> bool
     requires { ⌜ (length (now bank) ≡ bankSize boards pages) × (boards ≤ mostBoards) × (pages ≤ mostPages) ⌝ }
-    ensures { λ r. ⌜ r ≡ everyBelow boards (λ b. blockFits pages (directoryOf pages (now (bank .entry))) (blockOfPages pages (now (bank .entry)) b) b) ⌝ }
+    ensures { λ r. ⌜ r ≡ blocksFit boards pages (now (bank .entry)) ⌝ }
 {
     let mut board = 0;
     while board < boards {
@@ -113,7 +113,7 @@ fn longest_log(block: &[u8], pages: usize) -> usize
     requires { ⌜ (length (now block) ≡ blockSize pages) × (pages ≤ mostPages) ⌝ }
     ensures { λ r. ⌜ r ≡ longestLog pages (now (block .entry)) ⌝ }
 {
-    let stored = larger(stored_count(block, pages, 0), stored_count(block, pages, 1));
+    let stored = larger(area_count(block, pages, 0), area_count(block, pages, 1));
     larger(wide(read_volatile_count(block)), stored)
 }
 
@@ -135,7 +135,7 @@ fn stored_valid(block: &[u8], pages: usize, area: usize, index: usize) -> bool
     ensures { λ r. ⌜ r ≡ storedValid pages area (now (block .entry)) index ⌝ }
 {
     let at = area_at(pages, area) + area_slots_at(pages);
-    record_valid(block, pages, at, stored_count(block, pages, area), index)
+    record_valid(block, pages, at, area_count(block, pages, area), index)
 }
 
 // The slots of an index in all three logs.
@@ -155,8 +155,8 @@ fn slots_valid(block: &[u8], pages: usize, index: usize) -> bool
 
 // "The search for a malformed slot, board by board and slot by slot, ends at the first": whether it comes to its end.
 fn records_valid(bank: &[u8], boards: usize, pages: usize) -> bool
-    requires { ⌜ (length (now bank) ≡ bankSize boards pages) × (boards ≤ mostBoards) × (pages ≤ mostPages) × (everyBelow boards (λ b. countsValid pages (blockOfPages pages (now bank) b)) ≡ true) ⌝ }
-    ensures { λ r. ⌜ r ≡ everyBelow boards (λ b. recordsValid pages (blockOfPages pages (now (bank .entry)) b)) ⌝ }
+    requires { ⌜ (length (now bank) ≡ bankSize boards pages) × (boards ≤ mostBoards) × (pages ≤ mostPages) × (blocksFit boards pages (now bank) ≡ true) ⌝ }
+    ensures { λ r. ⌜ r ≡ logsValid boards pages (now (bank .entry)) ⌝ }
 {
     let size = block_size(pages);
     let mut board = 0;

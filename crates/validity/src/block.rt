@@ -1,10 +1,11 @@
 // The test of a board's block but for its records, on a slice that starts at the block's offset: fixed fields, counts, frames, and what
 // the board and the directory say of each other.
 use crate::parts::frames_valid;
-use crate::parts::wide;
 use crate::parts::zero_run;
 use fields::bytes::get;
+use fields::bytes::wide;
 use fields::copies::holds;
+use fields::frame::right_byte;
 use fields::widths::FRAME_SIZE;
 use fields::widths::SLOT_COUNT;
 use format::block::read_fuse;
@@ -31,13 +32,11 @@ ghost use mathlib.Core.Path.{_≡_};
 ghost use Prim.Native.Nat.{_+_, _*_, _≤_, _<_};
 ghost use lib.ListN.{length};
 ghost use Rattle.model.specs.Definitions.Parts.{byteAt};
-ghost use Rattle.model.specs.Definitions.Layout.{mostBoards, mostPages, byteValues, entrySize, frameSize, areaCountAt, blockSize};
-ghost use Rattle.model.specs.Definitions.Codec.{decodeEntry, decodeBoard, rightOf};
-ghost use Rattle.model.specs.Definitions.WellFormed.{isBlank, rightIn, sameRight};
-ghost use Rattle.format.specs.Areas.{selectedAt};
-ghost use Rattle.validity.specs.BlockChecks.{storedCount, countsValid, framesValidAt, allFramesValid, fieldsValid};
-ghost use Rattle.validity.specs.BoardChecks.{stateValid, boardValid, agrees, pagesAgree};
-ghost use Rattle.validity.specs.BankChecks.{blockFits};
+ghost use Rattle.model.specs.Definitions.Layout.{mostBoards, mostPages, byteValues, entrySize, stateAt, blockSize};
+ghost use Rattle.model.specs.Definitions.Codec.{decodeEntry, rightOf, stateOf};
+ghost use Rattle.model.specs.Definitions.WellFormed.{rightIn};
+ghost use Rattle.model.specs.Definitions.Check.{areaCount, countsValid, allFramesValid, fieldsValid, selectedCount, isBlank, stateValid, boardValid, sameRight};
+ghost use Rattle.model.specs.Definitions.Check.{pageAgrees, pagesAgree, blockFits};
 
 // The selector's byte for area 1.
 const SECOND_AREA: u8 = 1;
@@ -45,9 +44,9 @@ const SECOND_AREA: u8 = 1;
 // ---- counts and frames
 
 // How many records an area of a block holds.
-pub fn stored_count(block: &[u8], pages: usize, area: usize) -> usize
+pub fn area_count(block: &[u8], pages: usize, area: usize) -> usize
     requires { ⌜ (length (now block) ≡ blockSize pages) × (pages ≤ mostPages) × (area < 2) ⌝ }
-    ensures { λ r. ⌜ (r ≡ storedCount pages area (now (block .entry))) × (r < byteValues) ⌝ }
+    ensures { λ r. ⌜ (r ≡ areaCount pages area (now (block .entry))) × (r < byteValues) ⌝ }
 {
     wide(get(block, area_at(pages, area) + AREA_COUNT_AT))
 }
@@ -60,19 +59,10 @@ fn counts_valid(block: &[u8], pages: usize) -> bool
     if SLOT_COUNT < wide(read_volatile_count(block)) {
         return false;
     }
-    if SLOT_COUNT < stored_count(block, pages, 0) {
+    if SLOT_COUNT < area_count(block, pages, 0) {
         return false;
     }
-    stored_count(block, pages, 1) <= SLOT_COUNT
-}
-
-// The frames of all pages from a place of the block on.
-fn frames_valid_at(block: &[u8], pages: usize, at: usize) -> bool
-    requires { ⌜ (at + pages * frameSize ≤ length (now block)) × (pages ≤ mostPages) ⌝ }
-    ensures { λ r. ⌜ r ≡ framesValidAt pages at (now (block .entry)) ⌝ }
-{
-    let n = pages * FRAME_SIZE;
-    frames_valid(&block[at..at + n], pages)
+    area_count(block, pages, 1) <= SLOT_COUNT
 }
 
 // The working frames, and those of both areas.
@@ -80,17 +70,17 @@ fn all_frames_valid(block: &[u8], pages: usize) -> bool
     requires { ⌜ (length (now block) ≡ blockSize pages) × (pages ≤ mostPages) ⌝ }
     ensures { λ r. ⌜ r ≡ allFramesValid pages (now (block .entry)) ⌝ }
 {
-    if !frames_valid_at(block, pages, FRAMES_AT) {
+    if !frames_valid(block, pages, FRAMES_AT) {
         return false;
     }
-    if !frames_valid_at(block, pages, area_at(pages, 0) + AREA_FRAMES_AT) {
+    if !frames_valid(block, pages, area_at(pages, 0) + AREA_FRAMES_AT) {
         return false;
     }
-    frames_valid_at(block, pages, area_at(pages, 1) + AREA_FRAMES_AT)
+    frames_valid(block, pages, area_at(pages, 1) + AREA_FRAMES_AT)
 }
 
 // State and selector in range, the counts, and every frame.
-pub fn fields_valid(block: &[u8], pages: usize) -> bool
+fn fields_valid(block: &[u8], pages: usize) -> bool
     requires { ⌜ (length (now block) ≡ blockSize pages) × (pages ≤ mostPages) ⌝ }
     ensures { λ r. ⌜ r ≡ fieldsValid pages (now (block .entry)) ⌝ }
 {
@@ -111,7 +101,7 @@ pub fn fields_valid(block: &[u8], pages: usize) -> bool
 // How many records the selected area holds.
 fn selected_count(block: &[u8], pages: usize) -> usize
     requires { ⌜ (length (now block) ≡ blockSize pages) × (pages ≤ mostPages) ⌝ }
-    ensures { λ r. ⌜ (r ≡ byteAt (now (block .entry)) (selectedAt pages (now (block .entry)) + areaCountAt)) × (r < byteValues) ⌝ }
+    ensures { λ r. ⌜ (r ≡ selectedCount pages (now (block .entry))) × (r < byteValues) ⌝ }
 {
     wide(get(block, selected_at(block, pages) + AREA_COUNT_AT))
 }
@@ -119,7 +109,7 @@ fn selected_count(block: &[u8], pages: usize) -> usize
 // "a dark board has access number, since, volatile count and frames zero and no fuse"
 fn blank(block: &[u8], pages: usize) -> bool
     requires { ⌜ (length (now block) ≡ blockSize pages) × (pages ≤ mostPages) ⌝ }
-    ensures { λ r. ⌜ r ≡ isBlank (decodeBoard pages (now (block .entry))) ⌝ }
+    ensures { λ r. ⌜ r ≡ isBlank pages (now (block .entry)) ⌝ }
 {
     if read_number(block) != 0 {
         return false;
@@ -139,7 +129,7 @@ fn blank(block: &[u8], pages: usize) -> bool
 // What a board's state asks of its replay place, its volatile log and, of a down board, the rest.
 fn state_valid(block: &[u8], pages: usize) -> bool
     requires { ⌜ (length (now block) ≡ blockSize pages) × (pages ≤ mostPages) ⌝ }
-    ensures { λ r. ⌜ r ≡ stateValid (decodeBoard pages (now (block .entry)) .state) (decodeBoard pages (now (block .entry))) ⌝ }
+    ensures { λ r. ⌜ r ≡ stateValid (stateOf (byteAt (now (block .entry)) stateAt)) pages (now (block .entry)) ⌝ }
 {
     let place = read_place(block);
     match read_state(block) {
@@ -162,7 +152,7 @@ fn state_valid(block: &[u8], pages: usize) -> bool
 // "fuse not 0", "stored plus volatile at most 32 for the selected area", and what the state asks.
 fn board_valid(block: &[u8], pages: usize) -> bool
     requires { ⌜ (length (now block) ≡ blockSize pages) × (pages ≤ mostPages) ⌝ }
-    ensures { λ r. ⌜ r ≡ boardValid (decodeBoard pages (now (block .entry))) ⌝ }
+    ensures { λ r. ⌜ r ≡ boardValid pages (now (block .entry)) ⌝ }
 {
     if read_fuse(block) == 0 {
         return false;
@@ -175,38 +165,27 @@ fn board_valid(block: &[u8], pages: usize) -> bool
 
 // ---- what a board and the directory say of each other
 
-// The right that a directory entry gives a board.
-pub fn right_in(entry: &[u8], board: usize) -> Right
+// A frame's byte stands for the right that a directory entry gives a board: each right by one comparison, no right is made first.
+fn right_agrees(entry: &[u8], right: u8, board: usize) -> bool
     requires { ⌜ (length (now entry) ≡ entrySize) × (board < mostBoards) ⌝ }
-    ensures { λ r. ⌜ r ≡ rightIn (decodeEntry (now (entry .entry))) board ⌝ }
+    ensures { λ r. ⌜ r ≡ sameRight (rightOf right) (rightIn (decodeEntry (now (entry .entry))) board) ⌝ }
 {
     if wide(entry[OWNER_AT]) == board {
-        return Right::Own;
+        return right_byte(Right::Copy) < right;
     }
     if holds(board, entry[COPIES_AT]) {
-        return Right::Copy;
+        return right == right_byte(Right::Copy);
     }
-    Right::None
-}
-
-// Whether a byte stands for a right, by the right's one comparison: a frame's byte is not made a right first.
-fn stands_for(b: u8, right: Right) -> bool
-    ensures { λ r. ⌜ r ≡ sameRight (rightOf b) right ⌝ }
-{
-    match right {
-        Right::None => b == 0,
-        Right::Copy => b == 1,
-        Right::Own => 1 < b,
-    }
+    right == right_byte(Right::None)
 }
 
 // An up board's right is the directory's; another board has no copy.
 fn page_agrees(entry: &[u8], right: u8, up: bool, board: usize) -> bool
     requires { ⌜ (length (now entry) ≡ entrySize) × (board < mostBoards) ⌝ }
-    ensures { λ r. ⌜ r ≡ agrees up (rightOf right) (decodeEntry (now (entry .entry))) board ⌝ }
+    ensures { λ r. ⌜ r ≡ pageAgrees up (rightOf right) (decodeEntry (now (entry .entry))) board ⌝ }
 {
     if up {
-        return stands_for(right, right_in(entry, board));
+        return right_agrees(entry, right, board);
     }
     !holds(board, entry[COPIES_AT])
 }

@@ -1,5 +1,6 @@
 // Tests of the small parts of a bank, each on its own bytes: a page, a frame, a slot, a directory entry.
 use fields::bytes::get_u32;
+use fields::bytes::wide;
 use fields::copies::holds;
 use fields::frame::right_byte;
 use fields::slot::COPY_MARK1;
@@ -26,18 +27,10 @@ ghost use mathlib.Core.Path.{_≡_};
 ghost use Prim.Native.Nat.{_+_, _*_, _≤_, _<_};
 ghost use lib.ListN.{length};
 ghost use Rattle.words.specs.LittleEndian.{numberOf};
-ghost use Rattle.model.specs.Definitions.Parts.{part, every, decodeAll};
+ghost use Rattle.model.specs.Definitions.Parts.{part};
 ghost use Rattle.model.specs.Definitions.Layout.{mostBoards, mostPages, byteValues, lastNumber, numberSize, entrySize, pageSize, frameSize, slotSize};
 ghost use Rattle.model.specs.Definitions.Codec.{decodeEntry};
-ghost use Rattle.model.specs.Definitions.WellFormed.{isZero, frameValid, framesValid, slotValid, entryValid};
-ghost use Rattle.validity.specs.PartChecks.{gotMark, bareMark, markFits};
-
-// A byte as a number that counts or indexes.
-pub fn wide(b: u8) -> usize
-    ensures { λ r. ⌜ (r ≡ b) × (r < byteValues) ⌝ }
-{
-    b as usize
-}
+ghost use Rattle.model.specs.Definitions.Check.{isZero, frameValid, framesValid, gotMark, bareMark, markFits, slotValid, entryValid, directoryValid};
 
 // The `n` bytes at a place are all zero: their sum is, which takes no branch for each byte.
 pub fn zero_run(s: &[u8], at: usize, n: usize) -> bool
@@ -62,7 +55,7 @@ fn word(s: &[u8], at: usize) -> u64
 }
 
 // The page at a place is zero: the sum of its four words is, which takes four loads and one branch.
-pub fn zero_page(s: &[u8], at: usize) -> bool
+fn zero_page(s: &[u8], at: usize) -> bool
     requires { ⌜ at + pageSize ≤ length (now s) ⌝ }
     ensures { λ r. ⌜ r ≡ isZero (part (now (s .entry)) at pageSize) ⌝ }
 {
@@ -72,7 +65,7 @@ pub fn zero_page(s: &[u8], at: usize) -> bool
 }
 
 // A frame's right is in range, and its page zero under right none.
-pub fn frame_valid(frame: &[u8]) -> bool
+fn frame_valid(frame: &[u8]) -> bool
     requires { ⌜ length (now frame) ≡ frameSize ⌝ }
     ensures { λ r. ⌜ r ≡ frameValid (now (frame .entry)) ⌝ }
 {
@@ -86,15 +79,15 @@ pub fn frame_valid(frame: &[u8]) -> bool
     zero_page(frame, FRAME_BYTES_AT)
 }
 
-// Every frame of a run of frames.
-pub fn frames_valid(frames: &[u8], pages: usize) -> bool
-    requires { ⌜ length (now frames) ≡ pages * frameSize ⌝ }
-    ensures { λ r. ⌜ r ≡ framesValid pages (now (frames .entry)) ⌝ }
+// The frames of all pages, from a place on.
+pub fn frames_valid(s: &[u8], pages: usize, at: usize) -> bool
+    requires { ⌜ (at + pages * frameSize ≤ length (now s)) × (pages ≤ mostPages) ⌝ }
+    ensures { λ r. ⌜ r ≡ framesValid pages at (now (s .entry)) ⌝ }
 {
     let mut page = 0;
     while page < pages {
-        let a = page * FRAME_SIZE;
-        if !frame_valid(&frames[a..a + FRAME_SIZE]) {
+        let a = at + page * FRAME_SIZE;
+        if !frame_valid(&s[a..a + FRAME_SIZE]) {
             return false;
         }
         page += 1;
@@ -167,7 +160,7 @@ pub fn slot_valid(slot: &[u8], pages: usize) -> bool
 }
 
 // A directory entry names a board of the bank, and copy holders that are boards and not the owner.
-pub fn entry_valid(entry: &[u8], boards: usize) -> bool
+fn entry_valid(entry: &[u8], boards: usize) -> bool
     requires { ⌜ (length (now entry) ≡ entrySize) × (boards ≤ mostBoards) ⌝ }
     ensures { λ r. ⌜ r ≡ entryValid boards (decodeEntry (now (entry .entry))) ⌝ }
 {
@@ -185,7 +178,7 @@ pub fn entry_valid(entry: &[u8], boards: usize) -> bool
 // Every entry of the directory.
 pub fn directory_valid(directory: &[u8], boards: usize, pages: usize) -> bool
     requires { ⌜ (length (now directory) ≡ pages * entrySize) × (boards ≤ mostBoards) ⌝ }
-    ensures { λ r. ⌜ r ≡ every (entryValid boards) (decodeAll decodeEntry entrySize pages (now (directory .entry))) ⌝ }
+    ensures { λ r. ⌜ r ≡ directoryValid boards pages (now (directory .entry)) ⌝ }
 {
     let mut page = 0;
     while page < pages {

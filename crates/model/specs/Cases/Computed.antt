@@ -5,19 +5,26 @@ use mathlib.Core.List.{[], _∷_}
 use Rattle.model.specs.Definitions.Parts.{every}
 use Rattle.model.specs.Definitions.Bank.{fresh}
 use Rattle.model.specs.Definitions.Calls.{Reading, Writing, Cutting}
-use Rattle.model.specs.History.Statement.{noHistory, ofBoard, discard, doneEvent, eventOf, entryCount, repeats, withNumberOf, bytesFrom, withEntry, fed, zeroMemory, byteIn, written, accessOf, liveBank, giverIn, gaveIn, grantedAfter, nextEntry}
+use Rattle.model.specs.History.Statement.{noHistory, ofBoard, discard, doneEvent, eventOf, entryCount, repeats, withNumberOf, bytesFrom, withEntry, fed}
+use Rattle.model.specs.History.Statement.{zeroMemory, byteIn, written, accessOf, liveBank, giverIn, gaveIn, grantedAfter, nextEntry}
 use Rattle.model.specs.History.Tests.{sameBytes, sameAccess, doneOrLost, repeatsEntry, premiseFor, oneMemoryTest, gaveEntry, repeatFor, grantsFor}
 use Rattle.model.specs.History.Banks.{historyAfter, grantsAfter}
 use Rattle.model.specs.Cases.Evaluate.{evaluate}
 use Rattle.model.specs.Cases.Digest.{taken, digestFrom, digest}
-use Rattle.model.specs.Cases.Table.{agrees, caseA, caseBCut, caseB, boardOutOfRange, restartOfUpBoard, replayDiffers, ownerNotUp, alternating, alternatingWrites, fuseBlows, lastOffset, scripts, lengths}
-use Rattle.model.specs.Cases.Worked.{callsOf, fuseAtReplayEnd, everyEntry, fuseInFlush, fuseAtSelector, givenAfterReplay, takerCut, histories, otherByte, otherByteRepeated, twoDue}
+use Rattle.model.specs.Cases.Table.{agrees, caseA, caseBCut, caseB, boardOutOfRange, restartOfUpBoard, replayDiffers, ownerNotUp, alternating}
+use Rattle.model.specs.Cases.Table.{alternatingWrites, fuseBlows, lastOffset, scripts, lengths}
+use Rattle.model.specs.Cases.Worked.{callsOf, fuseAtReplayEnd, everyEntry, fuseInFlush, fuseAtSelector, givenAfterReplay, takerCut, refusedInReplay}
+use Rattle.model.specs.Cases.Worked.{histories, otherByte, otherByteRepeated, twoDue}
 use Rattle.model.specs.Cases.Running.{leavesOn, passesOn, passesFresh, premisesOn, claimsOn, holdsOn, grantsIn}
-use Rattle.model.specs.Definitions.WellFormed.{sizesAllowed}
+use Rattle.model.specs.Definitions.Check.{sizesAllowed}
 
 -- A theorem that says `unfolding evaluate tables` computes with the definitions of the history and of the tables too
 unfoldable pub tables : Unit {0}
-unfolding noHistory ofBoard discard doneEvent eventOf entryCount repeats withNumberOf bytesFrom withEntry fed zeroMemory byteIn written accessOf liveBank giverIn gaveIn grantedAfter nextEntry sameBytes sameAccess doneOrLost repeatsEntry premiseFor oneMemoryTest gaveEntry repeatFor grantsFor historyAfter grantsAfter leavesOn passesOn passesFresh premisesOn claimsOn holdsOn grantsIn taken digestFrom digest agrees caseA caseBCut caseB boardOutOfRange restartOfUpBoard replayDiffers ownerNotUp alternating alternatingWrites fuseBlows lastOffset scripts lengths callsOf fuseAtReplayEnd everyEntry fuseInFlush fuseAtSelector givenAfterReplay takerCut histories otherByte otherByteRepeated twoDue
+unfolding noHistory ofBoard discard doneEvent eventOf entryCount repeats withNumberOf bytesFrom withEntry fed zeroMemory byteIn written accessOf liveBank
+    giverIn gaveIn grantedAfter nextEntry sameBytes sameAccess doneOrLost repeatsEntry premiseFor oneMemoryTest gaveEntry repeatFor grantsFor historyAfter
+    grantsAfter leavesOn passesOn passesFresh premisesOn claimsOn holdsOn grantsIn taken digestFrom digest agrees caseA caseBCut caseB boardOutOfRange
+    restartOfUpBoard replayDiffers ownerNotUp alternating alternatingWrites fuseBlows lastOffset scripts lengths callsOf fuseAtReplayEnd everyEntry fuseInFlush
+    fuseAtSelector givenAfterReplay takerCut refusedInReplay histories otherByte otherByteRepeated twoDue
 tables = tt
 
 pub lengths-hold : lengths ≡ true

@@ -5,7 +5,8 @@ use Prim.Native.Nat.{ℕ}
 use mathlib.Core.Bool.{true, false, _&&_}
 use Rattle.words.specs.Bytes.{Each}
 use Rattle.model.specs.Definitions.Bank.{fresh}
-use Rattle.model.specs.Definitions.WellFormed.{sizesAllowed, SizesOk}
+use Rattle.model.specs.Definitions.WellFormed.{SizesOk}
+use Rattle.model.specs.Definitions.Check.{sizesAllowed}
 use Rattle.model.specs.Laws.Logic.{and-left, and-right}
 use Rattle.model.specs.Laws.Lists.{every-each}
 use Rattle.model.specs.History.Statement.{noHistory, begin, Premises, Claims}

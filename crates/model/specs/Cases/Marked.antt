@@ -7,11 +7,12 @@ use Rattle.model.specs.Laws.Lists.{every-each}
 use Rattle.model.specs.Cases.Table.{scripts, table}
 use Rattle.model.specs.Cases.Computed.{lengths-hold, scripts-sized, scripts-hold}
 use Rattle.model.specs.Cases.OnBank.{every-fresh}
-use Rattle.model.specs.Definitions.WellFormed.{sizesAllowed}
+use Rattle.model.specs.Definitions.Check.{sizesAllowed}
 use Rattle.model.specs.Laws.Fresh.{sizes-say}
 
 pub marked-cases : table ≡ true
 unfolding table
 marked-cases =
     and-both lengths-hold
-    (every-fresh scripts (every-each (λ c. sizesAllowed (c .boards) (c .pages)) scripts (λ c t. sizes-say (c .boards) (c .pages) t) scripts-sized) ∙ scripts-hold)
+    (every-fresh scripts (every-each (λ c. sizesAllowed (c .boards) (c .pages)) scripts (λ c t. sizes-say (c .boards) (c .pages) t) scripts-sized)
+    ∙ scripts-hold)

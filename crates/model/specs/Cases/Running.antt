@@ -13,7 +13,7 @@ use Rattle.model.specs.History.Banks.{historyAfter, grantsAfter}
 use Rattle.model.specs.Cases.Digest.{digest}
 use Rattle.model.specs.Cases.Table.{Line, Left, Anything, Digest, RecoveryPoint, Script, agrees}
 use Rattle.model.specs.Cases.Worked.{Worked}
-use Rattle.model.specs.Definitions.WellFormed.{sizesAllowed}
+use Rattle.model.specs.Definitions.Check.{sizesAllowed}
 
 -- ---- the table of answers
 

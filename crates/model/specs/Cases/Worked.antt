@@ -44,6 +44,11 @@ takerCut =
     Writing 0 0 0 5 ∷ Reading 1 2 0 ∷ Fusing 1 1 ∷ Writing 1 0 0 6 ∷ Restarting 1 ∷ Reading 1 2 0 ∷ Cutting 0 ∷ Restarting 0 ∷ Writing 0 0 0 5 ∷ Reading 0 0 0
     ∷ Reading 1 0 0 ∷ []
 
+-- a replaying board asks for what its log doesn't have, code 5, and then goes on as if it had not; its next write drops the copy that board 1 holds
+unfoldable pub refusedInReplay : List Call
+refusedInReplay =
+    Writing 0 0 0 5 ∷ Reading 1 0 0 ∷ Cutting 0 ∷ Restarting 0 ∷ Reading 0 1 0 ∷ Writing 0 0 0 5 ∷ Writing 0 0 0 7 ∷ Reading 1 0 0 ∷ []
+
 unfoldable pub histories : List Worked
 histories =
     record { boards = 2; pages = 1; calls = callsOf caseA }
@@ -54,6 +59,7 @@ histories =
     ∷ record { boards = 2; pages = 1; calls = fuseAtSelector }
     ∷ record { boards = 2; pages = 2; calls = givenAfterReplay }
     ∷ record { boards = 2; pages = 3; calls = takerCut }
+    ∷ record { boards = 2; pages = 2; calls = refusedInReplay }
     ∷ []
 
 -- ---- those that break it

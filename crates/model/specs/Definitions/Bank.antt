@@ -84,8 +84,11 @@ boardAt k b = getD (k .boards) b noBoard
 abbrev pub noEntry : Entry
 noEntry = record { owner = 0; copies = 0 }
 
+abbrev pub entryIn : List Entry → ℕ → Entry
+entryIn d p = getD d p noEntry
+
 unfoldable pub entryAt : Bank → ℕ → Entry
-entryAt k p = getD (k .directory) p noEntry
+entryAt k p = entryIn (k .directory) p
 
 unfoldable pub frameAt : List Frame → ℕ → Frame
 frameAt fs p = getD fs p emptyFrame

@@ -15,8 +15,10 @@ use Rattle.model.specs.Definitions.Parts.{firstBelow, member}
 use Rattle.model.specs.Definitions.Layout.{byteValues, pageSize, slotCount, noFuse, lastSince, lastNumber, bankSize}
 use Rattle.model.specs.Definitions.Bank.{Board, Bank, boardAt, entryAt, onBoard, fresh}
 use Rattle.model.specs.Definitions.Codec.{encode, decode}
-use Rattle.model.specs.Definitions.WellFormed.{wellFormed, isUp, isDown, isReplaying, sizesAllowed}
-use Rattle.model.specs.Definitions.Steps.{Run, start, step, powerOff, withFuse, checkpoint, Access, Read, Write, pageNamed, takes, valueOf, access, giver, dropCopies, fetch}
+use Rattle.model.specs.Definitions.WellFormed.{isUp, isDown, isReplaying}
+use Rattle.model.specs.Definitions.Check.{wellFormed, sizesAllowed}
+use Rattle.model.specs.Definitions.Steps.{Run, start, step, powerOff, withFuse, checkpoint, Access, Read, Write, pageNamed, takes, valueOf, access, giver}
+use Rattle.model.specs.Definitions.Steps.{dropCopies, fetch}
 use Rattle.model.specs.Definitions.Replay.{loaded, usedUp, lacking, differs, tookDue, replayOver, endReplay, endIfOver, replayed}
 
 -- ==== a call's result on a bank
@@ -185,6 +187,11 @@ pub data Call : Type 0 where
   Cutting : (board : ℕ) → Call
   Fusing : (board stores : ℕ) → Call
   Restarting : (board : ℕ) → Call
+
+-- the call that an access of a board is
+unfoldable pub callOf : ℕ → Access → Call
+callOf b (Read p o) = Reading b p o
+callOf b (Write p o v) = Writing b p o v
 
 unfoldable pub callBank : Call → Bank → Result
 callBank (Reading b p o) k = accessBank b (Read p o) k

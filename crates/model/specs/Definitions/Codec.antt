@@ -16,7 +16,11 @@ use Rattle.types.specs.declared.Record.{Record}
 use Rattle.types.specs.declared.State.{State}
 use Rattle.types.specs.declared.State.the-variants.{Up, Down, Replaying}
 use Rattle.model.specs.Definitions.Parts.{part, byteAt, encodeAll, decodeAll}
-use Rattle.model.specs.Definitions.Layout.{pageSize, entrySize, frameSize, slotSize, slotsSize, ownerAt, copiesAt, rightAt, frameBytesAt, mark0At, mark1At, slotPageAt, recordCountAt, slotBytesAt, letterG, letterC, letterO, letterS, letterH, letterD, letterR, fuseSize, numberSize, sinceSize, stateAt, selectorAt, fuseAt, numberAt, sinceAt, placeAt, volatileCountAt, framesAt, slotsAt, areaAt, areaSize, areaNumberAt, areaCountAt, areaFramesAt, areaSlotsAt, blockSize, headMark0, headMark1, headSize, boardsAt, pagesAt, blocksAt}
+use Rattle.model.specs.Definitions.Layout.{pageSize, entrySize, frameSize, slotSize, slotsSize, ownerAt, copiesAt, rightAt, frameBytesAt, mark0At}
+use Rattle.model.specs.Definitions.Layout.{mark1At, slotPageAt, recordCountAt, slotBytesAt, letterG, letterC, letterO, letterS, letterH, letterD, letterR}
+use Rattle.model.specs.Definitions.Layout.{fuseSize, numberSize, sinceSize, stateAt, selectorAt, fuseAt, numberAt, sinceAt, placeAt, volatileCountAt}
+use Rattle.model.specs.Definitions.Layout.{framesAt, slotsAt, areaAt, areaSize, areaNumberAt, areaCountAt, areaFramesAt, areaSlotsAt, blockSize}
+use Rattle.model.specs.Definitions.Layout.{headMark0, headMark1, headSize, boardsAt, pagesAt, blocksAt}
 use Rattle.model.specs.Definitions.Bank.{Entry, Log, Area, Stable, Board, Bank}
 
 -- ---- "Directory, per page: owner; copy-set"

@@ -53,6 +53,12 @@ headMark0 = 66
 abbrev pub headMark1 : ℕ
 headMark1 = 75
 
+abbrev pub headMark0At : ℕ
+headMark0At = 0
+
+abbrev pub headMark1At : ℕ
+headMark1At = 1
+
 abbrev pub boardsAt : ℕ
 boardsAt = 2
 

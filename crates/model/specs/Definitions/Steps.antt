@@ -17,7 +17,8 @@ use Rattle.types.specs.declared.Record.{Record}
 use Rattle.types.specs.declared.State.the-variants.{Down}
 use Rattle.model.specs.Definitions.Parts.{zeros, each, member, withMember, withoutMember}
 use Rattle.model.specs.Definitions.Layout.{pageSize, slotSize, noFuse}
-use Rattle.model.specs.Definitions.Bank.{Entry, Log, Working, Board, Bank, emptyFrame, emptyLog, boardAt, entryAt, frameAt, onBoard, onEntry, onWorking, onSpare, onFrames}
+use Rattle.model.specs.Definitions.Bank.{Entry, Log, Working, Board, Bank, emptyFrame, emptyLog, boardAt, entryAt, frameAt, onBoard, onEntry, onWorking}
+use Rattle.model.specs.Definitions.Bank.{onSpare, onFrames}
 use Rattle.model.specs.Definitions.Codec.{encodeLog}
 
 -- ==== a call in progress

@@ -18,7 +18,7 @@ use Rattle.model.specs.Definitions.WellFormed.{isReplaying, WellFormed}
 use Rattle.model.specs.Definitions.Steps.{Run, Access}
 use Rattle.model.specs.Definitions.Replay.{tookDue, replayOver}
 use Rattle.model.specs.Definitions.Calls.{firstOf, accessRefusals, Call, Restarting, callBank}
-use Rattle.model.specs.Laws.Codes.Statement.{boardOf, afterReplay}
+use Rattle.model.specs.Laws.Codes.Statement.{boardNamed, afterReplay}
 use Rattle.model.specs.History.Statement.{accessOf}
 
 -- ==== what a call gives
@@ -86,7 +86,7 @@ heard b (c ∷ cs) k =
     elim (isReplaying (boardAt k b .state)) [
       | false ↦ []
       | true ↦
-          elim (eqb (boardOf c) b) [
+          elim (eqb (boardNamed c) b) [
             | false ↦ heard b cs (callBank c k .run .bank)
             | true ↦
                 elim (liveIn (accessOf c) k) [
@@ -133,7 +133,7 @@ endFrom b cs k =
 -- the calls of board b: its accesses, and the fuses that are set on it
 unfoldable pub callsOf : ℕ → List Call → List Call
 callsOf b [] = []
-callsOf b (c ∷ cs) = elim (eqb (boardOf c) b) [ true ↦ c ∷ callsOf b cs | false ↦ callsOf b cs ]
+callsOf b (c ∷ cs) = elim (eqb (boardNamed c) b) [ true ↦ c ∷ callsOf b cs | false ↦ callsOf b cs ]
 
 -- number, frames and records; not the bytes behind them
 pub record SameArea (a c : Area) : Type 0 where

@@ -11,7 +11,8 @@ use Rattle.model.specs.Laws.Logic.{cases}
 use lib.ListN.{length}
 use Rattle.model.specs.Definitions.Bank.{Bank, fresh}
 use Rattle.model.specs.Definitions.Codec.{encode, decode}
-use Rattle.model.specs.Definitions.WellFormed.{WellFormed, sizesAllowed}
+use Rattle.model.specs.Definitions.WellFormed.{WellFormed}
+use Rattle.model.specs.Definitions.Check.{sizesAllowed}
 use Rattle.model.specs.Definitions.Calls.{Call, callBank, replyOf, call}
 use Rattle.model.specs.Laws.CodecBank.{decode-encode}
 use Rattle.model.specs.Laws.WellFormedTest.{wellFormed-complete, fields-of}

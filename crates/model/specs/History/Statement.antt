@@ -25,7 +25,8 @@ use Rattle.model.specs.Definitions.Calls.{Call, Reading, Writing, Checkp
 
 -- ==== the history
 
--- A line of the roll: "board, kind, page, offset, the byte read or written". The access says the cells it reads and writes; a byte for each cell read stands beside it.
+-- A line of the roll: "board, kind, page, offset, the byte read or written". The access says the cells it reads and writes; a byte for each cell read
+-- stands beside it.
 pub record HistoryEntry : Type 0 where
   pub board : ℕ
   pub access : Access
@@ -88,7 +89,7 @@ eventOf c (PowerLost b) = LostPower b
 unfoldable pub entryCount : ℕ → History → ℕ
 entryCount b h = length (ofBoard b (h .entries))
 
--- whether a board's afterSeen access repeats an entry: "its board's mark is below the number of its lines"
+-- whether a board's next access repeats an entry: "its board's mark is below the number of its lines"
 unfoldable pub repeats : ℕ → History → Bool
 repeats b h = ltb (h .cursor b) (entryCount b h)
 
@@ -218,7 +219,7 @@ after c t = afterSeen (defined c (t .bytes)) t
 
 -- ==== premise and claim
 
--- the entry that a board's afterSeen access repeats, if there is one
+-- the entry that a board's next access repeats, if there is one
 unfoldable pub nextEntry : ℕ → History → Option HistoryEntry
 nextEntry b h = getElem? (ofBoard b (h .entries)) (h .cursor b)
 

@@ -22,7 +22,9 @@ use Rattle.model.specs.Definitions.Answers.{code}
 use Rattle.model.specs.Definitions.Calls.{Call, call}
 use Rattle.model.specs.Laws.Logic.{clash, or-then, then-or}
 use Rattle.model.specs.Laws.Tests.{Says, says-and, says-below, says-le, says-eq, says-replaying}
-use Rattle.model.specs.History.Statement.{HistoryEntry, History, System, Memory, zeroMemory, byteIn, written, OneMemory, accessOf, bytesFrom, nextEntry, after, Premise, RepeatAgrees, GrantsStand, Claim, Premises, Claims, afterSeen, PremiseSeen, RepeatSeen, PremisesSeen, ClaimsSeen, runOf}
+use Rattle.model.specs.History.Statement.{HistoryEntry, History, System, Memory, zeroMemory, byteIn, written, OneMemory, accessOf, bytesFrom, nextEntry}
+use Rattle.model.specs.History.Statement.{after, Premise, RepeatAgrees, GrantsStand, Claim, Premises, Claims, afterSeen, PremiseSeen, RepeatSeen}
+use Rattle.model.specs.History.Statement.{PremisesSeen, ClaimsSeen, runOf}
 
 -- ---- equality as tests
 

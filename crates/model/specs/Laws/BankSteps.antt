@@ -14,12 +14,14 @@ use Rattle.model.specs.Definitions.Parts.{part, splice}
 use Rattle.model.specs.Definitions.Layout.{headSize, entrySize, blocksAt, blockSize, bankSize}
 use Rattle.model.specs.Definitions.Bank.{Entry, Board, Bank, noBoard, boardAt, entryAt, frameAt, onBoard, onEntry, noEntry}
 use Rattle.model.specs.Definitions.Codec.{encodeEntry, decodeEntry, encodeBoard, encode, decode}
-use Rattle.model.specs.Definitions.WellFormed.{FrameOk, FieldsOk, SizesOk, WellFormed, blockOf, wellFormed}
+use Rattle.model.specs.Definitions.WellFormed.{FrameOk, FieldsOk, SizesOk, WellFormed}
+use Rattle.model.specs.Definitions.Check.{blockOf, wellFormed}
 use Rattle.model.specs.Definitions.Steps.{Run, burnt, powerOff, store, frameOf}
+use Rattle.model.specs.Contracts.{IsBank, Fields}
 use Rattle.model.specs.Laws.Lists.{each-getD, each-imp, each-set, length-update, update-set}
 use Rattle.model.specs.Laws.Parts.{part-part, part-encodeAll, index-in, each-all}
 use Rattle.model.specs.Laws.Codec.{length-encodeEntry, decode-encodeEntry}
-use Rattle.model.specs.Laws.CodecBank.{bank-pages, bank-directory, length-encodeBoard, length-encode, decode-encode}
+use Rattle.model.specs.Laws.CodecBank.{bank-directory, length-encodeBoard, length-encode, decode-encode}
 use Rattle.model.specs.Laws.CodecBankBack.{encode-decode}
 use Rattle.model.specs.Laws.CodecAt.{encode-onBoard}
 use Rattle.model.specs.Laws.WellFormedTest.{wellFormed-sound, bank-block, fields-of}
@@ -29,16 +31,6 @@ use Rattle.model.specs.Laws.Keeps.Stores.{frameOk-empty}
 use Rattle.model.specs.Laws.Keeps.Accesses.{frameOk-at}
 
 -- ---- what is asked of a bank and of its bytes
-
--- every field of every board in range
-abbrev pub Fields : Bank → Type 0
-Fields k = Each (FieldsOk (length (k .directory))) (k .boards)
-
--- bytes that are those of what they are read as, with every field in range and as many boards and pages as may be
-pub record IsBank (s : List ℕ) : Type 0 where
-  pub back : encode (decode s) ≡ s
-  pub fields : Fields (decode s)
-  pub sizes : SizesOk (length (decode s .boards)) (length (decode s .directory))
 
 pub isBank-test : (s : List ℕ) → wellFormed s ≡ true → IsBank s
 isBank-test s v =
@@ -63,7 +55,7 @@ module _ (k : Bank) where
       → part (encode k) (blocksAt (length (k .directory)) + b * blockSize (length (k .directory))) (blockSize (length (k .directory)))
       ≡ encodeBoard (boardAt k b)
   unfolding blockOf
-  block-part ok b h = rw (bank-pages k) at (bank-block k ok b h)
+  block-part ok b h = bank-block k ok b h
 
   pub entry-part : (p : ℕ) → p < length (k .directory) → part (encode k) (headSize + p * entrySize) entrySize ≡ encodeEntry (entryAt k p)
   unfolding entryAt

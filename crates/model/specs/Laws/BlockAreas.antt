@@ -10,7 +10,8 @@ use Rattle.words.specs.LittleEndianLaws.{length-bytesOf, numberOf-bytesOf}
 use Rattle.types.specs.declared.Frame.{Frame}
 use Rattle.types.specs.declared.Record.{Record}
 use Rattle.model.specs.Definitions.Parts.{part, splice, encodeAll}
-use Rattle.model.specs.Definitions.Layout.{mostPages, slotCount, lastNumber, numberSize, frameSize, slotSize, areaNumberAt, areaCountAt, areaFramesAt, areaSlotsAt}
+use Rattle.model.specs.Definitions.Layout.{mostPages, slotCount, lastNumber, numberSize, frameSize, slotSize, areaNumberAt, areaCountAt, areaFramesAt}
+use Rattle.model.specs.Definitions.Layout.{areaSlotsAt}
 use Rattle.model.specs.Definitions.Bank.{Area, frameAt}
 use Rattle.model.specs.Definitions.Codec.{encodeFrame, decodeFrame, encodeRecord, decodeRecord, encodeLog, encodeArea}
 use Rattle.model.specs.Definitions.WellFormed.{FrameOk, RecordOk, AreaOk}
@@ -19,7 +20,7 @@ use Rattle.model.specs.Laws.Parts.{splice-front, splice-at, splice-amid,
 use Rattle.model.specs.Laws.WrittenTests.{log-count}
 use Rattle.model.specs.Laws.Codec.{area-number, area-frames, area-slots, length-encodeFrames, decode-encodeFrames, length-encodeFrame, decode-encodeLog}
 use Rattle.model.specs.Laws.CodecAt.{frame-read-at, record-read-at, encode-appended, encode-setFrame}
-use Rattle.model.specs.Laws.Keeps.Records.{logOk-appended}
+use Rattle.model.specs.Laws.Keeps.NotedRecords.{logOk-appended}
 use Rattle.model.specs.Laws.Keeps.Checkpoint.{logOk-old}
 use Rattle.model.specs.Laws.Keeps.Accesses.{framesOk-set}
 

@@ -13,15 +13,21 @@ use Rattle.types.specs.declared.Frame.{Frame}
 use Rattle.types.specs.declared.Record.{Record}
 use Rattle.types.specs.declared.State.{State}
 use Rattle.model.specs.Definitions.Parts.{part, splice, byteAt, encodeAll}
-use Rattle.model.specs.Definitions.Layout.{pageSize, noFuse, lastSince, lastNumber, frameSize, frameBytesAt, rightAt, slotSize, slotsSize, fuseSize, numberSize, sinceSize, stateAt, selectorAt, fuseAt, numberAt, sinceAt, placeAt, volatileCountAt, framesAt, slotsAt}
+use Rattle.model.specs.Definitions.Layout.{pageSize, noFuse, lastSince, lastNumber, frameSize, frameBytesAt, rightAt, slotSize, slotsSize, fuseSize}
+use Rattle.model.specs.Definitions.Layout.{numberSize, sinceSize, stateAt, selectorAt, fuseAt, numberAt, sinceAt, placeAt, volatileCountAt, framesAt}
+use Rattle.model.specs.Definitions.Layout.{slotsAt}
 use Rattle.model.specs.Definitions.Bank.{Log, Working, Board, emptyFrame, frameAt, onWorking, onFrames}
-use Rattle.model.specs.Definitions.Codec.{rightByte, encodeFrame, decodeFrame, encodeRecord, decodeRecord, encodeLog, stateByte, selectorByte, encodeFixed, encodeStable, encodeBoard}
+use Rattle.model.specs.Definitions.Codec.{rightByte, encodeFrame, decodeFrame, encodeRecord, decodeRecord, encodeLog, stateByte, selectorByte}
+use Rattle.model.specs.Definitions.Codec.{encodeFixed, encodeStable, encodeBoard}
 use Rattle.model.specs.Definitions.Steps.{withFuse, withFrame, withByte, cellByte}
 use Rattle.model.specs.Definitions.WellFormed.{LogOk, FramesOk, FieldsOk}
 use Rattle.model.specs.Laws.Lists.{each-imp, each-getD}
-use Rattle.model.specs.Laws.Parts.{part-part, part-append-left, part-end, splice-append-left, splice-append-right, splice-front, splice-at, splice-amid, splice-behind, splice-within, splice-one, byteAt-part, index-in, part-encodeAll, encodeAll-set}
-use Rattle.model.specs.Laws.Codec.{length-encodeFrame, decode-encodeFrame, length-encodeFrames, length-encodeRecord, decode-encodeRecord, length-encodeRecords}
-use Rattle.model.specs.Laws.CodecBank.{switches, length-encodeFixed, fixed-state, fixed-selector, fixed-number, fixed-since, board-fixed, board-byte, board-frames, board-slots}
+use Rattle.model.specs.Laws.Parts.{part-part, part-append-left, part-end, splice-append-left, splice-append-right, splice-front, splice-at, splice-amid}
+use Rattle.model.specs.Laws.Parts.{splice-behind, splice-within, splice-one, byteAt-part, index-in, part-encodeAll, encodeAll-set}
+use Rattle.model.specs.Laws.Codec.{length-encodeFrame, decode-encodeFrame, length-encodeFrames, length-encodeRecord, decode-encodeRecord}
+use Rattle.model.specs.Laws.Codec.{length-encodeRecords}
+use Rattle.model.specs.Laws.CodecBank.{switches, length-encodeFixed, fixed-state, fixed-selector, fixed-number, fixed-since, board-fixed, board-byte}
+use Rattle.model.specs.Laws.CodecBank.{board-frames, board-slots}
 use Rattle.model.specs.Laws.Keeps.Accesses.{frameOk-at}
 
 -- a splice of the whole list

@@ -148,7 +148,8 @@ module _ (pages : ℕ) (x : Board) (ok : FieldsOk pages x) (room : RoomOk x) whe
   unfolding flushing onSelected withLog
   storedRecords-fields j h =
       rw (storedRecords-parts j x h)
-      (onWorking-fields (flushing-fields pages x ok room j) (withLog (flushedLog j (x .working .log))) (ok .number) (ok .since) (ok .frames) (flushedLog-ok j h))
+      (onWorking-fields (flushing-fields pages x ok room j) (withLog (flushedLog j (x .working .log))) (ok .number) (ok .since) (ok .frames)
+      (flushedLog-ok j h))
 
 -- ---- the fuse, lowered after each store
 

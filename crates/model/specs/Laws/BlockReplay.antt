@@ -17,7 +17,8 @@ use Rattle.model.specs.Definitions.Steps.{withFrame}
 use Rattle.model.specs.Definitions.Replay.{loaded, used, settledFrame, settled}
 use Rattle.model.specs.Definitions.WellFormed.{FramesOk, FieldsOk}
 use Rattle.model.specs.Laws.Lists.{each-append, each-take, each-drop, each-each, length-each}
-use Rattle.model.specs.Laws.BlockFields.{withState, withNumber, withSince, withPlace, write-state, write-number, write-since, write-place, write-frame, withState-fields, onWorking-fields}
+use Rattle.model.specs.Laws.BlockFields.{withState, withNumber, withSince, withPlace, write-state, write-number, write-since, write-place, write-frame}
+use Rattle.model.specs.Laws.BlockFields.{withState-fields, onWorking-fields}
 use Rattle.model.specs.Laws.Keeps.Replay.{frameOk-settled}
 
 -- ---- elements replaced one by one

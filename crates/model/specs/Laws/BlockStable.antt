@@ -12,17 +12,22 @@ use Rattle.words.specs.LittleEndian.{bytesOf}
 use Rattle.types.specs.declared.Frame.{Frame}
 use Rattle.types.specs.declared.Record.{Record}
 use Rattle.model.specs.Definitions.Parts.{part, splice, byteAt, encodeAll}
-use Rattle.model.specs.Definitions.Layout.{mostPages, slotCount, numberSize, frameSize, slotSize, slotsSize, areaNumberAt, areaCountAt, areaFramesAt, areaSlotsAt, areaSize, selectorAt, slotsAt, areaAt, blockSize}
+use Rattle.model.specs.Definitions.Layout.{mostPages, slotCount, numberSize, frameSize, slotSize, slotsSize, areaNumberAt, areaCountAt, areaFramesAt}
+use Rattle.model.specs.Definitions.Layout.{areaSlotsAt, areaSize, selectorAt, slotsAt, areaAt, blockSize}
 use Rattle.model.specs.Definitions.Bank.{Area, Stable, Board, frameAt, onSpare}
-use Rattle.model.specs.Definitions.Codec.{encodeFrame, encodeRecord, encodeLog, encodeArea, stateByte, selectorByte, encodeFixed, encodeStable, encodeBoard}
+use Rattle.model.specs.Definitions.Codec.{encodeFrame, encodeRecord, encodeLog, encodeArea, stateByte, selectorByte, encodeFixed, encodeStable}
+use Rattle.model.specs.Definitions.Codec.{encodeBoard}
 use Rattle.model.specs.Definitions.WellFormed.{FrameOk, RecordOk, AreaOk, FieldsOk}
 use Rattle.model.specs.Definitions.Steps.{storedFrame, storedHead, storedSelector}
-use Rattle.model.specs.Laws.Parts.{length-part, part-append-right, part-front, part-end, length-splice, part-splice, splice-append-right, splice-front, splice-at, splice-within, splice-again, index-in}
-use Rattle.model.specs.Laws.Codec.{areaHead, length-areaHead, length-encodeArea, length-encodeFrames, length-encodeFrame, length-encodeRecord, length-encodeLog}
+use Rattle.model.specs.Laws.Parts.{length-part, part-append-right, part-front, part-end, length-splice, part-splice, splice-append-right, splice-front}
+use Rattle.model.specs.Laws.Parts.{splice-at, splice-within, splice-again, index-in}
+use Rattle.model.specs.Laws.Codec.{areaHead, length-areaHead, length-encodeArea, length-encodeFrames, length-encodeFrame, length-encodeRecord}
+use Rattle.model.specs.Laws.Codec.{length-encodeLog}
 use Rattle.model.specs.Laws.CodecBank.{length-encodeFixed, length-encodeBoard, eqb-selectorByte}
 use Rattle.model.specs.Laws.Keeps.Accesses.{frameOk-at}
 use Rattle.model.specs.Laws.BlockFields.{read-selector}
-use Rattle.model.specs.Laws.BlockAreas.{withRecord, withAreaFrame, withHead, write-areaRecord, write-areaFrame, write-areaHead, areaOk-record, areaOk-frame, areaOk-head}
+use Rattle.model.specs.Laws.BlockAreas.{withRecord, withAreaFrame, withHead, write-areaRecord, write-areaFrame, write-areaHead, areaOk-record}
+use Rattle.model.specs.Laws.BlockAreas.{areaOk-frame, areaOk-head}
 
 -- ---- a part changed by two splices and put back
 

@@ -14,10 +14,12 @@ use Rattle.types.specs.declared.Kind.{Kind}
 use Rattle.types.specs.declared.Record.{Record}
 use Rattle.types.specs.declared.State.the-variants.{Down}
 use Rattle.model.specs.Definitions.Parts.{splice, zeros, encodeAll}
-use Rattle.model.specs.Definitions.Layout.{slotCount, noFuse, lastSince, lastNumber, frameSize, slotSize, slotsSize, fuseSize, numberSize, sinceSize, stateAt, fuseAt, numberAt, sinceAt, placeAt, volatileCountAt, framesAt, slotsAt}
+use Rattle.model.specs.Definitions.Layout.{slotCount, noFuse, lastSince, lastNumber, frameSize, slotSize, slotsSize, fuseSize, numberSize, sinceSize}
+use Rattle.model.specs.Definitions.Layout.{stateAt, fuseAt, numberAt, sinceAt, placeAt, volatileCountAt, framesAt, slotsAt}
 use Rattle.model.specs.Definitions.Bank.{Log, Board, emptyFrame, emptyLog, onWorking, onFrames}
 use Rattle.model.specs.Definitions.Codec.{rightByte, encodeFrame, encodeRecord, encodeLog, stateByte, encodeBoard}
-use Rattle.model.specs.Definitions.Steps.{poweredOff, withFuse, burnt, appended, recorded, movedRecord, storedRecord, restedWorking, Access, Read, cellsWritten, withBytes, accessed}
+use Rattle.model.specs.Definitions.Steps.{poweredOff, withFuse, burnt, appended, recorded, movedRecord, storedRecord, restedWorking, Access, Read}
+use Rattle.model.specs.Definitions.Steps.{cellsWritten, withBytes, accessed}
 use Rattle.model.specs.Definitions.WellFormed.{RecordOk, LogOk, FramesOk, FieldsOk}
 use Rattle.model.specs.Laws.Parts.{splice-front, splice-append-right, splice-apart, splice-next}
 use Rattle.model.specs.Laws.Codec.{length-encodeRecord, length-encodeRecords, length-encodeLog}
@@ -26,7 +28,9 @@ use Rattle.model.specs.Laws.Lists.{each-map}
 use Rattle.model.specs.Laws.Keeps.Stores.{frameOk-empty}
 use Rattle.model.specs.Laws.Keeps.Accesses.{Writable, framesOk-withBytes}
 use Rattle.model.specs.Laws.Fresh.{zeros-length, emptyLog-ok}
-use Rattle.model.specs.Laws.BlockFields.{withState, withNumber, withSince, withPlace, withLog, write-state, write-fuse, write-number, write-since, write-place, write-count, write-slots, write-all-frames, write-all-slots, fixed-inside, frames-inside, onWorking-fields}
+use Rattle.model.specs.Laws.BlockFields.{withState, withNumber, withSince, withPlace, withLog, write-state, write-fuse, write-number, write-since}
+use Rattle.model.specs.Laws.BlockFields.{write-place, write-count, write-slots, write-all-frames, write-all-slots, fixed-inside, frames-inside}
+use Rattle.model.specs.Laws.BlockFields.{onWorking-fields}
 
 -- ---- zero bytes
 
@@ -96,7 +100,8 @@ module _ (pages : ℕ) (x : Board) (ok : FieldsOk pages x) (kind : Kind) (bytes 
       let w : splice (encodeLog g) (length (g .records) * slotSize) (encodeRecord r) ≡ encodeLog (slotWritten r g) = encode-slotWritten pages r g (ok .log) in
       let y : Board = onWorking (withLog (slotWritten r g)) x in
       rw (
-        write-slots pages x (slotWritten r g) (length (g .records) * slotSize) (encodeRecord r) (ok .frames) (length-encodeLog pages g (ok .log)) (omega arith) refl w,
+        write-slots pages x (slotWritten r g) (length (g .records) * slotSize) (encodeRecord r) (ok .frames) (length-encodeLog pages g (ok .log))
+            (omega arith) refl w,
         c,
         write-count y (appended r g) (encode-appended pages r g v (ok .log .records) ∙ w),
       )
@@ -178,7 +183,8 @@ unfolding onWorking onFrames
 write-zero-run pages x ok n c =
     let fs : List Frame = map (λ f. emptyFrame) (x .working .frames) in
     let y : Board = onWorking (onFrames (λ gs. fs)) x in
-    let e : encodeAll encodeFrame fs ≡ zeros (pages * frameSize) = encode-emptyFrames (x .working .frames) ∙ ap (λ (k : ℕ). zeros (k * frameSize)) (ok .count) in
+    let e : encodeAll encodeFrame fs ≡ zeros (pages * frameSize) = encode-emptyFrames (x .working .frames) ∙ ap (λ (k : ℕ). zeros (k * frameSize)) (ok .count)
+    in
     let m : length (zeros (pages * frameSize)) ≡ pages * frameSize = zeros-length (pages * frameSize) in
     let frames : splice (encodeBoard x) framesAt (zeros (pages * frameSize)) ≡ encodeBoard y = rw e at (write-all-frames pages x fs ok (rw e m)) in
     rw (← zeros-next (encodeBoard x) framesAt (slotsAt pages) (pages * frameSize) slotsSize refl (fixed-inside x), frames)

@@ -4,7 +4,7 @@ use mathlib.Core.Path.{refl, _∙_}
 use Prim.Native.Nat.{ℕ, _-_, _<_}
 use native.Mathlib.Omega.{arith}
 use mathlib.Core.List.{List}
-use lib.ListN.{length, set, length-map}
+use lib.ListN.{set, length-map}
 use lib.Dec.{eqb}
 use Rattle.types.specs.declared.Right.the-variants.{Copy, Own}
 use Rattle.types.specs.declared.Frame.{Frame}
@@ -12,23 +12,20 @@ use Rattle.types.specs.declared.CopyOrOwn.the-variants.{GotCopy}
 use Rattle.types.specs.declared.Kind.{Kind}
 use Rattle.types.specs.declared.Kind.the-variants.{Got, Dropped}
 use Rattle.model.specs.Definitions.Parts.{zeros}
-use Rattle.model.specs.Definitions.Layout.{pageSize, slotCount, noFuse}
+use Rattle.model.specs.Definitions.Layout.{pageSize, noFuse}
 use Rattle.model.specs.Definitions.Bank.{Board, emptyFrame, onWorking, onFrames}
 use Rattle.model.specs.Definitions.Codec.{pageOf}
 use Rattle.model.specs.Definitions.WellFormed.{FrameOk, isGot, FieldsOk}
 use Rattle.model.specs.Definitions.Steps.{poweredOff, burnt, recorded, withFrame, dropped}
+use Rattle.model.specs.Contracts.{Space, Recordable}
 use Rattle.model.specs.Laws.Logic.{cases}
 use Rattle.model.specs.Laws.Lists.{each-map}
 use Rattle.model.specs.Laws.Fresh.{emptyLog-ok}
 use Rattle.model.specs.Laws.Boards.{tookCopy, tookOwn}
 use Rattle.model.specs.Laws.BlockFields.{withFuse-fields, onWorking-fields}
-use Rattle.model.specs.Laws.Keeps.Records.{logOk-appended, Recordable, recordable-plain, recordable-got}
+use Rattle.model.specs.Laws.Keeps.NotedRecords.{logOk-appended, recordable-plain, recordable-got}
 use Rattle.model.specs.Laws.Keeps.Stores.{copy-some, own-some, frameOk-empty, frameOk-right}
 use Rattle.model.specs.Laws.Keeps.Accesses.{framesOk-set}
-
--- a slot is left for one volatile record more
-abbrev pub Space : Board → Type 0
-Space x = length (x .working .log .records) < slotCount
 
 module _ {pages : ℕ} {x : Board} (ok : FieldsOk pages x) where
   pub recorded-fields : (kind : Kind) (bytes : List ℕ) → Recordable pages kind bytes → Space x → FieldsOk pages (onWorking (recorded kind bytes) x)

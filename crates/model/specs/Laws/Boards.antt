@@ -17,7 +17,8 @@ use Rattle.types.specs.declared.Record.{Record}
 use Rattle.types.specs.declared.Kind.the-variants.{Got}
 use Rattle.model.specs.Definitions.Parts.{update, each, member, withMember}
 use Rattle.model.specs.Definitions.Bank.{Entry, Board, Bank, emptyFrame, noBoard, boardAt, entryAt, frameAt, onBoard, onEntry, onWorking, noEntry}
-use Rattle.model.specs.Definitions.Steps.{poweredOff, forgotten, powerOff, recorded, note, movedRecord, storedRecord, withFrame, frameOf, giveCopy, dropped, dropAt, dropCopies, passOwnership}
+use Rattle.model.specs.Definitions.Steps.{poweredOff, forgotten, powerOff, recorded, note, movedRecord, storedRecord, withFrame, frameOf, giveCopy}
+use Rattle.model.specs.Definitions.Steps.{dropped, dropAt, dropCopies, passOwnership}
 use Rattle.model.specs.Definitions.Replay.{settled}
 use Rattle.words.specs.Bytes.{Each, each-nil, each-cons}
 use Rattle.model.specs.Definitions.WellFormed.{rightIn}

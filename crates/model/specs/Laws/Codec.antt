@@ -17,12 +17,15 @@ use Rattle.types.specs.declared.Kind.{Kind}
 use Rattle.types.specs.declared.Kind.the-variants.{Got, Shown, Dropped}
 use Rattle.types.specs.declared.Record.{Record}
 use Rattle.model.specs.Definitions.Parts.{part, byteAt, encodeAll}
-use Rattle.model.specs.Definitions.Layout.{frameBytesAt, areaNumberAt, pageSize, entrySize, frameSize, slotSize, slotsSize, recordCountAt, slotBytesAt, numberSize, sinceSize, areaSize, areaCountAt, areaFramesAt, areaSlotsAt}
+use Rattle.model.specs.Definitions.Layout.{frameBytesAt, areaNumberAt, pageSize, entrySize, frameSize, slotSize, slotsSize, recordCountAt, slotBytesAt}
+use Rattle.model.specs.Definitions.Layout.{numberSize, sinceSize, areaSize, areaCountAt, areaFramesAt, areaSlotsAt}
 use Rattle.model.specs.Definitions.Bank.{Entry, Log, Area}
-use Rattle.model.specs.Definitions.Codec.{encodeEntry, decodeEntry, rightByte, rightOf, encodeFrame, decodeFrame, mark0, mark1, pageOf, kindOf, encodeRecord, decodeRecord, encodeLog, decodeLog, encodeArea, decodeFrames, decodeArea}
+use Rattle.model.specs.Definitions.Codec.{encodeEntry, decodeEntry, rightByte, rightOf, encodeFrame, decodeFrame, mark0, mark1, pageOf, kindOf}
+use Rattle.model.specs.Definitions.Codec.{encodeRecord, decodeRecord, encodeLog, decodeLog, encodeArea, decodeFrames, decodeArea}
 use Rattle.model.specs.Definitions.WellFormed.{FrameOk, RecordOk, LogOk, FramesOk, AreaOk}
 use Rattle.model.specs.Laws.Lists.{each-imp}
-use Rattle.model.specs.Laws.Parts.{part-append-right, part-front, part-at, part-end, byteAt-append-right, length-encodeAll, decodeAll-encodeAll, decodeAll-encodeAll-all, ReadsBack}
+use Rattle.model.specs.Laws.Parts.{part-append-right, part-front, part-at, part-end, byteAt-append-right, length-encodeAll, decodeAll-encodeAll}
+use Rattle.model.specs.Laws.Parts.{decodeAll-encodeAll-all, ReadsBack}
 
 -- ---- an entry of the directory
 

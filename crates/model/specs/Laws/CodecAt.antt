@@ -12,14 +12,17 @@ use Rattle.types.specs.declared.Record.{Record}
 use Rattle.model.specs.Definitions.Parts.{part, splice, encodeAll}
 use Rattle.model.specs.Definitions.Layout.{slotCount, slotsSize, frameSize, slotSize, entrySize, blockSize, headSize, blocksAt}
 use Rattle.model.specs.Definitions.Bank.{Entry, Log, Board, Bank, emptyFrame, noBoard, boardAt, entryAt, frameAt, onBoard, onEntry, noEntry}
-use Rattle.model.specs.Definitions.Codec.{encodeEntry, encodeFrame, decodeFrame, encodeRecord, decodeRecord, encodeLog, decodeLog, decodeFrames, encodeBoard, encode}
+use Rattle.model.specs.Definitions.Codec.{encodeEntry, encodeFrame, decodeFrame, encodeRecord, decodeRecord, encodeLog, decodeLog, decodeFrames}
+use Rattle.model.specs.Definitions.Codec.{encodeBoard, encode}
 use Rattle.model.specs.Definitions.WellFormed.{FrameOk, RecordOk, FramesOk}
 use Rattle.model.specs.Definitions.Steps.{appended}
 use Rattle.model.specs.Laws.Lists.{each-imp, update-set, length-update}
-use Rattle.model.specs.Laws.Parts.{Wide, length-part, part-part, part-splice-within, index-in, each-all, getD-decodeAll, getD-decodeAll-part, decodeAll-snoc, decodeAll-write, decodeAll-part-splice, encodeAll-set, encodeAll-snoc, drop-splice-after, splice-zero, splice-append-right, splice-amid, splice-behind}
+use Rattle.model.specs.Laws.Parts.{Wide, part-part, index-in, each-all, getD-decodeAll, getD-decodeAll-part, decodeAll-snoc, decodeAll-write}
+use Rattle.model.specs.Laws.Parts.{encodeAll-set, encodeAll-snoc, drop-splice-after, splice-zero, splice-append-right, splice-amid, splice-behind}
 use Rattle.model.specs.Laws.CodecBank.{bankHead, length-encodeEntries}
 use Rattle.model.specs.Laws.CodecBack.{slot-in}
-use Rattle.model.specs.Laws.Codec.{length-encodeEntry, length-encodeFrame, decode-encodeFrame, length-encodeRecord, decode-encodeRecord, length-encodeRecords}
+use Rattle.model.specs.Laws.Codec.{length-encodeEntry, length-encodeFrame, decode-encodeFrame, length-encodeRecord, decode-encodeRecord}
+use Rattle.model.specs.Laws.Codec.{length-encodeRecords}
 
 -- ---- frames: any page, in the bytes of the frames, or of frames that start at place a of a longer list
 
@@ -34,13 +37,6 @@ pub frame-back : (pages : ℕ) (l : List ℕ) (p : ℕ) (f : Frame) → FrameOk 
 unfolding decodeFrames
 frame-back pages l p f ok h k =
     decodeAll-write encodeFrame decodeFrame frameSize pages l p f (length-encodeFrame f (ok .size), decode-encodeFrame f ok) h k
-
-pub frame-back-at : (pages : ℕ) (l : List ℕ) (a p : ℕ) (f : Frame) → FrameOk f → p < pages → a + pages * frameSize ≤ length l
-    → decodeFrames pages (part (splice l (a + p * frameSize) (encodeFrame f)) a (pages * frameSize))
-    ≡ set (decodeFrames pages (part l a (pages * frameSize))) p f
-unfolding decodeFrames
-frame-back-at pages l a p f ok h k =
-    rw (decodeAll-part-splice decodeFrame frameSize pages l a p (encodeFrame f) (length-encodeFrame f (ok .size)) h k, decode-encodeFrame f ok)
 
 -- one frame changed is one splice
 pub encode-setFrame : (pages : ℕ) (fs : List Frame) (p : ℕ) (f : Frame) → FramesOk pages fs → FrameOk f → p < pages
@@ -90,26 +86,6 @@ decode-appended pages count l r ok k =
     = rw (drop-drop slotSize (count * slotSize) l, m) (drop-splice-after l (count * slotSize) v (count * slotSize + slotSize) (omega arith) k) in
     λ j. record { records = a j; rest = b j }
 
--- both, of a log that starts at place a
-log-splice : (pages : ℕ) (l : List ℕ) (a i : ℕ) (r : Record) → RecordOk pages r → i < slotCount → a + slotsSize ≤ length l
-    → part (splice l (a + i * slotSize) (encodeRecord r)) a slotsSize ≡ splice (part l a slotsSize) (i * slotSize) (encodeRecord r)
-log-splice pages l a i r ok h k =
-    let m : i * slotSize + slotSize ≤ slotsSize = index-in slotSize slotCount i h in
-    part-splice-within l a slotsSize (i * slotSize) (encodeRecord r) (rw (length-encodeRecord r (ok .size)) m) k
-
-pub record-back-at : (pages count : ℕ) (l : List ℕ) (a i : ℕ) (r : Record) → RecordOk pages r → count ≤ slotCount → i < count → a + slotsSize ≤ length l
-    → decodeLog count (part (splice l (a + i * slotSize) (encodeRecord r)) a slotsSize)
-    ≡ record { records = set (decodeLog count (part l a slotsSize) .records) i r; rest = decodeLog count (part l a slotsSize) .rest }
-record-back-at pages count l a i r ok n h k =
-    let e : length (part l a slotsSize) ≡ slotsSize = length-part l a slotsSize k in
-    rw (log-splice pages l a i r ok (omega arith) k) (record-back pages count (part l a slotsSize) i r ok h (omega arith))
-
-pub decode-appended-at : (pages count : ℕ) (l : List ℕ) (a : ℕ) (r : Record) → RecordOk pages r → count < slotCount → a + slotsSize ≤ length l
-    → decodeLog (count + 1) (part (splice l (a + count * slotSize) (encodeRecord r)) a slotsSize) ≡ appended r (decodeLog count (part l a slotsSize))
-decode-appended-at pages count l a r ok h k =
-    let e : length (part l a slotsSize) ≡ slotsSize = length-part l a slotsSize k in
-    rw (log-splice pages l a count r ok h k) (decode-appended pages count (part l a slotsSize) r ok (omega arith))
-
 -- a record appended is one splice, at the count
 pub encode-appended : (pages : ℕ) (r : Record) (l : Log) → RecordOk pages r → Each (RecordOk pages) (l .records)
     → encodeLog (appended r l) ≡ splice (encodeLog l) (length (l .records) * slotSize) (encodeRecord r)
@@ -143,7 +119,8 @@ encode-onEntry k p f h =
       update-set p f es d h,
       encodeAll-set encodeEntry entrySize es p (f (getD es p d)) (each-all es length-encodeEntry) n h,
     )
-    (sym (splice-amid (bankHead k) (encodeAll encodeEntry es) (encodeAll encodeBoard (k .boards)) (headSize + p * entrySize) (p * entrySize) v refl (omega arith)))
+    (sym (splice-amid (bankHead k) (encodeAll encodeEntry es) (encodeAll encodeBoard (k .boards)) (headSize + p * entrySize) (p * entrySize) v refl
+    (omega arith)))
 
 -- one board changed is one splice
 pub encode-onBoard : (k : Bank) (b : ℕ) (f : Board → Board) → b < length (k .boards)

@@ -1,12 +1,12 @@
--- What was read writes back, part by part, where the executable tests of WellFormed hold: a frame, a record, a log, an area, a block.
+-- What was read writes back, part by part, where the tests of Check pass: a frame, a record, a log, an area, a block.
 -- Assumes nothing.
 use mathlib.Core.Path.{_≡_, refl, _∙_}
 use Prim.Native.Nat.{ℕ, zero, suc, _+_, _*_, _≤_, _<_}
 use native.Mathlib.Omega.{arith}
-use mathlib.Core.Bool.{Bool, true, false}
+use mathlib.Core.Bool.{Bool, true, false, _&&_, _||_}
 use mathlib.Core.List.{List, [], _∷_, _++_, append-assoc}
 use lib.ListN.{length, drop, take-append-drop}
-use lib.Dec.{eqb, leb}
+use lib.Dec.{eqb}
 use borrow.Author.Tests.{leb-true, eqb-true}
 use Rattle.words.specs.Bytes.{Bytes}
 use Rattle.words.specs.LittleEndian.{bytesOf, numberOf}
@@ -15,13 +15,18 @@ use Rattle.types.specs.declared.Right.the-variants.{Own}
 use Rattle.types.specs.declared.Kind.{Kind}
 use Rattle.types.specs.declared.State.the-variants.{Replaying}
 use Rattle.model.specs.Definitions.Parts.{part, byteAt, encodeAll}
-use Rattle.model.specs.Definitions.Layout.{rightAt, frameBytesAt, mark0At, mark1At, areaNumberAt, letterG, letterC, letterO, letterS, letterH, letterD, letterR, pageSize, slotCount, frameSize, slotSize, slotsSize, slotPageAt, slotZeroAt, recordCountAt, slotBytesAt, fuseSize, numberSize, sinceSize, stateAt, selectorAt, fuseAt, numberAt, sinceAt, placeAt, volatileCountAt, framesAt, slotsAt, areaAt, areaSize, areaCountAt, areaFramesAt, areaSlotsAt, blockSize}
+use Rattle.model.specs.Definitions.Layout.{rightAt, frameBytesAt, mark0At, mark1At, areaNumberAt, letterG, letterC, letterO, letterS, letterH, letterD}
+use Rattle.model.specs.Definitions.Layout.{letterR, pageSize, slotCount, frameSize, slotSize, slotsSize, slotPageAt, slotZeroAt, recordCountAt}
+use Rattle.model.specs.Definitions.Layout.{slotBytesAt, fuseSize, numberSize, sinceSize, stateAt, selectorAt, fuseAt, numberAt, sinceAt, placeAt}
+use Rattle.model.specs.Definitions.Layout.{volatileCountAt, framesAt, slotsAt, areaAt, areaSize, areaCountAt, areaFramesAt, areaSlotsAt, blockSize}
 use Rattle.model.specs.Definitions.Bank.{Area}
-use Rattle.model.specs.Definitions.Codec.{rightByte, rightOf, encodeFrame, decodeFrame, mark0, mark1, pageOf, kindOf, encodeRecord, decodeRecord, encodeLog, decodeLog, encodeArea, decodeFrames, decodeArea, stateByte, stateOf, selectorByte, encodeFixed, encodeStable, decodeStable, encodeBoard, decodeBoard}
-use Rattle.model.specs.Definitions.WellFormed.{isMark, frameValid, framesValid, slotValid, logValid, areaValid, blockReadable}
+use Rattle.model.specs.Definitions.Codec.{rightByte, rightOf, encodeFrame, decodeFrame, mark0, mark1, pageOf, kindOf, encodeRecord, decodeRecord}
+use Rattle.model.specs.Definitions.Codec.{encodeLog, decodeLog, encodeArea, decodeFrames, decodeArea, stateByte, stateOf, selectorByte, encodeFixed}
+use Rattle.model.specs.Definitions.Codec.{encodeStable, decodeStable, encodeBoard, decodeBoard}
+use Rattle.model.specs.Definitions.Check.{frameValid, gotMark, bareMark, markFits, slotValid}
 use Rattle.model.specs.Laws.Logic.{clash, cases, byBool, and-left, and-right}
-use Rattle.model.specs.Laws.Lists.{everyBelow-at}
-use Rattle.model.specs.Laws.Parts.{each-part, length-part, part-rest, part-last, byte-rest, index-in, encodeAll-decodeAll, encodeAll-decodeAll-all, length-decodeAll}
+use Rattle.model.specs.Laws.Parts.{each-part, length-part, part-rest, part-last, byte-rest, index-in, encodeAll-decodeAll, encodeAll-decodeAll-all}
+use Rattle.model.specs.Laws.Parts.{length-decodeAll}
 
 -- ---- a number and a frame
 
@@ -41,19 +46,18 @@ encode-decodeFrame l v e =
     rw (rightByte-rightOf (byteAt l rightAt) (leb-true (byteAt l rightAt) (rightByte Own) (and-left _ _ v)), part-last l frameBytesAt pageSize e)
     (byte-rest l rightAt (omega arith))
 
-pub framesValid-at : (pages : ℕ) (l : List ℕ) (p : ℕ) → framesValid pages l ≡ true → p < pages
-    → frameValid (part l (p * frameSize) frameSize) ≡ true
-unfolding framesValid
-framesValid-at pages l p v h = everyBelow-at pages p (λ q. frameValid (part l (q * frameSize) frameSize)) v h
+-- the frames of all pages
+abbrev pub FramesPass : ℕ → List ℕ → Type 0
+FramesPass pages l = (p : ℕ) → p < pages → frameValid (part l (p * frameSize) frameSize) ≡ true
 
-pub encode-decodeFrames : (pages : ℕ) (l : List ℕ) → framesValid pages l ≡ true → length l ≡ pages * frameSize
+pub encode-decodeFrames : (pages : ℕ) (l : List ℕ) → FramesPass pages l → length l ≡ pages * frameSize
     → encodeAll encodeFrame (decodeFrames pages l) ≡ l
 unfolding decodeFrames
 encode-decodeFrames pages l v e =
     encodeAll-decodeAll-all encodeFrame decodeFrame frameSize pages l
     (λ p h.
     let m : p * frameSize + frameSize ≤ pages * frameSize = index-in frameSize pages p h in
-    encode-decodeFrame (part l (p * frameSize) frameSize) (framesValid-at pages l p v h) (length-part l (p * frameSize) frameSize (omega arith)))
+    encode-decodeFrame (part l (p * frameSize) frameSize) (v p h) (length-part l (p * frameSize) frameSize (omega arith)))
     e
 
 -- ---- a record
@@ -69,9 +73,16 @@ pageOf-kindOf m0 m1 p =
 byTest : {X : Type 0} (a b : ℕ) → (a ≡ b → X) → (eqb a b ≡ false → X) → X
 byTest a b f g = byBool (eqb a b) (λ t. f (eqb-true a b t)) g
 
-pub marks-kindOf : (m0 m1 p : ℕ) → isMark m0 m1 ≡ true → (mark0 (kindOf m0 m1 p) ≡ m0) × (mark1 (kindOf m0 m1 p) ≡ m1)
-unfolding kindOf mark0 mark1 isMark
-marks-kindOf m0 m1 p h =
+-- whatever the page bytes are, the letters are a mark
+mark-alone : (got blank bare : Bool) → (got || (blank && bare)) ≡ true → (got || bare) ≡ true
+mark-alone true blank bare h = refl
+mark-alone false true bare h = h
+mark-alone false false bare h = clash h refl
+
+pub marks-kindOf : (m0 m1 p : ℕ) (blank : Bool) → markFits m0 m1 blank ≡ true → (mark0 (kindOf m0 m1 p) ≡ m0) × (mark1 (kindOf m0 m1 p) ≡ m1)
+unfolding kindOf mark0 mark1 markFits gotMark bareMark
+marks-kindOf m0 m1 p blank v =
+    let h : (gotMark m0 m1 || bareMark m0 m1) ≡ true = mark-alone (gotMark m0 m1) blank (bareMark m0 m1) v in
     byTest m0 letterG
     (λ e. byTest m1 letterC (λ f. (cc, cc)) (λ t. byTest m1 letterO (λ f. (cc, cc)) (λ u. clash h (cc))))
     (λ t.
@@ -84,7 +95,7 @@ unfolding encodeRecord decodeRecord slotValid
 encode-decodeRecord pages l v b e =
     let k : Kind = kindOf (byteAt l mark0At) (byteAt l mark1At) (byteAt l slotPageAt) in
     let m : (mark0 k ≡ byteAt l mark0At) × (mark1 k ≡ byteAt l mark1At)
-    = marks-kindOf (byteAt l mark0At) (byteAt l mark1At) (byteAt l slotPageAt) (and-left _ _ v) in
+    = marks-kindOf (byteAt l mark0At) (byteAt l mark1At) (byteAt l slotPageAt) _ (and-left _ _ v) in
     let z : eqb (byteAt l slotZeroAt) 0 ≡ true = search (and-left, and-right) in
     let t : 0 ∷ drop recordCountAt l ≡ drop slotZeroAt l = rw (eqb-true (byteAt l slotZeroAt) 0 z) at (byte-rest l slotZeroAt (omega arith)) in
     rw (
@@ -102,28 +113,23 @@ encode-decodeRecord pages l v b e =
 
 -- ---- a log
 
-pub logValid-count : (pages count : ℕ) (l : List ℕ) → logValid pages count l ≡ true → count ≤ slotCount
-unfolding logValid
-logValid-count pages count l v = leb-true count slotCount (and-left _ _ v)
-
-pub logValid-at : (pages count : ℕ) (l : List ℕ) (i : ℕ) → logValid pages count l ≡ true → i < count
-    → slotValid pages (part l (i * slotSize) slotSize) ≡ true
-unfolding logValid
-logValid-at pages count l i v h =
-    everyBelow-at count i (λ j. slotValid pages (part l (j * slotSize) slotSize)) (and-right (leb count slotCount) _ v) h
+-- 32 slots of which the first `count` are records
+pub record LogPasses (pages count : ℕ) (l : List ℕ) : Type 0 where
+  pub few : count ≤ slotCount
+  pub slots : (i : ℕ) → i < count → slotValid pages (part l (i * slotSize) slotSize) ≡ true
 
 -- a slot below the count is inside
 pub slot-in : (count i : ℕ) → count ≤ slotCount → i < count → i * slotSize + slotSize ≤ slotsSize
 slot-in count i n h = index-in slotSize slotCount i (omega arith)
 
-pub encode-decodeLog : (pages count : ℕ) (l : List ℕ) → logValid pages count l ≡ true → Bytes l → length l ≡ slotsSize
+pub encode-decodeLog : (pages count : ℕ) (l : List ℕ) → LogPasses pages count l → Bytes l → length l ≡ slotsSize
     → encodeLog (decodeLog count l) ≡ l
 unfolding encodeLog decodeLog
 encode-decodeLog pages count l v b e =
     rw (encodeAll-decodeAll encodeRecord decodeRecord slotSize count l
     (λ i h.
-    let m : i * slotSize + slotSize ≤ slotsSize = slot-in count i (logValid-count pages count l v) h in
-    encode-decodeRecord pages (part l (i * slotSize) slotSize) (logValid-at pages count l i v h)
+    let m : i * slotSize + slotSize ≤ slotsSize = slot-in count i (v .few) h in
+    encode-decodeRecord pages (part l (i * slotSize) slotSize) (v .slots i h)
     (each-part l (i * slotSize) slotSize b) (length-part l (i * slotSize) slotSize (omega arith))))
     (take-append-drop (count * slotSize) l)
 
@@ -133,33 +139,28 @@ pub length-decodeLog : (count : ℕ) (l : List ℕ) → length (decodeLog count 
 unfolding decodeLog
 length-decodeLog count l = length-decodeAll decodeRecord slotSize count l
 
-pub areaValid-frames : (pages : ℕ) (l : List ℕ) → areaValid pages l ≡ true → framesValid pages (part l areaFramesAt (pages * frameSize)) ≡ true
-unfolding areaValid
-areaValid-frames pages l v = and-left _ _ v
-
-pub areaValid-log : (pages : ℕ) (l : List ℕ) → areaValid pages l ≡ true
-    → logValid pages (byteAt l areaCountAt) (part l (areaSlotsAt pages) slotsSize) ≡ true
-unfolding areaValid
-areaValid-log pages l v = and-right (framesValid pages (part l areaFramesAt (pages * frameSize))) _ v
+pub record AreaPasses (pages : ℕ) (l : List ℕ) : Type 0 where
+  pub frames : FramesPass pages (part l areaFramesAt (pages * frameSize))
+  pub log : LogPasses pages (byteAt l areaCountAt) (part l (areaSlotsAt pages) slotsSize)
 
 -- frames, and a log, read at any place of a longer list
-pub frames-part : (pages : ℕ) (l : List ℕ) (a : ℕ) → framesValid pages (part l a (pages * frameSize)) ≡ true → a + pages * frameSize ≤ length l
+pub frames-part : (pages : ℕ) (l : List ℕ) (a : ℕ) → FramesPass pages (part l a (pages * frameSize)) → a + pages * frameSize ≤ length l
     → encodeAll encodeFrame (decodeFrames pages (part l a (pages * frameSize))) ≡ part l a (pages * frameSize)
 frames-part pages l a v h = encode-decodeFrames pages (part l a (pages * frameSize)) v (length-part l a (pages * frameSize) h)
 
-pub log-part : (pages count : ℕ) (l : List ℕ) (a : ℕ) → logValid pages count (part l a slotsSize) ≡ true → Bytes l → a + slotsSize ≤ length l
+pub log-part : (pages count : ℕ) (l : List ℕ) (a : ℕ) → LogPasses pages count (part l a slotsSize) → Bytes l → a + slotsSize ≤ length l
     → encodeLog (decodeLog count (part l a slotsSize)) ≡ part l a slotsSize
 log-part pages count l a v b h = encode-decodeLog pages count (part l a slotsSize) v (each-part l a slotsSize b) (length-part l a slotsSize h)
 
-pub encode-decodeArea : (pages : ℕ) (l : List ℕ) → areaValid pages l ≡ true → Bytes l → length l ≡ areaSize pages
+pub encode-decodeArea : (pages : ℕ) (l : List ℕ) → AreaPasses pages l → Bytes l → length l ≡ areaSize pages
     → encodeArea (decodeArea pages l) ≡ l
 unfolding encodeArea decodeArea
 encode-decodeArea pages l v b e =
     rw (
       bytesOf-part l areaNumberAt numberSize b (omega arith),
       length-decodeLog (byteAt l areaCountAt) (part l (areaSlotsAt pages) slotsSize),
-      frames-part pages l areaFramesAt (areaValid-frames pages l v) (omega arith),
-      log-part pages (byteAt l areaCountAt) l (areaSlotsAt pages) (areaValid-log pages l v) b (omega arith),
+      frames-part pages l areaFramesAt (v .frames) (omega arith),
+      log-part pages (byteAt l areaCountAt) l (areaSlotsAt pages) (v .log) b (omega arith),
     )
     (rw (
       part-last l (areaSlotsAt pages) slotsSize e,
@@ -168,7 +169,7 @@ encode-decodeArea pages l v b e =
     )
     (part-rest l areaNumberAt numberSize areaCountAt refl))
 
-pub area-part : (pages : ℕ) (l : List ℕ) (a : ℕ) → areaValid pages (part l a (areaSize pages)) ≡ true → Bytes l → a + areaSize pages ≤ length l
+pub area-part : (pages : ℕ) (l : List ℕ) (a : ℕ) → AreaPasses pages (part l a (areaSize pages)) → Bytes l → a + areaSize pages ≤ length l
     → encodeArea (decodeArea pages (part l a (areaSize pages))) ≡ part l a (areaSize pages)
 area-part pages l a v b h =
     encode-decodeArea pages (part l a (areaSize pages)) v (each-part l a (areaSize pages) b) (length-part l a (areaSize pages) h)
@@ -201,24 +202,10 @@ encode-decodeStable false a0 a1 = refl
 pub record Readable (pages : ℕ) (l : List ℕ) : Type 0 where
   pub state : byteAt l stateAt ≤ stateByte Replaying
   pub selector : byteAt l selectorAt ≤ selectorByte true
-  pub frames : framesValid pages (part l framesAt (pages * frameSize)) ≡ true
-  pub log : logValid pages (byteAt l volatileCountAt) (part l (slotsAt pages) slotsSize) ≡ true
-  pub area0 : areaValid pages (part l (areaAt pages 0) (areaSize pages)) ≡ true
-  pub area1 : areaValid pages (part l (areaAt pages 1) (areaSize pages)) ≡ true
-
-pub block-readable : (pages : ℕ) (l : List ℕ) → blockReadable pages l ≡ true → Readable pages l
-unfolding blockReadable
-block-readable pages l v =
-    let s : leb (byteAt l stateAt) (stateByte Replaying) ≡ true = and-left _ _ v in
-    let t : leb (byteAt l selectorAt) (selectorByte true) ≡ true = search (and-left, and-right) in
-    record {
-      state = leb-true (byteAt l stateAt) (stateByte Replaying) s;
-      selector = leb-true (byteAt l selectorAt) (selectorByte true) t;
-      frames = search (and-left, and-right);
-      log = search (and-left, and-right);
-      area0 = search (and-left, and-right);
-      area1 = search (and-left, and-right);
-    }
+  pub frames : FramesPass pages (part l framesAt (pages * frameSize))
+  pub log : LogPasses pages (byteAt l volatileCountAt) (part l (slotsAt pages) slotsSize)
+  pub area0 : AreaPasses pages (part l (areaAt pages 0) (areaSize pages))
+  pub area1 : AreaPasses pages (part l (areaAt pages 1) (areaSize pages))
 
 -- five pieces and what follows them
 regroup : (s f n c p r : List ℕ) → (s ++ (f ++ (n ++ (c ++ p)))) ++ r ≡ s ++ (f ++ (n ++ (c ++ (p ++ r))))
@@ -264,11 +251,10 @@ behind-fixed pages l e =
     )
     (part-rest l framesAt (pages * frameSize) (slotsAt pages) refl)
 
-pub encode-decodeBoard : (pages : ℕ) (l : List ℕ) → blockReadable pages l ≡ true → Bytes l → length l ≡ blockSize pages
+pub encode-decodeBoard : (pages : ℕ) (l : List ℕ) → Readable pages l → Bytes l → length l ≡ blockSize pages
     → encodeBoard (decodeBoard pages l) ≡ l
 unfolding encodeBoard decodeBoard
-encode-decodeBoard pages l v b e =
-    let r : Readable pages l = block-readable pages l v in
+encode-decodeBoard pages l r b e =
     rw (
       frames-part pages l framesAt (r .frames) (omega arith),
       log-part pages (byteAt l volatileCountAt) l (slotsAt pages) (r .log) b (omega arith),

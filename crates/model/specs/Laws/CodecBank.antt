@@ -14,14 +14,19 @@ use Rattle.words.specs.LittleEndianLaws.{length-bytesOf, numberOf-bytesOf}
 use Rattle.types.specs.declared.State.{State}
 use Rattle.types.specs.declared.State.the-variants.{Up, Down, Replaying}
 use Rattle.model.specs.Definitions.Parts.{part, byteAt, encodeAll}
-use Rattle.model.specs.Definitions.Layout.{entrySize, frameSize, slotsSize, fuseSize, numberSize, sinceSize, stateAt, selectorAt, fuseAt, numberAt, sinceAt, placeAt, volatileCountAt, framesAt, slotsAt, areaAt, areaSize, blockSize, headMark0, headMark1, headSize, boardsAt, pagesAt, blocksAt, bankSize}
+use Rattle.model.specs.Definitions.Layout.{entrySize, frameSize, slotsSize, fuseSize, numberSize, sinceSize, stateAt, selectorAt, fuseAt, numberAt}
+use Rattle.model.specs.Definitions.Layout.{sinceAt, placeAt, volatileCountAt, framesAt, slotsAt, areaAt, areaSize, blockSize, headMark0, headMark1}
+use Rattle.model.specs.Definitions.Layout.{headSize, boardsAt, pagesAt, blocksAt, bankSize}
 use Rattle.model.specs.Definitions.Bank.{Entry, Area, Stable, Board, Bank}
-use Rattle.model.specs.Definitions.Codec.{encodeEntry, decodeEntry, encodeFrame, encodeLog, encodeArea, stateByte, stateOf, selectorByte, encodeFixed, encodeStable, decodeStable, encodeBoard, decodeBoard, encode, decode}
+use Rattle.model.specs.Definitions.Codec.{encodeEntry, decodeEntry, encodeFrame, encodeLog, encodeArea, stateByte, stateOf, selectorByte, encodeFixed}
+use Rattle.model.specs.Definitions.Codec.{encodeStable, decodeStable, encodeBoard, decodeBoard, encode, decode}
 use Rattle.model.specs.Definitions.WellFormed.{AreaOk, FieldsOk}
 use Rattle.model.specs.Laws.Logic.{cases, byBool}
 use Rattle.model.specs.Laws.Lists.{each-imp}
-use Rattle.model.specs.Laws.Parts.{each-all, part-append-left, part-append-right, part-front, part-at, part-end, byteAt-append-left, byteAt-append-right, length-encodeAll, decodeAll-encodeAll-all}
-use Rattle.model.specs.Laws.Codec.{length-encodeEntry, decode-encodeEntry, length-encodeFrames, decode-encodeFrames, length-encodeLog, decode-encodeLog, length-encodeArea, decode-encodeArea}
+use Rattle.model.specs.Laws.Parts.{each-all, part-append-left, part-append-right, part-front, part-at, part-end, byteAt-append-left, byteAt-append-right}
+use Rattle.model.specs.Laws.Parts.{length-encodeAll, decodeAll-encodeAll-all}
+use Rattle.model.specs.Laws.Codec.{length-encodeEntry, decode-encodeEntry, length-encodeFrames, decode-encodeFrames, length-encodeLog, decode-encodeLog}
+use Rattle.model.specs.Laws.Codec.{length-encodeArea, decode-encodeArea}
 
 -- ---- the two areas of a block, by their place
 

@@ -9,22 +9,26 @@ use lib.ListN.{length, drop, length-drop, drop-of-length-le}
 use lib.Dec.{ltb}
 use borrow.Author.Tests.{leb-true, ltb-true, eqb-true}
 use Rattle.words.specs.Bytes.{Bytes}
-use Rattle.model.specs.Definitions.Parts.{part, byteAt, encodeAll, decodeAll, every, everyBelow}
-use Rattle.model.specs.Definitions.Layout.{byteValues, ownerAt, copiesAt, mostBoards, mostPages, entrySize, blockSize, headMark0, headMark1, headSize, boardsAt, pagesAt, blocksAt, bankSize}
-use Rattle.model.specs.Definitions.Bank.{boardAt, noBoard}
+use Rattle.model.specs.Definitions.Parts.{part, byteAt, encodeAll, decodeAll, every}
+use Rattle.model.specs.Definitions.Layout.{byteValues, ownerAt, copiesAt, mostBoards, mostPages, entrySize, blockSize, headMark0, headMark1, headMark0At}
+use Rattle.model.specs.Definitions.Layout.{headMark1At, headSize, boardsAt, pagesAt, blocksAt, bankSize}
+use Rattle.model.specs.Definitions.Bank.{boardAt, entryAt, noBoard}
 use Rattle.model.specs.Definitions.Codec.{encodeEntry, decodeEntry, encodeBoard, decodeBoard, encode, decode}
-use Rattle.model.specs.Definitions.WellFormed.{blockReadable, entryValid, headValid, blockOf, blockValid, wellFormed}
-use Rattle.model.specs.Laws.Logic.{clash, byBool, and-left, and-right}
+use Rattle.model.specs.Definitions.Check.{headValid, directoryValid, fieldsValid, blockFits, recordsValid, directoryOf, blockOf, blocksFit, logsValid}
+use Rattle.model.specs.Definitions.Check.{wellFormed}
+use Rattle.model.specs.Laws.Logic.{clash, byBool, and-left, and-right, and-both}
 use Rattle.model.specs.Laws.Lists.{everyBelow-at, every-each}
-use Rattle.model.specs.Laws.Parts.{getD-decodeAll, each-part, length-part, part-rest, part-drop, byte-rest, index-in, encodeAll-decodeAll-all, length-decodeAll}
-use Rattle.model.specs.Laws.CodecBack.{encode-decodeBoard}
+use Rattle.model.specs.Laws.Parts.{getD-decodeAll, each-part, length-part, part-rest, part-drop, byte-rest, index-in, encodeAll-decodeAll-all}
+use Rattle.model.specs.Laws.Parts.{length-decodeAll}
+use Rattle.model.specs.Laws.CodecBack.{Readable, encode-decodeBoard}
+use Rattle.model.specs.Laws.BoardTests.{says-readable}
 
 -- ---- what the test says
 
 -- what the test of a head says
 pub record HeadOk (s : List ℕ) : Type 0 where
-  pub first : byteAt s 0 ≡ headMark0
-  pub second : byteAt s 1 ≡ headMark1
+  pub first : byteAt s headMark0At ≡ headMark0
+  pub second : byteAt s headMark1At ≡ headMark1
   pub someBoard : 0 < byteAt s boardsAt
   pub boards : byteAt s boardsAt ≤ mostBoards
   pub somePage : 0 < byteAt s pagesAt
@@ -35,8 +39,8 @@ pub head-ok : (s : List ℕ) → headValid s ≡ true → HeadOk s
 unfolding headValid
 head-ok s v =
     record {
-      first = eqb-true (byteAt s 0) headMark0 (and-left _ _ v);
-      second = eqb-true (byteAt s 1) headMark1 (search (and-left, and-right));
+      first = eqb-true (byteAt s headMark0At) headMark0 (and-left _ _ v);
+      second = eqb-true (byteAt s headMark1At) headMark1 (search (and-left, and-right));
       someBoard = ltb-true 0 (byteAt s boardsAt) (search (and-left, and-right));
       boards = leb-true (byteAt s boardsAt) mostBoards (search (and-left, and-right));
       somePage = ltb-true 0 (byteAt s pagesAt) (search (and-left, and-right));
@@ -44,26 +48,31 @@ head-ok s v =
       size = eqb-true (length s) (bankSize (byteAt s boardsAt) (byteAt s pagesAt)) (search (and-left, and-right));
     }
 
--- what the test of the bytes says: of the head, of all bytes, of each entry and of each block
+-- what the test of the bytes says: of the head, of all bytes, of the directory and of each block
 pub record BytesOk (s : List ℕ) : Type 0 where
   pub head : HeadOk s
   pub bytes : Bytes s
-  pub entries : every (entryValid (byteAt s boardsAt)) (decode s .directory) ≡ true
-  pub blocks : (b : ℕ) → b < byteAt s boardsAt → blockValid s b ≡ true
+  pub entries : directoryValid (byteAt s boardsAt) (byteAt s pagesAt) (directoryOf (byteAt s pagesAt) s) ≡ true
+  pub fits : (b : ℕ) → b < byteAt s boardsAt → blockFits (byteAt s pagesAt) (directoryOf (byteAt s pagesAt) s) (blockOf (byteAt s pagesAt) s b) b ≡ true
+  pub records : (b : ℕ) → b < byteAt s boardsAt → recordsValid (byteAt s pagesAt) (blockOf (byteAt s pagesAt) s b) ≡ true
 
 pub bytes-ok : (s : List ℕ) → wellFormed s ≡ true → BytesOk s
-unfolding wellFormed
+unfolding wellFormed blocksFit logsValid
 bytes-ok s v =
     byBool (headValid s)
     (λ t.
     let n : ℕ = byteAt s boardsAt in
-    let r : (every (λ b. ltb b byteValues) s && (every (entryValid n) (decode s .directory) && everyBelow n (blockValid s))) ≡ true = cc in
-    let q : everyBelow (byteAt s boardsAt) (blockValid s) ≡ true = search (and-left, and-right) in
+    let pages : ℕ = byteAt s pagesAt in
+    let d : List ℕ = directoryOf pages s in
+    let r : (every (λ b. ltb b byteValues) s && (directoryValid n pages d && (blocksFit n pages s && logsValid n pages s))) ≡ true = cc in
+    let f : blocksFit n pages s ≡ true = search (and-left, and-right) in
+    let g : logsValid n pages s ≡ true = search (and-left, and-right) in
     record {
       head = head-ok s t;
       bytes = every-each (λ b. ltb b byteValues) s (λ b h. ltb-true b byteValues h) (and-left _ _ r);
       entries = search (and-left, and-right);
-      blocks = λ b h. everyBelow-at (byteAt s boardsAt) b (blockValid s) q h;
+      fits = λ b h. everyBelow-at n b (λ c. blockFits pages d (blockOf pages s c) c) f h;
+      records = λ b h. everyBelow-at n b (λ c. recordsValid pages (blockOf pages s c)) g h;
     })
     (λ t. clash v (cc))
 
@@ -103,44 +112,51 @@ unfolding decode
 decode-pages s = length-decodeAll decodeEntry entrySize (byteAt s pagesAt) (part s headSize (byteAt s pagesAt * entrySize))
 
 -- the block of any board is what its reader is given
-pub part-blockOf : (s : List ℕ) (b : ℕ)
-    → part (drop (blocksAt (byteAt s pagesAt)) s) (b * blockSize (byteAt s pagesAt)) (blockSize (byteAt s pagesAt)) ≡ blockOf s b
+pub part-blockOf : (pages : ℕ) (s : List ℕ) (b : ℕ) → part (drop (blocksAt pages) s) (b * blockSize pages) (blockSize pages) ≡ blockOf pages s b
 unfolding blockOf
-part-blockOf s b = part-drop s (blocksAt (byteAt s pagesAt)) (b * blockSize (byteAt s pagesAt)) (blockSize (byteAt s pagesAt))
+part-blockOf pages s b = part-drop s (blocksAt pages) (b * blockSize pages) (blockSize pages)
 
-pub board-read : (s : List ℕ) (b : ℕ) → b < byteAt s boardsAt → boardAt (decode s) b ≡ decodeBoard (byteAt s pagesAt) (blockOf s b)
+pub board-read : (s : List ℕ) (b : ℕ) → b < byteAt s boardsAt → boardAt (decode s) b ≡ decodeBoard (byteAt s pagesAt) (blockOf (byteAt s pagesAt) s b)
 unfolding boardAt decode
 board-read s b h =
     getD-decodeAll (decodeBoard (byteAt s pagesAt)) (blockSize (byteAt s pagesAt)) (byteAt s boardsAt) (drop (blocksAt (byteAt s pagesAt)) s) b noBoard h
-    ∙ rw (part-blockOf s b)
+    ∙ rw (part-blockOf (byteAt s pagesAt) s b)
 
-pub blockValid-readable : (s : List ℕ) (b : ℕ) → blockValid s b ≡ true → blockReadable (byteAt s pagesAt) (blockOf s b) ≡ true
-unfolding blockValid
-blockValid-readable s b v = and-left _ _ v
+pub entry-read : (s : List ℕ) (p : ℕ) → p < byteAt s pagesAt
+    → entryAt (decode s) p ≡ decodeEntry (part (directoryOf (byteAt s pagesAt) s) (p * entrySize) entrySize)
+unfolding decode entryAt directoryOf
+entry-read s p h = getD-decodeAll decodeEntry entrySize (byteAt s pagesAt) (part s headSize (byteAt s pagesAt * entrySize)) p _ h
 
 module _ (s : List ℕ) (ok : BytesOk s) where
-  pub length-blockOf : (b : ℕ) → b < byteAt s boardsAt → length (blockOf s b) ≡ blockSize (byteAt s pagesAt)
+  pub length-blockOf : (b : ℕ) → b < byteAt s boardsAt → length (blockOf (byteAt s pagesAt) s b) ≡ blockSize (byteAt s pagesAt)
   unfolding blockOf
   length-blockOf b h =
       let pages : ℕ = byteAt s pagesAt in
       length-part s (blocksAt pages + b * blockSize pages) (blockSize pages)
       (inside (blocksAt pages) (blockSize pages) (byteAt s boardsAt) b (length s) (ok .head .size) h)
 
-  pub bytes-blockOf : (b : ℕ) → Bytes (blockOf s b)
+  pub bytes-blockOf : (b : ℕ) → Bytes (blockOf (byteAt s pagesAt) s b)
   unfolding blockOf
   bytes-blockOf b = each-part s (blocksAt (byteAt s pagesAt) + b * blockSize (byteAt s pagesAt)) (blockSize (byteAt s pagesAt)) (ok .bytes)
 
+  pub block-readable : (b : ℕ) → b < byteAt s boardsAt → Readable (byteAt s pagesAt) (blockOf (byteAt s pagesAt) s b)
+  unfolding blockFits
+  block-readable b h =
+      let l : List ℕ = blockOf (byteAt s pagesAt) s b in
+      says-readable (byteAt s pagesAt) l .0 (and-both (and-left (fieldsValid (byteAt s pagesAt) l) _ (ok .fits b h)) (ok .records b h))
+
   -- each block writes back
-  pub block-back : (b : ℕ) → b < byteAt s boardsAt → encodeBoard (decodeBoard (byteAt s pagesAt) (blockOf s b)) ≡ blockOf s b
+  pub block-back : (b : ℕ) → b < byteAt s boardsAt
+      → encodeBoard (decodeBoard (byteAt s pagesAt) (blockOf (byteAt s pagesAt) s b)) ≡ blockOf (byteAt s pagesAt) s b
   block-back b h =
-      encode-decodeBoard (byteAt s pagesAt) (blockOf s b) (blockValid-readable s b (ok .blocks b h)) (bytes-blockOf b) (length-blockOf b h)
+      encode-decodeBoard (byteAt s pagesAt) (blockOf (byteAt s pagesAt) s b) (block-readable b h) (bytes-blockOf b) (length-blockOf b h)
 
   pub encode-decodeBoards : encodeAll encodeBoard (decode s .boards) ≡ drop (blocksAt (byteAt s pagesAt)) s
   unfolding decode
   encode-decodeBoards =
       let pages : ℕ = byteAt s pagesAt in
       encodeAll-decodeAll-all encodeBoard (decodeBoard pages) (blockSize pages) (byteAt s boardsAt) (drop (blocksAt pages) s)
-      (λ b h. rw (part-blockOf s b) (block-back b h))
+      (λ b h. rw (part-blockOf pages s b) (block-back b h))
       (length-behind s (blocksAt pages) (byteAt s boardsAt * blockSize pages) (ok .head .size))
 
 -- ---- the bank
@@ -152,8 +168,8 @@ encode-decode s v =
     let n : ℕ = byteAt s boardsAt in
     let pages : ℕ = byteAt s pagesAt in
     let z : length s ≡ bankSize n pages = ok .head .size in
-    let first : headMark0 ∷ drop 1 s ≡ s = rw (ok .head .first) at (byte-rest s 0 (omega arith)) in
-    let second : headMark1 ∷ drop boardsAt s ≡ drop 1 s = rw (ok .head .second) at (byte-rest s 1 (omega arith)) in
+    let first : headMark0 ∷ drop headMark1At s ≡ s = rw (ok .head .first) at (byte-rest s headMark0At (omega arith)) in
+    let second : headMark1 ∷ drop boardsAt s ≡ drop headMark1At s = rw (ok .head .second) at (byte-rest s headMark1At (omega arith)) in
     rw (
       decode-boards s,
       decode-pages s,

@@ -24,14 +24,17 @@ use Rattle.types.specs.declared.Answer.the-variants.{Done, Malformed, OutOfRang
 use Rattle.model.specs.Definitions.Layout.{mostBoards, mostPages, bankSize}
 use Rattle.model.specs.Definitions.Bank.{Bank}
 use Rattle.model.specs.Definitions.Codec.{decode}
-use Rattle.model.specs.Definitions.WellFormed.{WellFormed, WellFormedBytes, wellFormed, sizesAllowed}
+use Rattle.model.specs.Definitions.WellFormed.{WellFormed, WellFormedBytes}
+use Rattle.model.specs.Definitions.Check.{wellFormed, sizesAllowed}
 use Rattle.model.specs.Definitions.Answers.{code, value, who}
 use Rattle.model.specs.Definitions.Calls.{Call, callBank, Reply, refused, replyOf, call, make}
 use Rattle.model.specs.Laws.Logic.{cases, clash}
 use Rattle.model.specs.Laws.WellFormedTest.{wellFormed-sound, wellFormed-iff}
 use Rattle.model.specs.Laws.Tests.{Says}
-use Rattle.model.specs.Laws.Codes.Statement.{Row, First, NoRow, WhoIn, OfAccess, boardOf, NumbersOut, StateOut, CountersOut, ReplayOut, OwnerOut, RoomOut, Live, ownerOf, LowestShort, LosesPower, refusalRows, table, SizesOut, LengthOut}
-use Rattle.model.specs.Laws.Codes.Order.{never, fails, refuted, says-not-and, says-not-pos, says-not-le, Judged, byRow, IsDone, judged-nil, judged-past, judged-append, judged-code, judged-done, judged-who, judged-value}
+use Rattle.model.specs.Laws.Codes.Statement.{Row, First, NoRow, WhoIn, OfAccess, boardNamed, NumbersOut, StateOut, CountersOut, ReplayOut, OwnerOut}
+use Rattle.model.specs.Laws.Codes.Statement.{RoomOut, Live, ownerOf, LowestShort, LosesPower, refusalRows, table, SizesOut, LengthOut}
+use Rattle.model.specs.Laws.Codes.Order.{never, fails, refuted, says-not-and, says-not-pos, says-not-le, Judged, byRow, IsDone, judged-nil, judged-past}
+use Rattle.model.specs.Laws.Codes.Order.{judged-append, judged-code, judged-done, judged-who, judged-value}
 use Rattle.model.specs.Laws.Codes.Rows.{Ran, rows-judged}
 use Rattle.model.specs.Laws.Codes.Losses.{loses-power}
 
@@ -151,7 +154,15 @@ module _ (c : Call) (s : List ℕ) where
       × (¬ ReplayOut c (decode s)) × (¬ OwnerOut c (decode s)) × RoomOut c (decode s))
   unfolding table refusalRows First
   code-7 = (
-    λ e. let f = codes 6 .0 e in (is-true (wellFormed s) (f .0), f .1 .0, f .1 .1 .0, f .1 .1 .1 .0, f .1 .1 .1 .1 .0, f .1 .1 .1 .1 .1 .0, f .1 .1 .1 .1 .1 .1),
+    λ e. let f = codes 6 .0 e in (
+      is-true (wellFormed s) (f .0),
+      f .1 .0,
+      f .1 .1 .0,
+      f .1 .1 .1 .0,
+      f .1 .1 .1 .1 .0,
+      f .1 .1 .1 .1 .1 .0,
+      f .1 .1 .1 .1 .1 .1,
+    ),
     λ u. codes 6 .1 (λ n. clash (u .0) n, (u .1, (u .2, (u .3, (u .4, (u .5, u .6)))))),
   )
 
@@ -180,15 +191,15 @@ module _ (c : Call) (s : List ℕ) where
   unfolding table refusalRows WhoIn
   who-2 e = codes-who 1 e
 
-  pub who-3 : code (answerTo c s) ≡ 3 → who (answerTo c s) ≡ boardOf c
+  pub who-3 : code (answerTo c s) ≡ 3 → who (answerTo c s) ≡ boardNamed c
   unfolding table refusalRows WhoIn
   who-3 e = codes-who 2 e
 
-  pub who-4 : code (answerTo c s) ≡ 4 → who (answerTo c s) ≡ boardOf c
+  pub who-4 : code (answerTo c s) ≡ 4 → who (answerTo c s) ≡ boardNamed c
   unfolding table refusalRows WhoIn
   who-4 e = codes-who 3 e
 
-  pub who-5 : code (answerTo c s) ≡ 5 → who (answerTo c s) ≡ boardOf c
+  pub who-5 : code (answerTo c s) ≡ 5 → who (answerTo c s) ≡ boardNamed c
   unfolding table refusalRows WhoIn
   who-5 e = codes-who 4 e
 

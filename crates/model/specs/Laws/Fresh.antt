@@ -15,7 +15,8 @@ use Rattle.types.specs.declared.Answer.the-variants.{Done}
 use Rattle.model.specs.Definitions.Parts.{zeros}
 use Rattle.model.specs.Definitions.Layout.{mostBoards, mostPages, pageSize, slotsSize, bankSize}
 use Rattle.model.specs.Definitions.Bank.{boardAt, entryAt, frameAt, emptyFrame, emptyLog, noBoard, freshFrames, freshBoard, fresh}
-use Rattle.model.specs.Definitions.WellFormed.{SizesOk, FrameOk, LogOk, FramesOk, AreaOk, FieldsOk, PlaceOk, rightIn, BoardOk, EntryOk, WellFormed, wellFormed, sizesAllowed}
+use Rattle.model.specs.Definitions.WellFormed.{SizesOk, FrameOk, LogOk, FramesOk, AreaOk, FieldsOk, PlaceOk, rightIn, BoardOk, EntryOk, WellFormed}
+use Rattle.model.specs.Definitions.Check.{wellFormed, sizesAllowed}
 use Rattle.model.specs.Definitions.Codec.{encode}
 use Rattle.model.specs.Definitions.Calls.{Reply, refused, make}
 use Rattle.model.specs.Laws.Logic.{cases, byBool}
@@ -125,10 +126,6 @@ pub bankSize-closed : (n p : ℕ) → bankSize n p ≡ 4 + 2 * p + n * (2134 + 5
 bankSize-closed n p = omega arith
 
 -- ---- its bytes
-
-pub fresh-length : (n p : ℕ) → 0 < n → n ≤ mostBoards → 0 < p → p ≤ mostPages → length (encode (fresh n p)) ≡ bankSize n p
-fresh-length n p h₀ h₁ h₂ h₃ =
-    rw (length-encode (fresh n p) (fields-of (fresh n p) (fresh-wellFormed n p h₀ h₁ h₂ h₃)), fresh-boards n p, fresh-pages n p)
 
 pub fresh-bytes : (n p : ℕ) → 0 < n → n ≤ mostBoards → 0 < p → p ≤ mostPages → wellFormed (encode (fresh n p)) ≡ true
 fresh-bytes n p h₀ h₁ h₂ h₃ = wellFormed-complete (fresh n p) (fresh-wellFormed n p h₀ h₁ h₂ h₃)

@@ -6,7 +6,8 @@ use native.Mathlib.Nat.{suc-add, zero-add, add-zero, add-assoc, zero-mul, suc-mu
 use native.Mathlib.Omega.{arith}
 use mathlib.Core.List.{List, [], _∷_, _++_, append-nil, append-assoc}
 use lib.ListN.{length, getD, set, take, drop, length-append, length-take, length-drop, take-append-drop, List·getD-append}
-use lib.Seq.{length-take-le, take-all, take-nil, take-take, take-add, drop-cons, drop-drop, take-append-le, drop-append-le, drop-append-add, take-append-add, take-at, drop-at, getD-append-add, getD-take, getD-drop, set-split}
+use lib.Seq.{length-take-le, take-all, take-nil, take-take, take-add, drop-cons, drop-drop, take-append-le, drop-append-le, drop-append-add, take-append-add}
+use lib.Seq.{take-at, drop-at, getD-append-add, getD-take, getD-drop, set-split}
 use Rattle.model.specs.Definitions.Parts.{part, splice, byteAt, encodeAll, decodeAll}
 use Rattle.words.specs.Bytes.{Each, each-nil, each-cons}
 use Rattle.model.specs.Laws.Lists.{each-head, each-tail, each-take, each-drop}
@@ -164,13 +165,6 @@ module _ {ℓ} {A : Type ℓ} where
       let f : length (part l a n) ≡ n = length-part l a n k in
       length-splice (part l a n) b v (omega arith) ∙ f
 
-  -- a part that holds all of the splice: the splice was made there
-  pub part-splice-within : (l : List A) (a n b : ℕ) (v : List A) → b + length v ≤ n → a + n ≤ length l
-      → part (splice l (a + b) v) a n ≡ splice (part l a n) b v
-  part-splice-within l a n b v h k =
-      rw (splice-into l a n b v h k)
-      (part-at (take a l) (splice (part l a n) b v) (drop (a + n) l) a n (length-take-le a l (omega arith)) (length-splice-part l a n b v h k))
-
   -- a part, changed by a splice and put back
   pub splice-within : (l : List A) (a n b : ℕ) (v : List A) → b + length v ≤ n → a + n ≤ length l
       → splice l a (splice (part l a n) b v) ≡ splice l (a + b) v
@@ -196,7 +190,12 @@ module _ {ℓ} {A : Type ℓ} where
   splice-next l a b v w e h =
       let q : List A = drop (a + length v) l in
       let f : length (take a l) ≡ a = length-take-le a l h in
-      rw (splice-of l a v (length v) refl, splice-behind (take a l) v q b 0 w (omega arith), splice-zero q w (length w) refl, drop-drop (length w) (a + length v) l)
+      rw (
+        splice-of l a v (length v) refl,
+        splice-behind (take a l) v q b 0 w (omega arith),
+        splice-zero q w (length w) refl,
+        drop-drop (length w) (a + length v) l,
+      )
       (rw (splice-of l a (v ++ w) (length v + length w) (length-append v w), ← add-assoc a (length v) (length w)) (simp append-assoc))
 
   -- apart: in either order
@@ -346,7 +345,12 @@ module _ {A : Type 0} (dec : List ℕ → A) (w : ℕ) where
       let g : suc n * w ≡ n * w + w = suc-mul n w in
       let m : i * w + w ≤ n * w = index-in w n i (le-of-suc-le-suc h) in
       let t : take w (splice l (w + i * w) v) ≡ take w l = part-splice-before l (w + i * w) v 0 w (omega arith) (omega arith) in
-      rw (next-at i w, t, drop-splice l w (i * w) v (omega arith), decodeAll-splice n (drop w l) i v e (le-of-suc-le-suc h) (rw (length-drop w l) (omega arith)))
+      rw (
+        next-at i w,
+        t,
+        drop-splice l w (i * w) v (omega arith),
+        decodeAll-splice n (drop w l) i v e (le-of-suc-le-suc h) (rw (length-drop w l) (omega arith)),
+      )
 
   -- a splice behind the elements
   pub decodeAll-before : (n : ℕ) (l : List ℕ) (a : ℕ) (v : List ℕ) → n * w ≤ a → a ≤ length l → decodeAll dec w n (splice l a v) ≡ decodeAll dec w n l
@@ -368,13 +372,6 @@ module _ {A : Type 0} (dec : List ℕ → A) (w : ℕ) where
       → getD (decodeAll dec w n (part l a (n * w))) i d ≡ dec (part l (a + i * w) w)
   getD-decodeAll-part n l a i d h =
       getD-decodeAll n (part l a (n * w)) i d h ∙ ap dec (part-part l a (n * w) (i * w) w (index-in w n i h))
-
-  pub decodeAll-part-splice : (n : ℕ) (l : List ℕ) (a i : ℕ) (v : List ℕ) → length v ≡ w → i < n → a + n * w ≤ length l
-      → decodeAll dec w n (part (splice l (a + i * w) v) a (n * w)) ≡ set (decodeAll dec w n (part l a (n * w))) i (dec v)
-  decodeAll-part-splice n l a i v e h k =
-      let f : i * w + w ≤ n * w = index-in w n i h in
-      rw (part-splice-within l a (n * w) (i * w) v (rw e f) k)
-      (decodeAll-splice n (part l a (n * w)) i v e h (rw (length-part l a (n * w) k) (omega arith)))
 
 module _ {A : Type 0} (enc : A → List ℕ) (dec : List ℕ → A) (w : ℕ) where
   -- an element of the width that reads back

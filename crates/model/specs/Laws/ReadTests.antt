@@ -1,27 +1,32 @@
--- Bytes that pass a test of Definitions.WellFormed are read as what is well formed: frames, slots, logs, areas and blocks.
+-- Bytes that pass a test of Definitions.Check are read as what is well formed: frames, slots, logs, areas and blocks.
 -- WrittenTests has the other way. Assumes nothing.
-use mathlib.Core.Path.{_≡_, refl}
-use Prim.Native.Nat.{ℕ, zero, suc, _+_, _*_, _^_, _≤_, _<_}
+use mathlib.Core.Path.{_≡_}
+use Prim.Native.Nat.{ℕ, suc, _+_, _*_, _^_, _≤_, _<_}
 use native.Mathlib.Omega.{arith}
-use mathlib.Core.Bool.{Bool, true, false}
+use mathlib.Core.Bool.{Bool, true, false, _&&_}
 use mathlib.Core.List.{List, []}
 use lib.ListN.{length, length-drop}
-use lib.Dec.{eqb, lit≤}
+use lib.Dec.{eqb, leb, lit≤}
 use borrow.Author.Tests.{ltb-true}
 use Rattle.words.specs.Bytes.{Each, Bytes}
 use Rattle.words.specs.LittleEndian.{numberOf}
 use Rattle.words.specs.LittleEndianLaws.{numberOf-below}
-use Rattle.types.specs.declared.Right.the-variants.{None}
+use Rattle.types.specs.declared.Right.the-variants.{Own}
 use Rattle.model.specs.Definitions.Parts.{part, byteAt, decodeAll}
-use Rattle.model.specs.Definitions.Layout.{byteValues, pageSize, slotCount, rightAt, frameBytesAt, frameSize, slotSize, slotsSize, recordCountAt, slotBytesAt, fuseSize, numberSize, sinceSize, noFuse, lastSince, lastNumber, areaNumberAt, areaCountAt, areaFramesAt, areaSlotsAt, areaAt, areaSize, selectorAt, fuseAt, numberAt, sinceAt, framesAt, slotsAt, volatileCountAt, blockSize}
+use Rattle.model.specs.Definitions.Layout.{byteValues, pageSize, slotCount, rightAt, frameBytesAt, frameSize, slotSize, slotsSize, letterG, letterC}
+use Rattle.model.specs.Definitions.Layout.{mark0At, mark1At, slotPageAt, recordCountAt, slotBytesAt, fuseSize, numberSize, sinceSize, noFuse, lastSince}
+use Rattle.model.specs.Definitions.Layout.{lastNumber, areaNumberAt, areaCountAt, areaFramesAt, areaSlotsAt, areaAt, areaSize, selectorAt, fuseAt}
+use Rattle.model.specs.Definitions.Layout.{numberAt, sinceAt, framesAt, slotsAt, volatileCountAt, blockSize}
 use Rattle.model.specs.Definitions.Bank.{Area}
-use Rattle.model.specs.Definitions.Codec.{rightByte, rightOf, selectorByte, decodeFrame, decodeFrames, pageOf, decodeRecord, decodeLog, decodeArea, decodeBoard, decodeStable}
-use Rattle.model.specs.Definitions.WellFormed.{FrameOk, isGot, RecordOk, LogOk, FramesOk, AreaOk, FieldsOk, frameValid, framesValid, slotValid, logValid, areaValid, blockReadable}
-use Rattle.model.specs.Laws.Logic.{and-left, and-right}
+use Rattle.model.specs.Definitions.Codec.{rightByte, selectorByte, decodeFrame, decodeFrames, kindOf, decodeRecord, decodeLog, decodeArea, decodeBoard}
+use Rattle.model.specs.Definitions.Codec.{decodeStable}
+use Rattle.model.specs.Definitions.WellFormed.{FrameOk, isGot, RecordOk, LogOk, FramesOk, AreaOk, FieldsOk}
+use Rattle.model.specs.Definitions.Check.{isZero, frameValid, gotMark, markFits, slotValid, bareMark}
+use Rattle.model.specs.Laws.Logic.{byBool, clash, and-left, and-right}
 use Rattle.model.specs.Laws.Lists.{each-drop, each-of-getD}
 use Rattle.model.specs.Laws.Parts.{each-part, length-part, length-decodeAll, getD-decodeAll, index-in}
-use Rattle.model.specs.Laws.CodecBack.{framesValid-at, logValid-count, logValid-at, slot-in, areaValid-frames, areaValid-log, Readable, block-readable}
-use Rattle.model.specs.Laws.Tests.{says-then, says-else, says-eq, says-zero}
+use Rattle.model.specs.Laws.CodecBack.{FramesPass, LogPasses, AreaPasses, Readable, pageOf-kindOf, slot-in}
+use Rattle.model.specs.Laws.Tests.{says-zero, says-clear}
 
 -- ---- what holds of bytes holds of the numbers and the elements read from them
 
@@ -48,26 +53,16 @@ each-decodeAll dec w n l f =
 
 -- ---- a frame
 
-right-none : (n : ℕ) → rightOf n ≡ None → n ≡ rightByte None
-unfolding rightOf rightByte
-right-none zero e = refl
-right-none (suc zero) e = cc
-right-none (suc (suc n)) e = cc
-
 pub frame-ok : (l : List ℕ) → length l ≡ frameSize → Bytes l → frameValid l ≡ true → FrameOk (decodeFrame l)
 unfolding frameValid decodeFrame
 frame-ok l e b v =
-    let size : length (part l frameBytesAt pageSize) ≡ pageSize = length-part l frameBytesAt pageSize (omega arith) in
     record {
-      size = size;
+      size = length-part l frameBytesAt pageSize (omega arith);
       bytes = each-part l frameBytesAt pageSize b;
-      empty = λ r.
-          says-then (says-eq (byteAt l rightAt) (rightByte None)) (λ _. says-zero (part l frameBytesAt pageSize) pageSize size) .0
-          (search (and-left, and-right))
-          (right-none (byteAt l rightAt) r);
+      empty = says-clear l e .0 (and-right (leb (byteAt l rightAt) (rightByte Own)) _ v);
     }
 
-pub frames-ok : (pages : ℕ) (l : List ℕ) → length l ≡ pages * frameSize → Bytes l → framesValid pages l ≡ true → FramesOk pages (decodeFrames pages l)
+pub frames-ok : (pages : ℕ) (l : List ℕ) → length l ≡ pages * frameSize → Bytes l → FramesPass pages l → FramesOk pages (decodeFrames pages l)
 unfolding decodeFrames
 frames-ok pages l e b v =
     record {
@@ -78,29 +73,43 @@ frames-ok pages l e b v =
           frame-ok (part l (i * frameSize) frameSize)
           (length-part l (i * frameSize) frameSize (omega (arith, index-in frameSize pages i h)))
           (each-part l (i * frameSize) frameSize b)
-          (framesValid-at pages l i v h));
+          (v i h));
     }
 
 -- ---- a record
+
+-- under a mark that is no got the page is zero
+bare-blank : (m0 m1 p : ℕ) (blank : Bool) → markFits m0 m1 blank ≡ true → isGot (kindOf m0 m1 p) ≡ false → blank ≡ true
+unfolding markFits gotMark kindOf isGot
+bare-blank m0 m1 p blank v g =
+    byBool (eqb m0 letterG)
+    (λ t. byBool (eqb m1 letterC) (λ u. clash (cc) g) (λ u. clash (cc) g))
+    (λ t. let r : (blank && bareMark m0 m1) ≡ true = cc in and-left blank (bareMark m0 m1) r)
 
 pub slot-ok : (pages : ℕ) (l : List ℕ) → length l ≡ slotSize → Bytes l → slotValid pages l ≡ true → RecordOk pages (decodeRecord l)
 unfolding slotValid decodeRecord
 slot-ok pages l e b v =
     let size : length (part l slotBytesAt pageSize) ≡ pageSize = length-part l slotBytesAt pageSize (omega arith) in
+    let bytes : Bool = isZero (part l slotBytesAt pageSize) in
+    let mark : markFits (byteAt l mark0At) (byteAt l mark1At) bytes ≡ true = and-left _ _ v in
     record {
       count = number-below l recordCountAt sinceSize lastSince (omega arith) b since-width;
-      page = ltb-true (pageOf (decodeRecord l .kind)) pages (search (and-left, and-right));
+      page =
+          rw (pageOf-kindOf (byteAt l mark0At) (byteAt l mark1At) (byteAt l slotPageAt))
+          (ltb-true (byteAt l slotPageAt) pages (search (and-left, and-right)));
       size = size;
       bytes = each-part l slotBytesAt pageSize b;
-      plain = says-else (isGot (decodeRecord l .kind)) (says-zero (part l slotBytesAt pageSize) pageSize size) .0 (search (and-left, and-right));
+      plain = λ g.
+          says-zero (part l slotBytesAt pageSize) pageSize size .0
+          (bare-blank (byteAt l mark0At) (byteAt l mark1At) (byteAt l slotPageAt) bytes mark g);
     }
 
 -- ---- a log
 
-pub log-ok : (pages count : ℕ) (l : List ℕ) → length l ≡ slotsSize → Bytes l → logValid pages count l ≡ true → LogOk pages (decodeLog count l)
+pub log-ok : (pages count : ℕ) (l : List ℕ) → length l ≡ slotsSize → Bytes l → LogPasses pages count l → LogOk pages (decodeLog count l)
 unfolding decodeLog
 log-ok pages count l e b v =
-    let c : count ≤ slotCount = logValid-count pages count l v in
+    let c : count ≤ slotCount = v .few in
     record {
       records =
           each-decodeAll decodeRecord slotSize count l
@@ -108,7 +117,7 @@ log-ok pages count l e b v =
           slot-ok pages (part l (i * slotSize) slotSize)
           (length-part l (i * slotSize) slotSize (omega (arith, slot-in count i c h)))
           (each-part l (i * slotSize) slotSize b)
-          (logValid-at pages count l i v h));
+          (v .slots i h));
       bytes = each-drop (count * slotSize) l b;
       slots = rw (length-decodeAll decodeRecord slotSize count l, length-drop (count * slotSize) l) (omega arith);
     }
@@ -116,25 +125,25 @@ log-ok pages count l e b v =
 -- ---- an area
 
 frames-part-ok : (pages : ℕ) (l : List ℕ) (a : ℕ) → a + pages * frameSize ≤ length l → Bytes l
-    → framesValid pages (part l a (pages * frameSize)) ≡ true → FramesOk pages (decodeFrames pages (part l a (pages * frameSize)))
+    → FramesPass pages (part l a (pages * frameSize)) → FramesOk pages (decodeFrames pages (part l a (pages * frameSize)))
 frames-part-ok pages l a h b =
     frames-ok pages (part l a (pages * frameSize)) (length-part l a (pages * frameSize) h) (each-part l a (pages * frameSize) b)
 
 log-part-ok : (pages count : ℕ) (l : List ℕ) (a : ℕ) → a + slotsSize ≤ length l → Bytes l
-    → logValid pages count (part l a slotsSize) ≡ true → LogOk pages (decodeLog count (part l a slotsSize))
+    → LogPasses pages count (part l a slotsSize) → LogOk pages (decodeLog count (part l a slotsSize))
 log-part-ok pages count l a h b = log-ok pages count (part l a slotsSize) (length-part l a slotsSize h) (each-part l a slotsSize b)
 
-pub area-ok : (pages : ℕ) (l : List ℕ) → length l ≡ areaSize pages → Bytes l → areaValid pages l ≡ true → AreaOk pages (decodeArea pages l)
+pub area-ok : (pages : ℕ) (l : List ℕ) → length l ≡ areaSize pages → Bytes l → AreaPasses pages l → AreaOk pages (decodeArea pages l)
 unfolding decodeArea
 area-ok pages l e b v =
     record {
       number = number-below l areaNumberAt numberSize lastNumber (omega arith) b number-width;
-      frames = frames-part-ok pages l areaFramesAt (omega arith) b (areaValid-frames pages l v);
-      log = log-part-ok pages (byteAt l areaCountAt) l (areaSlotsAt pages) (omega arith) b (areaValid-log pages l v);
+      frames = frames-part-ok pages l areaFramesAt (omega arith) b (v .frames);
+      log = log-part-ok pages (byteAt l areaCountAt) l (areaSlotsAt pages) (omega arith) b (v .log);
     }
 
 area-part-ok : (pages : ℕ) (l : List ℕ) (a : ℕ) → a + areaSize pages ≤ length l → Bytes l
-    → areaValid pages (part l a (areaSize pages)) ≡ true → AreaOk pages (decodeArea pages (part l a (areaSize pages)))
+    → AreaPasses pages (part l a (areaSize pages)) → AreaOk pages (decodeArea pages (part l a (areaSize pages)))
 area-part-ok pages l a h b = area-ok pages (part l a (areaSize pages)) (length-part l a (areaSize pages) h) (each-part l a (areaSize pages) b)
 
 -- ---- a block
@@ -150,10 +159,9 @@ unfolding decodeStable
 spare-ok pages false x y p q = q
 spare-ok pages true x y p q = p
 
-pub fields-ok : (pages : ℕ) (l : List ℕ) → length l ≡ blockSize pages → Bytes l → blockReadable pages l ≡ true → FieldsOk pages (decodeBoard pages l)
+pub fields-ok : (pages : ℕ) (l : List ℕ) → length l ≡ blockSize pages → Bytes l → Readable pages l → FieldsOk pages (decodeBoard pages l)
 unfolding decodeBoard
-fields-ok pages l e b v =
-    let r : Readable pages l = block-readable pages l v in
+fields-ok pages l e b r =
     let second : Bool = eqb (byteAt l selectorAt) (selectorByte true) in
     let x : Area = decodeArea pages (part l (areaAt pages 0) (areaSize pages)) in
     let y : Area = decodeArea pages (part l (areaAt pages 1) (areaSize pages)) in

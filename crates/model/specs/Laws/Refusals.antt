@@ -12,15 +12,17 @@ use Rattle.types.specs.declared.State.the-variants.{Replaying}
 use Rattle.model.specs.Definitions.Layout.{bankSize}
 use Rattle.model.specs.Definitions.Bank.{Board, Bank, boardAt, entryAt, onBoard, onWorking}
 use Rattle.model.specs.Definitions.Codec.{encode, decode}
-use Rattle.model.specs.Definitions.WellFormed.{wellFormed, sizesAllowed}
+use Rattle.model.specs.Definitions.Check.{wellFormed, sizesAllowed}
 use Rattle.model.specs.Definitions.Answers.{code}
-use Rattle.model.specs.Definitions.Steps.{Run, start, step, store, storedFrame, storedHead, storedSelector, restedWorking, storeFrames, checkpoint, Access, Read, Write}
+use Rattle.model.specs.Definitions.Steps.{Run, start, step, store, storedFrame, storedHead, storedSelector, restedWorking, storeFrames, checkpoint}
+use Rattle.model.specs.Definitions.Steps.{Access, Read, Write}
 use Rattle.model.specs.Definitions.Replay.{tookDue, settled, endReplay}
-use Rattle.model.specs.Definitions.Calls.{Result, finished, refused, Call, Reading, Writing, Checkpointing, Cutting, Fusing, Restarting, callBank, Reply, replyOf, call, make}
+use Rattle.model.specs.Definitions.Calls.{Result, finished, refused, Call, Reading, Writing, Checkpointing, Cutting, Fusing, Restarting, callBank, Reply}
+use Rattle.model.specs.Definitions.Calls.{replyOf, call, make}
 use Rattle.model.specs.Laws.Logic.{cases, casesOption}
 use Rattle.model.specs.Laws.CodecBankBack.{encode-decode}
 use Rattle.model.specs.Laws.Runs.{lost-not, step-cases, step-none, store-cases, follows-none, follows-storeFrames}
-use Rattle.model.specs.Laws.Codes.Statement.{OfAccess, boardOf, afterReplay}
+use Rattle.model.specs.Laws.Codes.Statement.{OfAccess, boardNamed, afterReplay}
 use Rattle.model.specs.Laws.Codes.{answerTo}
 use Rattle.model.specs.Laws.Codes.Ends.{Ends, refusedFirst, refusedLate, ran, ReplayEnd, LateIn, call-ended}
 
@@ -60,8 +62,8 @@ late-run b k Late t (refusedFirst x h i n) p q e = absurd (n p e)
 late-run b k Late t (refusedLate x r h i l) p q e = l
 late-run b k Late t (ran v r) p q e = ran-code v r (omega arith) q
 
-late-replaying : (c : Call) (k : Bank) (r : Run) → LateIn c k r → boardAt k (boardOf c) .state ≡ Replaying
-unfolding OfAccess boardOf
+late-replaying : (c : Call) (k : Bank) (r : Run) → LateIn c k r → boardAt k (boardNamed c) .state ≡ Replaying
+unfolding OfAccess boardNamed
 late-replaying (Reading b p o) k r l = l .state
 late-replaying (Writing b p o v) k r l = l .state
 late-replaying (Checkpointing b) k r l = absurd l
@@ -91,31 +93,31 @@ end-left b a k t l =
 
 -- refused live after the end of its replay, which stays
 pub refusal-after-replay : (c : Call) (s : List ℕ) → 6 ≤ code (answerTo c s) → code (answerTo c s) ≤ 7
-    → boardAt (decode s) (boardOf c) .state ≡ Replaying → OfAccess (λ b a. KeptEnd b a (decode s) (call c s)) c
+    → boardAt (decode s) (boardNamed c) .state ≡ Replaying → OfAccess (λ b a. KeptEnd b a (decode s) (call c s)) c
 unfolding call refused replyOf code
 refusal-after-replay c s =
     let k : Bank = decode s in
     cases
     (λ (y : Reply).
     6 ≤ code (y .outcome .answer) → code (y .outcome .answer) ≤ 7
-    → boardAt k (boardOf c) .state ≡ Replaying → OfAccess (λ b a. KeptEnd b a k y) c)
+    → boardAt k (boardNamed c) .state ≡ Replaying → OfAccess (λ b a. KeptEnd b a k y) c)
     (wellFormed s)
-    (λ w p q e. of-access c (λ b a l. end-left b a k (callBank c k) l) (late-run (boardOf c) k (LateIn c k) (callBank c k) (call-ended c k) p q e))
+    (λ w p q e. of-access c (λ b a l. end-left b a k (callBank c k) l) (late-run (boardNamed c) k (LateIn c k) (callBank c k) (call-ended c k) p q e))
     (λ w p q e. absurd (omega arith))
 
 -- any other refusal
 pub refusal-keeps : (c : Call) (s : List ℕ) → 1 ≤ code (answerTo c s) → code (answerTo c s) ≤ 7
-    → (code (answerTo c s) ≤ 5) ⊎ (boardAt (decode s) (boardOf c) .state ≢ Replaying) → Kept s (call c s)
+    → (code (answerTo c s) ≤ 5) ⊎ (boardAt (decode s) (boardNamed c) .state ≢ Replaying) → Kept s (call c s)
 unfolding call refused replyOf start
 refusal-keeps c s =
     let k : Bank = decode s in
     cases
     (λ (y : Reply).
     1 ≤ code (y .outcome .answer) → code (y .outcome .answer) ≤ 7
-    → (code (y .outcome .answer) ≤ 5) ⊎ (boardAt k (boardOf c) .state ≢ Replaying) → Kept s y)
+    → (code (y .outcome .answer) ≤ 5) ⊎ (boardAt k (boardNamed c) .state ≢ Replaying) → Kept s y)
     (wellFormed s)
     (λ w p q u.
-    let e : callBank c k .run ≡ start k = kept-run (boardOf c) k (LateIn c k) (callBank c k) (late-replaying c k) (call-ended c k) p q u in
+    let e : callBank c k .run ≡ start k = kept-run (boardNamed c) k (LateIn c k) (callBank c k) (late-replaying c k) (call-ended c k) p q u in
     record {
       bytes = ap (λ (r : Run). encode (r .bank)) e ∙ encode-decode s w;
       stores = ap (λ (r : Run). r .stores) e;

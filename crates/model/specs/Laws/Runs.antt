@@ -18,10 +18,14 @@ use Rattle.types.specs.declared.Kind.the-variants.{Got, Shown}
 use Rattle.model.specs.Definitions.Parts.{zeros}
 use Rattle.model.specs.Definitions.Layout.{pageSize}
 use Rattle.model.specs.Definitions.Bank.{Board, Bank, boardAt, entryAt, onBoard, onWorking}
-use Rattle.model.specs.Definitions.Steps.{Run, step, powerOff, burnt, store, recorded, note, storedRecord, storeRecords, flush, storedFrame, storedHead, storedSelector, restedWorking, storeFrames, checkpoint, giver, show, frameOf, giveCopy, dropCopies, passOwnership, readFetch, writeFetch, fetch}
+use Rattle.model.specs.Definitions.Steps.{Run, step, powerOff, burnt, store, recorded, note, storedRecord, storeRecords, flush, storedFrame, storedHead}
+use Rattle.model.specs.Definitions.Steps.{storedSelector, restedWorking, storeFrames, checkpoint, giver, show, frameOf, giveCopy, dropCopies}
+use Rattle.model.specs.Definitions.Steps.{passOwnership, readFetch, writeFetch, fetch}
 use Rattle.model.specs.Definitions.Replay.{settled, replayOver, endReplay, endIfOver}
 use Rattle.model.specs.Laws.Logic.{byOption, cases, casesOption}
-use Rattle.model.specs.Laws.Boards.{settle, boards-onBoard, directory-onBoard, onBoard-onBoard, boardAt-same, boardAt-other, boards-powerOff, directory-powerOff, boards-giveCopy, directory-giveCopy, boards-dropCopies, directory-dropCopies, boards-passOwnership, directory-passOwnership}
+use Rattle.model.specs.Laws.Boards.{settle, boards-onBoard, directory-onBoard, onBoard-onBoard, boardAt-same, boardAt-other, boards-powerOff}
+use Rattle.model.specs.Laws.Boards.{directory-powerOff, boards-giveCopy, directory-giveCopy, boards-dropCopies, directory-dropCopies}
+use Rattle.model.specs.Laws.Boards.{boards-passOwnership, directory-passOwnership}
 
 -- ---- the cases of a step and of a store
 

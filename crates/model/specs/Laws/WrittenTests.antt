@@ -1,14 +1,14 @@
--- What is well formed passes the test of its bytes once written, and is written in bytes: frames, records, logs, areas and blocks.
+-- What is well formed passes the tests of Definitions.Check once written, and is written in bytes: frames, records, logs, areas and blocks.
 -- ReadTests has the other way. Assumes nothing.
-use mathlib.Core.Path.{_≡_, refl, _∙_}
+use mathlib.Core.Path.{_≡_, refl, ap, _∙_}
 use Prim.Native.Nat.{ℕ, _*_, _^_, _≤_, _<_}
 use native.Mathlib.Nat.{pow-le-pow-right}
 use native.Mathlib.Omega.{arith}
 use mathlib.Core.Bool.{Bool, true, false}
 use mathlib.Core.List.{List, [], _∷_}
 use lib.ListN.{length, getD}
-use lib.Dec.{eqb, lit<, lit≤}
-use borrow.Author.Tests.{le-leb, lt-ltb, eqb-true}
+use lib.Dec.{lit<, lit≤}
+use borrow.Author.Tests.{le-leb, lt-ltb}
 use Rattle.words.specs.Bytes.{Each, each-nil, each-cons, Bytes}
 use Rattle.words.specs.LittleEndian.{bytesOf}
 use Rattle.words.specs.LittleEndianLaws.{bytes-bytesOf}
@@ -22,16 +22,22 @@ use Rattle.types.specs.declared.Record.{Record}
 use Rattle.types.specs.declared.State.{State}
 use Rattle.types.specs.declared.State.the-variants.{Up, Down, Replaying}
 use Rattle.model.specs.Definitions.Parts.{part, byteAt, encodeAll}
-use Rattle.model.specs.Definitions.Layout.{byteValues, pageSize, slotCount, frameSize, slotSize, numberSize, sinceSize, fuseSize, stateAt, selectorAt, volatileCountAt, mostBoards, mostPages}
+use Rattle.model.specs.Definitions.Layout.{byteValues, pageSize, slotCount, slotBytesAt, frameSize, slotSize, numberSize, sinceSize, fuseSize, stateAt}
+use Rattle.model.specs.Definitions.Layout.{selectorAt, volatileCountAt, mostBoards, mostPages}
 use Rattle.model.specs.Definitions.Bank.{Entry, Log, Area, Board, emptyFrame}
-use Rattle.model.specs.Definitions.Codec.{rightByte, decodeFrame, stateByte, selectorByte, mark0, mark1, pageOf, encodeFrame, encodeRecord, decodeRecord, encodeLog, encodeArea, encodeFixed, encodeBoard, encodeEntry}
-use Rattle.model.specs.Definitions.WellFormed.{FrameOk, RecordOk, LogOk, FramesOk, AreaOk, FieldsOk, EntryOk, isGot, isZero, frameValid, framesValid, isMark, slotValid, logValid, areaValid, blockReadable}
-use Rattle.model.specs.Laws.Logic.{and-both, then-or}
-use Rattle.model.specs.Laws.Lists.{each-imp, each-head, each-tail, each-getD, each-append, everyBelow-all}
+use Rattle.model.specs.Definitions.Codec.{rightByte, stateByte, selectorByte, mark0, mark1, pageOf, encodeFrame, encodeRecord, decodeRecord, encodeLog}
+use Rattle.model.specs.Definitions.Codec.{encodeArea, encodeFixed, encodeBoard, encodeEntry}
+use Rattle.model.specs.Definitions.WellFormed.{FrameOk, RecordOk, LogOk, FramesOk, AreaOk, FieldsOk, EntryOk, isGot}
+use Rattle.model.specs.Definitions.Check.{frameValid, gotMark, bareMark, markFits, slotValid}
+use Rattle.model.specs.Laws.Logic.{and-both}
+use Rattle.model.specs.Laws.Lists.{each-imp, each-head, each-tail, each-getD, each-append}
 use Rattle.model.specs.Laws.Parts.{part-encodeAll, part-append-left, index-in}
-use Rattle.model.specs.Laws.Codec.{rightOf-rightByte, length-encodeFrame, decode-encodeFrame, length-encodeRecord, decode-encodeRecord, length-encodeRecords, area-count, area-frames, area-slots}
-use Rattle.model.specs.Laws.CodecBank.{area0, area1, area0-ok, area1-ok, encodeStable-split, fixed-state, fixed-selector, fixed-volatile, board-byte, board-frames, board-slots, board-area0, board-area1}
-use Rattle.model.specs.Laws.Tests.{says-else, says-zero}
+use Rattle.model.specs.Laws.Codec.{length-encodeFrame, decode-encodeFrame, length-encodeRecord, decode-encodeRecord, length-encodeRecords, area-count}
+use Rattle.model.specs.Laws.Codec.{area-frames, area-slots}
+use Rattle.model.specs.Laws.CodecBank.{area0, area1, area0-ok, area1-ok, encodeStable-split, fixed-state, fixed-selector, fixed-volatile, board-byte}
+use Rattle.model.specs.Laws.CodecBank.{board-frames, board-slots, board-area0, board-area1}
+use Rattle.model.specs.Laws.CodecBack.{FramesPass, LogPasses, AreaPasses, Readable}
+use Rattle.model.specs.Laws.Tests.{says-zero, says-clear}
 
 -- ---- a frame
 
@@ -44,38 +50,32 @@ right-le Own = lit≤ tt
 pub frame-valid : (f : Frame) → FrameOk f → frameValid (encodeFrame f) ≡ true
 unfolding frameValid encodeFrame byteAt
 frame-valid f ok =
-    and-both (le-leb (rightByte (f .right)) (rightByte Own) (right-le (f .right)))
-    (then-or (eqb (rightByte (f .right)) (rightByte None)) (isZero (decodeFrame (encodeFrame f) .bytes))
-    (λ t.
-    let e : rightByte (f .right) ≡ rightByte None = eqb-true (rightByte (f .right)) (rightByte None) t in
-    let n : f .right ≡ None = cc (rightOf-rightByte (f .right), rightOf-rightByte None) in
-    rw (decode-encodeFrame f ok) (says-zero (f .bytes) pageSize (ok .size) .1 (ok .empty n))))
+    and-both
+    (le-leb (rightByte (f .right)) (rightByte Own) (right-le (f .right)))
+    (says-clear (encodeFrame f) (length-encodeFrame f (ok .size)) .1 (rw (decode-encodeFrame f ok) (ok .empty)))
 
-pub frames-valid : (pages : ℕ) (fs : List Frame) → FramesOk pages fs → framesValid pages (encodeAll encodeFrame fs) ≡ true
-unfolding framesValid
-frames-valid pages fs ok =
-    everyBelow-all pages _
-    (λ i h.
+pub frames-valid : (pages : ℕ) (fs : List Frame) → FramesOk pages fs → FramesPass pages (encodeAll encodeFrame fs)
+frames-valid pages fs ok i h =
     let m : i < length fs = rw (ok .count) h in
     rw (part-encodeAll encodeFrame frameSize fs i emptyFrame (each-imp fs (λ f o. length-encodeFrame f (o .size)) (ok .frames)) m)
-    (frame-valid (getD fs i emptyFrame) (each-getD fs i emptyFrame (ok .frames) m)))
+    (frame-valid (getD fs i emptyFrame) (each-getD fs i emptyFrame (ok .frames) m))
 
 -- ---- a record
 
-isMark-marks : (k : Kind) → isMark (mark0 k) (mark1 k) ≡ true
-unfolding isMark mark0 mark1
-isMark-marks (Got GotCopy p) = refl
-isMark-marks (Got GotOwn p) = refl
-isMark-marks (Shown p) = refl
-isMark-marks (Dropped p) = refl
+mark-valid : (k : Kind) (blank : Bool) → (isGot k ≡ false → blank ≡ true) → markFits (mark0 k) (mark1 k) blank ≡ true
+unfolding markFits gotMark bareMark mark0 mark1 isGot
+mark-valid (Got GotCopy p) blank h = refl
+mark-valid (Got GotOwn p) blank h = refl
+mark-valid (Shown p) blank h = rw (h refl)
+mark-valid (Dropped p) blank h = rw (h refl)
 
 pub slot-valid : (pages : ℕ) (r : Record) → RecordOk pages r → slotValid pages (encodeRecord r) ≡ true
-unfolding slotValid encodeRecord byteAt
+unfolding slotValid encodeRecord byteAt decodeRecord
 slot-valid pages r ok =
-    and-both (isMark-marks (r .kind))
-    (rw (decode-encodeRecord pages r ok)
-    (and-both (lt-ltb (pageOf (r .kind)) pages (ok .page))
-    (says-else (isGot (r .kind)) (says-zero (r .bytes) pageSize (ok .size)) .1 (ok .plain))))
+    let bytes : part (encodeRecord r) slotBytesAt pageSize ≡ r .bytes = ap (λ (q : Record). q .bytes) (decode-encodeRecord pages r ok) in
+    and-both
+    (mark-valid (r .kind) _ (λ g. rw bytes (says-zero (r .bytes) pageSize (ok .size) .1 (ok .plain g))))
+    (and-both (lt-ltb (pageOf (r .kind)) pages (ok .page)) refl)
 
 -- ---- a log
 
@@ -90,22 +90,22 @@ log-slot pages l ok i d h =
     (rw (length-encodeRecords pages (l .records) (ok .records)) (index-in slotSize (length (l .records)) i h))
     ∙ part-encodeAll encodeRecord slotSize (l .records) i d (each-imp (l .records) (λ r o. length-encodeRecord r (o .size)) (ok .records)) h
 
-pub log-valid : (pages : ℕ) (l : Log) → LogOk pages l → logValid pages (length (l .records)) (encodeLog l) ≡ true
-unfolding logValid
+pub log-valid : (pages : ℕ) (l : Log) → LogOk pages l → LogPasses pages (length (l .records)) (encodeLog l)
 log-valid pages l ok =
     let none : Record = decodeRecord [] in
-    and-both
-    (le-leb (length (l .records)) slotCount (log-count pages l ok))
-    (everyBelow-all (length (l .records)) (λ i. slotValid pages (part (encodeLog l) (i * slotSize) slotSize))
-    (λ i h. rw (log-slot pages l ok i none h) (slot-valid pages (getD (l .records) i none) (each-getD (l .records) i none (ok .records) h))))
+    record {
+      few = log-count pages l ok;
+      slots = λ i h. rw (log-slot pages l ok i none h) (slot-valid pages (getD (l .records) i none) (each-getD (l .records) i none (ok .records) h));
+    }
 
 -- ---- an area
 
-pub area-valid : (pages : ℕ) (a : Area) → AreaOk pages a → areaValid pages (encodeArea a) ≡ true
-unfolding areaValid
+pub area-valid : (pages : ℕ) (a : Area) → AreaOk pages a → AreaPasses pages (encodeArea a)
 area-valid pages a ok =
-    rw (areaValid, area-frames pages a ok, area-count pages a ok, area-slots pages a ok)
-    (and-both (frames-valid pages (a .frames) (ok .frames)) (log-valid pages (a .log) (ok .log)))
+    record {
+      frames = rw (area-frames pages a ok) (frames-valid pages (a .frames) (ok .frames));
+      log = rw (area-count pages a ok, area-slots pages a ok) (log-valid pages (a .log) (ok .log));
+    }
 
 -- ---- a block
 
@@ -120,27 +120,18 @@ unfolding selectorByte
 selector-le false = lit≤ tt
 selector-le true = lit≤ tt
 
-pub block-valid : (pages : ℕ) (x : Board) → FieldsOk pages x → blockReadable pages (encodeBoard x) ≡ true
-unfolding blockReadable
+pub block-valid : (pages : ℕ) (x : Board) → FieldsOk pages x → Readable pages (encodeBoard x)
 block-valid pages x ok =
-    rw (
-      blockReadable,
-      board-byte pages x ok stateAt (lit< tt),
-      fixed-state x,
-      board-byte pages x ok selectorAt (lit< tt),
-      fixed-selector x,
-      board-frames pages x ok,
-      board-byte pages x ok volatileCountAt (lit< tt),
-      fixed-volatile x,
-      board-slots pages x ok,
-      board-area0 pages x ok,
-      board-area1 pages x ok,
-    )
-    (and-both (le-leb (stateByte (x .state)) (stateByte Replaying) (state-le (x .state)))
-    (and-both (le-leb (selectorByte (x .stable .second)) (selectorByte true) (selector-le (x .stable .second)))
-    (and-both (frames-valid pages (x .working .frames) (ok .frames))
-    (and-both (log-valid pages (x .working .log) (ok .log))
-    (and-both (area-valid pages (area0 (x .stable)) (area0-ok pages x ok)) (area-valid pages (area1 (x .stable)) (area1-ok pages x ok)))))))
+    record {
+      state = rw (board-byte pages x ok stateAt (lit< tt), fixed-state x) (state-le (x .state));
+      selector = rw (board-byte pages x ok selectorAt (lit< tt), fixed-selector x) (selector-le (x .stable .second));
+      frames = rw (board-frames pages x ok) (frames-valid pages (x .working .frames) (ok .frames));
+      log =
+          rw (board-byte pages x ok volatileCountAt (lit< tt), fixed-volatile x, board-slots pages x ok)
+          (log-valid pages (x .working .log) (ok .log));
+      area0 = rw (board-area0 pages x ok) (area-valid pages (area0 (x .stable)) (area0-ok pages x ok));
+      area1 = rw (board-area1 pages x ok) (area-valid pages (area1 (x .stable)) (area1-ok pages x ok));
+    }
 
 -- ---- all that is written are bytes
 

@@ -5,17 +5,17 @@ use mathlib.Core.Bool.{true, false}
 use mathlib.Core.List.{List, [], _∷_, _++_}
 use lib.ListN.{length, take}
 use lib.Dec.{eqb}
-use Rattle.script.specs.declared.print.Printed.{Printed}
-use Rattle.script.specs.declared.request.Request.{Request}
-use Rattle.script.specs.declared.request.Request.the-variants.{Make, Read, Write, Checkpoint, Cut, Fuse, Restart, Unreadable}
-use Rattle.script.specs.declared.tally.Tally.{Tally}
+use Rattle.lines.specs.declared.print.Printed.{Printed}
+use Rattle.lines.specs.declared.request.Request.{Request}
+use Rattle.lines.specs.declared.request.Request.the-variants.{Make, Read, Write, Checkpoint, Cut, Fuse, Restart, Unreadable}
+use Rattle.lines.specs.declared.tally.Tally.{Tally}
 use Rattle.model.specs.Definitions.Parts.{zeros}
 use Rattle.model.specs.Definitions.Layout.{bankSize}
-use Rattle.script.specs.Definitions.Numbers.{largestNumber}
 use Rattle.model.specs.Definitions.Answers.{code}
 use Rattle.model.specs.Definitions.Calls.{Reading, Writing, Checkpointing, Cutting, Fusing, Restarting, Reply, call, make}
-use Rattle.script.specs.Definitions.Lines.{request}
-use Rattle.script.specs.Definitions.Output.{newline, printedOf, unreadable, lineOf, lastLine}
+use Rattle.lines.specs.Definitions.Lines.{request}
+use Rattle.lines.specs.Definitions.Output.{newline, printedOf, unreadable, lineOf, lastLine}
+use Rattle.lines.specs.Definitions.Tally.{counted, mostLines}
 
 -- ---- one line
 
@@ -45,14 +45,6 @@ work i (Cut b) s = worked (call (Cutting b) s)
 work i (Fuse b k) s = worked (call (Fusing b k) s)
 work i (Restart b) s = worked (call (Restarting b) s)
 work i Unreadable s = unread s
-
--- "one tally of lines read, done and refused (done is code 0, refused all others)"
-unfoldable pub counted : ℕ → Tally → Tally
-counted c t =
-    elim (eqb c 0) [
-      | true ↦ record { read = t .read + 1; done = t .done + 1; refused = t .refused }
-      | false ↦ record { read = t .read + 1; done = t .done; refused = t .refused + 1 }
-    ]
 
 -- ---- the lines of an input, one after the other
 
@@ -89,10 +81,6 @@ linesFrom w (c ∷ cs) = elim (eqb c newline) [ true ↦ w ∷ linesFrom [] cs |
 unfoldable pub runLines : List (List ℕ) → State → List ℕ
 runLines [] s = lastLine (s .tally)
 runLines (l ∷ ls) s = let t : Step = line l s in t .output ++ runLines ls (t .state)
-
--- "reading stops after line 4,294,967,295"
-abbrev pub mostLines : ℕ
-mostLines = largestNumber
 
 -- the whole runner: the output's bytes for the input's
 unfoldable pub run : List ℕ → List ℕ

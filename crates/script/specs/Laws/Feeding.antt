@@ -9,11 +9,12 @@ use lib.Seq.{take-all, take-append-le}
 use lib.Dec.{eqb, ltb}
 use borrow.Author.Tests.{ne-eqb, lt-ltb, ltb-true, ltb-false, leb-true, leb-false}
 use Rattle.model.specs.Laws.Logic.{byBool}
-use Rattle.script.specs.Definitions.Lines.{mostBytes, request}
-use Rattle.script.specs.Definitions.Output.{newline}
-use Rattle.script.specs.Definitions.Runner.{State, begin, stepOf, line, linesFrom, runLines, mostLines, run}
-use Rattle.script.specs.Laws.Tally.{counted-read}
-use Rattle.script.specs.Feeding.{Machine, Fed, idle, withByte, stopped, ended, feedByte, behind, feed, finish, fedWhole}
+use Rattle.lines.specs.Definitions.Lines.{mostBytes, request}
+use Rattle.lines.specs.Definitions.Output.{newline, lastLine}
+use Rattle.script.specs.Definitions.Runner.{State, begin, stepOf, line, linesFrom, runLines, run}
+use Rattle.lines.specs.Definitions.Tally.{mostLines, stopped}
+use Rattle.lines.specs.Laws.Tally.{counted-read}
+use Rattle.script.specs.Feeding.{Machine, Fed, idle, withByte, ended, feedByte, behind, feed, atEnd, finish, fedWhole}
 
 -- ---- feeding in pieces
 
@@ -84,18 +85,37 @@ take-none : (n : ℕ) → take {A = List ℕ} n [] ≡ []
 take-none zero = refl
 take-none (suc n) = refl
 
-whole-behind : (out : List ℕ) (f : Fed) → fedWhole (behind out f) ≡ out ++ fedWhole f
+pub whole-behind : (out : List ℕ) (f : Fed) → fedWhole (behind out f) ≡ out ++ fedWhole f
 unfolding fedWhole behind
 whole-behind out f = append-assoc out (f .output) (finish (f .machine))
 
+-- the end of input, by what the machine holds
+module _ (m : Machine) where
+  pub end-stopped : stopped (m .state .tally) ≡ true → atEnd m ≡ record { machine = m; output = [] }
+  unfolding atEnd
+  end-stopped t = cc t
+
+  pub end-empty : eqb (length (m .pending)) 0 ≡ true → atEnd m ≡ record { machine = m; output = [] }
+  unfolding atEnd
+  end-empty e = byBool (stopped (m .state .tally)) (λ t. cc t) (λ t. cc (t, e))
+
+  pub end-begun : stopped (m .state .tally) ≡ false → eqb (length (m .pending)) 0 ≡ false → atEnd m ≡ ended (line (m .pending) (m .state))
+  unfolding atEnd
+  end-begun t e = cc (t, e)
+
+  pub finish-as : (f : Fed) → atEnd m ≡ f → finish m ≡ f .output ++ lastLine (f .machine .state .tally)
+  unfolding finish
+  finish-as f e = rw e
+
 finish-run : (w : List ℕ) (s : State) → finish (record { pending = kept w; state = s }) ≡ runLines (take (left s) (linesFrom w [])) s
-unfolding finish linesFrom runLines
+unfolding ended linesFrom runLines
 finish-run w s =
+    let m : Machine = record { pending = kept w; state = s } in
     byBool (stopped (s .tally))
-    (λ t. cc (left-stopped s t, t))
+    (λ t. finish-as m _ (end-stopped m t) ∙ cc (left-stopped s t))
     (λ t. byBool (eqb (length w) 0)
-    (λ e. cc (t, e, kept-empty w, take-none (left s)))
-    (λ e. cc (t, e, kept-empty w, kept-line w s, left-line w s t, take-none (left (line w s .state)))))
+    (λ e. finish-as m _ (end-empty m (kept-empty w ∙ e)) ∙ cc (e, take-none (left s)))
+    (λ e. finish-as m _ (end-begun m t (kept-empty w ∙ e)) ∙ cc (e, kept-line w s, left-line w s t, take-none (left (line w s .state)))))
 
 -- one byte, by what it is
 module _ (c : ℕ) (m : Machine) where

@@ -2,7 +2,7 @@
 use Rattle.accesses.specs.Repeated.{to-live, to-last, to-going}
 use Rattle.accesses.specs.BlockReplay.{taken-fields, taken-number, taken-since, taken-right, repeated-fields}
 use Rattle.accesses.specs.Asks.{asked}
-use Rattle.steps.specs.Access.{board-written, block-written}
+use Rattle.steps.specs.BlockLaws.{board-written, block-written}
 use Rattle.steps.specs.Blocks.{IsBlock, boardOf}
 use Rattle.model.specs.Definitions.Replay.{tookDue, replayOver, replayed}
 use Rattle.model.specs.Definitions.Steps.{valueOf}
@@ -42,11 +42,18 @@ took-block : (c : tie.After-take-due) → IsBlock (c .before .before .before .ar
 took-block c = block-written (taken (c .before .before .before)) (c .before .before .before .pre .0 .few) (taken-ok (c .before .before .before)) (took c)
 
 -- the bytes after the access
-did : (c : tie.After-replay-access) → c .replay-access .last .0 ≡ encodeBoard (again (c .before .before .before .before .before .before .before .before .before .before .before .before))
-did c = c .replay-access .ensures ∙ ap (λ (x : Board). encodeBoard (replayed (asked (c .before .before .before .before .before .before .before .before .before .before .before .before .args .ask)) x)) (took-board (c .before .before .before .before .before .before .before .before .before))
+did : (c : tie.After-replay-access) → c .replay-access .last .0
+    ≡ encodeBoard (again (c .before .before .before .before .before .before .before .before .before .before .before .before))
+did c = c .replay-access .ensures ∙ ap (λ (x : Board). encodeBoard
+    (replayed (asked (c .before .before .before .before .before .before .before .before .before .before .before .before .args .ask)) x))
+    (took-board (c .before .before .before .before .before .before .before .before .before))
 
-value-told : (c : tie.After-value-of) → c .value-of .result ≡ valueOf (asked (c .before .before .before .before .before .before .before .before .before .before .args .ask)) (taken (c .before .before .before .before .before .before .before .before .before .before) .working .frames)
-value-told c = let q = c .before .before .before .before .before .before .before .before .before .before .args .ask in c .value-of .ensures (q .value) ∙ ap (λ (x : Board). valueOf (asked q) (x .working .frames)) (took-board (c .before .before .before .before .before .before .before))
+value-told : (c : tie.After-value-of) → c .value-of .result ≡ valueOf
+    (asked (c .before .before .before .before .before .before .before .before .before .before .args .ask))
+    (taken (c .before .before .before .before .before .before .before .before .before .before) .working .frames)
+value-told c = let q = c .before .before .before .before .before .before .before .before .before .before .args .ask
+    in c .value-of .ensures (q .value) ∙ ap (λ (x : Board). valueOf (asked q) (x .working .frames))
+    (took-board (c .before .before .before .before .before .before .before))
 
 take-due-requires : tie.Need-take-due-requires
 take-due-requires c κs = search needs
@@ -60,11 +67,13 @@ same-length c = search needs
 returns : tie.Need-returns
 returns c =
     let t = sym (c .before .replay-over .ensures ∙ ap replayOver (took-board (c .before .before .before .before .before))) ∙ c .if1 .taken in
-    let m = to-live (asked (c .before .before .before .before .before .before .before .before .args .ask)) (at-entry (c .before .before .before .before .before .before .before .before)) t in
+    let m = to-live (asked (c .before .before .before .before .before .before .before .before .args .ask))
+    (at-entry (c .before .before .before .before .before .before .before .before)) t in
     (m .0, took (c .before .before .before .before .before) ∙ ap encodeBoard (m .1))
 
 value-of-requires : tie.Need-value-of-requires
-value-of-requires c κs = let start = c .before .before .before .before .before .before .before .before .before in (took-block (c .before .before .before .before .before .before), start .pre .2, start .pre .3)
+value-of-requires c κs = let start = c .before .before .before .before .before .before .before .before .before
+    in (took-block (c .before .before .before .before .before .before), start .pre .2, start .pre .3)
 
 replay-access-requires : tie.Need-replay-access-requires
 replay-access-requires c κs =
@@ -80,7 +89,11 @@ replay-access-requires c κs =
     )
 
 replay-over-requires-2 : tie.Need-replay-over-requires-2
-replay-over-requires-2 c κs = block-written (again (c .before .before .before .before .before .before .before .before .before .before .before .before .before .before .before)) (c .before .before .before .before .before .before .before .before .before .before .before .before .before .before .before .pre .0 .few) (again-ok (c .before .before .before .before .before .before .before .before .before .before .before .before .before .before .before)) (did (c .before .before .before))
+replay-over-requires-2 c κs =
+    block-written (again (c .before .before .before .before .before .before .before .before .before .before .before .before .before .before .before))
+    (c .before .before .before .before .before .before .before .before .before .before .before .before .before .before .before .pre .0 .few)
+    (again-ok (c .before .before .before .before .before .before .before .before .before .before .before .before .before .before .before))
+    (did (c .before .before .before))
 
 same-length-2 : tie.Need-same-length-2
 same-length-2 c = search needs
@@ -89,7 +102,9 @@ returns-2 : tie.Need-returns-2
 returns-2 c =
     let start = c .before .before .before .before .before .before .before .before .before .before .before .before .before .before .before .before .before in
     let e = board-written (again start) (start .pre .0 .few) (again-ok start) (did (c .before .before .before .before .before)) in
-    let t = sym (c .before .before .before .before .before .before .before .before .before .before .replay-over .ensures ∙ ap replayOver (took-board (c .before .before .before .before .before .before .before .before .before .before .before .before .before .before))) ∙ c .before .before .before .before .before .before .before .before .before .if1 .left in
+    let t = sym (c .before .before .before .before .before .before .before .before .before .before .replay-over .ensures
+    ∙ ap replayOver (took-board (c .before .before .before .before .before .before .before .before .before .before .before .before .before .before)))
+    ∙ c .before .before .before .before .before .before .before .before .before .if1 .left in
     let u = sym (c .before .replay-over2 .ensures ∙ ap replayOver e) ∙ c .if2 .taken in
     let m = to-last (asked (start .args .ask)) (at-entry start) _ (value-told (c .before .before .before .before .before .before .before)) t u in
     (m .0, did (c .before .before .before .before .before) ∙ ap encodeBoard (m .1))
@@ -101,7 +116,9 @@ returns-3 : tie.Need-returns-3
 returns-3 c =
     let start = c .before .before .before .before .before .before .before .before .before .before .before .before .before .before .before .before .before in
     let e = board-written (again start) (start .pre .0 .few) (again-ok start) (did (c .before .before .before .before .before)) in
-    let t = sym (c .before .before .before .before .before .before .before .before .before .before .replay-over .ensures ∙ ap replayOver (took-board (c .before .before .before .before .before .before .before .before .before .before .before .before .before .before))) ∙ c .before .before .before .before .before .before .before .before .before .if1 .left in
+    let t = sym (c .before .before .before .before .before .before .before .before .before .before .replay-over .ensures
+    ∙ ap replayOver (took-board (c .before .before .before .before .before .before .before .before .before .before .before .before .before .before)))
+    ∙ c .before .before .before .before .before .before .before .before .before .if1 .left in
     let u = sym (c .before .replay-over2 .ensures ∙ ap replayOver e) ∙ c .if2 .left in
     let m = to-going (asked (start .args .ask)) (at-entry start) _ (value-told (c .before .before .before .before .before .before .before)) t u in
     (m .0, did (c .before .before .before .before .before) ∙ ap encodeBoard (m .1))

@@ -14,7 +14,8 @@ use Rattle.accesses.proofs.live.board_lacks.Tie as tie
 
 -- the board's block in the bank
 lent : (c : tie.After-block-size)
-    → LentBlock (decode (c .before .before .before .args .bank .now)) (c .before .before .before .args .bank .now) (c .before .before .before .args .pages) (c .before .before .before .args .ask .board) (c .before .block-at .result) (c .block-size .result)
+    → LentBlock (decode (c .before .before .before .args .bank .now)) (c .before .before .before .args .bank .now) (c .before .before .before .args .pages)
+    (c .before .before .before .args .ask .board) (c .before .block-at .result) (c .block-size .result)
 lent c = lent-of (c .before .before .before .pre .0) _ _ (c .before .block-at .ensures) (c .block-size .ensures)
 
 block-at-requires : tie.Need-block-at-requires

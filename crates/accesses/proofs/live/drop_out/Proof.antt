@@ -26,8 +26,11 @@ same-length c = search needs
 returns : tie.Need-returns
 returns c =
     let start = c .before .before .before .before .before .before .before .before .before in
-    let e = c .before .before .before .before .before .count-copies .ensures ∙ ap ones (c .before .before .before .before .before .before .read-copies .ensures ∙ ap (λ (e : Entry). e .copies) (entry-told (start .pre .0) _ (start .pre .1))) in
-    rw (← out-some (start .args .page) (decode (start .args .bank .now)) (copies-some _ _ e (c .before .before .before .before .if1 .taken))) (c .before .before .drop-copies .ensures)
+    let e = c .before .before .before .before .before .count-copies .ensures
+    ∙ ap ones (c .before .before .before .before .before .before .read-copies .ensures
+    ∙ ap (λ (e : Entry). e .copies) (entry-told (start .pre .0) _ (start .pre .1))) in
+    rw (← out-some (start .args .page) (decode (start .args .bank .now)) (copies-some _ _ e (c .before .before .before .before .if1 .taken)))
+    (c .before .before .drop-copies .ensures)
 
 same-length-2 : tie.Need-same-length-2
 same-length-2 c = search needs
@@ -35,7 +38,8 @@ same-length-2 c = search needs
 returns-2 : tie.Need-returns-2
 returns-2 c =
     let start = c .before .before .before .before .before in
-    let e = c .before .count-copies .ensures ∙ ap ones (c .before .before .read-copies .ensures ∙ ap (λ (e : Entry). e .copies) (entry-told (start .pre .0) _ (start .pre .1))) in
+    let e = c .before .count-copies .ensures
+    ∙ ap ones (c .before .before .read-copies .ensures ∙ ap (λ (e : Entry). e .copies) (entry-told (start .pre .0) _ (start .pre .1))) in
     rw (← out-none (start .args .page) (decode (start .args .bank .now)) (copies-none _ _ e (omega arith))) (of-holds (start .pre .0))
 
 pub drop-out-spec : {M : Type 1} → statement M

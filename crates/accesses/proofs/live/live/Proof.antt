@@ -56,7 +56,8 @@ returns-2 c =
     let q = start .args .ask in
     let z : c .before .before .before .before .before .before .live-verdict .result ≡ Pass = cc in
     let did = c .before .before .proceed .ensures in (
-      λ n. rw (live-passed (q .board) (asked q) (running n (decode (start .args .bank .now))) (rw z at (c .before .before .before .before .before .before .live-verdict .ensures))) (did .0 n),
+      λ n. rw (live-passed (q .board) (asked q) (running n (decode (start .args .bank .now)))
+          (rw z at (c .before .before .before .before .before .before .live-verdict .ensures))) (did .0 n),
       did .1,
     )
 

@@ -3,7 +3,7 @@ use Rattle.accesses.specs.Prepared.{refuses-owner, refuses-short, refuse
 use Rattle.accesses.specs.Directory as directory
 use Rattle.accesses.specs.Results.{refusal}
 use Rattle.accesses.specs.Asks.{asked}
-use Rattle.steps.specs.Replay.{named-page}
+use Rattle.steps.specs.Access.{named-page}
 use Rattle.model.specs.Laws.Keeps.Rights.{entry-at}
 use Rattle.model.specs.Definitions.Steps.{pageNamed, giver}
 use Rattle.model.specs.Definitions.Codec.{decode}
@@ -17,15 +17,19 @@ use Rattle.accesses.proofs.live.live_verdict.Statement.{statement}
 use Rattle.accesses.proofs.live.live_verdict.Tie as tie
 
 -- the owner that the directory names
-owner-read : (c : tie.After-read-owner) → c .read-owner .result ≡ entryAt (decode (c .before .before .before .args .bank .now)) (c .before .before .before .args .ask .page) .owner
-owner-read c = c .read-owner .ensures ∙ ap (λ (e : Entry). e .owner) (directory.entry-told (c .before .before .before .pre .bank) _ (c .before .before .before .pre .page))
+owner-read : (c : tie.After-read-owner) → c .read-owner .result
+    ≡ entryAt (decode (c .before .before .before .args .bank .now)) (c .before .before .before .args .ask .page) .owner
+owner-read c = c .read-owner .ensures ∙ ap (λ (e : Entry). e .owner)
+    (directory.entry-told (c .before .before .before .pre .bank) _ (c .before .before .before .pre .page))
 
-owner-named : (c : tie.After-read-owner) → c .read-owner .result ≡ giver (decode (c .before .before .before .args .bank .now)) (pageNamed (asked (c .before .before .before .args .ask)))
+owner-named : (c : tie.After-read-owner)
+    → c .read-owner .result ≡ giver (decode (c .before .before .before .args .bank .now)) (pageNamed (asked (c .before .before .before .args .ask)))
 unfolding giver
 owner-named c = let q = c .before .before .before .args .ask in rw (named-page (q .writes) (q .page) (q .offset) (q .value)) (owner-read c)
 
 owner-in : (c : tie.After-read-owner) → c .read-owner .result < length (decode (c .before .before .before .args .bank .now) .boards)
-owner-in c = let start = c .before .before .before in rw (owner-read c) (entry-at (start .pre .formed) _ (rw (start .pre .bank .count) at (start .pre .page)) .owner)
+owner-in c = let start = c .before .before .before
+    in rw (owner-read c) (entry-at (start .pre .formed) _ (rw (start .pre .bank .count) at (start .pre .page)) .owner)
 
 board-lacks-requires : tie.Need-board-lacks-requires
 board-lacks-requires c κs = search needs
@@ -55,13 +59,17 @@ returns-2 : tie.Need-returns-2
 unfolding refusal
 returns-2 c =
     let read = c .before .before .before .before in
-    refuses-short _ _ _ _ _ (read .before .board-lacks .ensures) (owner-named read) _ _ (sym (c .before .before .before .owner-missing .ensures) ∙ c .before .before .if1 .left) (c .if2 .taken) (c .before .short-board .ensures .0)
+    refuses-short _ _ _ _ _ (read .before .board-lacks .ensures)
+    (owner-named read) _ _ (sym (c .before .before .before .owner-missing .ensures) ∙ c .before .before .if1 .left) (c .if2 .taken)
+    (c .before .short-board .ensures .0)
 
 returns-3 : tie.Need-returns-3
 unfolding refusal
 returns-3 c =
     let read = c .before .before .before .before in
-    refuses-none _ _ _ _ _ (read .before .board-lacks .ensures) (owner-named read) _ _ (sym (c .before .before .before .owner-missing .ensures) ∙ c .before .before .if1 .left) (omega arith) (c .before .short-board .ensures .0)
+    refuses-none _ _ _ _ _ (read .before .board-lacks .ensures)
+    (owner-named read) _ _ (sym (c .before .before .before .owner-missing .ensures) ∙ c .before .before .if1 .left) (omega arith)
+    (c .before .short-board .ensures .0)
 
 pub live-verdict-spec : {M : Type 1} → statement M
 live-verdict-spec =

@@ -14,7 +14,8 @@ use Rattle.accesses.proofs.live.perform_at.Tie as tie
 
 -- the board's block in the bank
 lent : (c : tie.After-block-size)
-    → LentBlock (decode (c .before .before .before .args .bank .now)) (c .before .before .before .args .bank .now) (c .before .before .before .args .pages) (c .before .before .before .args .ask .board) (c .before .block-at .result) (c .block-size .result)
+    → LentBlock (decode (c .before .before .before .args .bank .now)) (c .before .before .before .args .bank .now) (c .before .before .before .args .pages)
+    (c .before .before .before .args .ask .board) (c .before .block-at .result) (c .block-size .result)
 lent c = lent-of (c .before .before .before .pre .0) _ _ (c .before .block-at .ensures) (c .block-size .ensures)
 
 block-at-requires : tie.Need-block-at-requires
@@ -54,7 +55,8 @@ returns c =
     let did = c .before .before .perform-value in (
       did .ensures .0 ∙ ap (λ (x : Board). valueOf (asked q) (x .working .frames)) (lent-board block),
       lent-holds (start .pre .0) block (onWorking (accessed (asked q))) (did .last .0)
-          (performed-fields (lent-fields block) (q .writes) (q .page) (q .offset) (q .value) (omega arith) (ready .right) (ready .number) (ready .since)) (did .kept .0) (did .ensures .1),
+          (performed-fields (lent-fields block) (q .writes) (q .page) (q .offset) (q .value) (omega arith) (ready .right) (ready .number) (ready .since))
+          (did .kept .0) (did .ensures .1),
     )
 
 pub perform-at-spec : {M : Type 1} → statement M

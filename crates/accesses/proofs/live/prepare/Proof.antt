@@ -2,7 +2,7 @@
 use Rattle.accesses.specs.Prepared.{prepared-fetch, prepared-own-write, prepared-local-read, holder-space, came-idle}
 use Rattle.accesses.specs.Directory.{entry-at, entry-told, of-board}
 use Rattle.accesses.specs.Asks.{asked, got-takes}
-use Rattle.steps.specs.Replay.{named-page}
+use Rattle.steps.specs.Access.{named-page}
 use Rattle.model.specs.Laws.Keeps.Rights as rights
 use Rattle.model.specs.Laws.Keeps.Live.{can-fetch}
 use Rattle.model.specs.Definitions.Steps.{giver}
@@ -43,7 +43,8 @@ returns : tie.Need-returns
 returns c =
     let start = c .before .before .before .before .before .before .before .before .before .before in
     let q = start .args .ask in
-    let t = sym (c .before .before .before .before .before .before .before .board-lacks .ensures) ∙ c .before .before .before .before .before .before .if1 .taken in
+    let t = sym (c .before .before .before .before .before .before .before .board-lacks .ensures)
+    ∙ c .before .before .before .before .before .before .if1 .taken in
     let did = c .before .before .fetch .ensures in
     (λ n. rw (prepared-fetch n (q .board) (q .page) (q .offset) (q .value) (decode (start .args .bank .now)) (q .writes) t) at (did .0 n), did .1)
 
@@ -56,7 +57,8 @@ drop-out-requires c κs =
       of-board bank 0 (omega (arith, bank .board)),
       start .pre .0 .page,
       rights.entry-at formed _ (rw (bank .count) at (start .pre .0 .page)),
-      holder-space (q .board) (q .page) (q .offset) (q .value) _ (q .writes) (c .before .if2 .taken) formed (start .pre .1) (start .pre .2) (sym (c .before .before .before .board-lacks .ensures) ∙ c .before .before .if1 .left),
+      holder-space (q .board) (q .page) (q .offset) (q .value) _ (q .writes) (c .before .if2 .taken) formed (start .pre .1) (start .pre .2)
+          (sym (c .before .before .before .board-lacks .ensures) ∙ c .before .before .if1 .left),
     )
 
 same-length-2 : tie.Need-same-length-2
@@ -68,7 +70,8 @@ returns-2 c =
     let q = start .args .ask in
     let t = sym (c .before .before .before .before .before .before .board-lacks .ensures) ∙ c .before .before .before .before .before .if1 .left in (
       λ n.
-          rw (prepared-own-write n (q .board) (q .page) (q .offset) (q .value) (decode (start .args .bank .now)) (q .writes) (c .before .before .before .before .if2 .taken) t) at
+          rw (prepared-own-write n (q .board) (q .page) (q .offset) (q .value) (decode (start .args .bank .now)) (q .writes)
+          (c .before .before .before .before .if2 .taken) t) at
           (came-idle n _ (c .before .before .drop-out .ensures .bytes)),
       omega arith,
     )

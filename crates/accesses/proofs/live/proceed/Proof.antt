@@ -39,8 +39,11 @@ same-length c = search needs
 returns : tie.Need-returns
 returns c =
     let start = c .before .before .before .before .before .before .before .before in
-    let q = start .args .ask in
-    (λ n. answered-lost (q .board) (asked q) n _ (start .pre .0 .formed) (start .pre .1) (start .pre .2) _ _ _ (cc) (c .before .before .before .before .before .prepare .ensures .0 n), c .before .before .before .before .before .prepare .ensures .1)
+    let q = start .args .ask in (
+      λ n. answered-lost (q .board) (asked q) n _ (start .pre .0 .formed) (start .pre .1) (start .pre .2) _ _ _ (cc)
+          (c .before .before .before .before .before .prepare .ensures .0 n),
+      c .before .before .before .before .before .prepare .ensures .1,
+    )
 
 same-length-2 : tie.Need-same-length-2
 same-length-2 c = search needs
@@ -49,8 +52,11 @@ returns-2 : tie.Need-returns-2
 returns-2 c =
     let start = c .before .before .before .before .before .before .before .before .before .before .before in
     let q = start .args .ask in
-    let did = c .before .before .perform-at .ensures in
-    (λ n. answered-done (q .board) (asked q) n _ (start .pre .0 .formed) (start .pre .1) (start .pre .2) _ _ _ (cc) (c .before .before .before .before .before .before .before .before .prepare .ensures .0 n) (did .0) (did .1), c .before .before .before .before .before .before .before .before .prepare .ensures .1)
+    let did = c .before .before .perform-at .ensures in (
+      λ n. answered-done (q .board) (asked q) n _ (start .pre .0 .formed) (start .pre .1) (start .pre .2) _ _ _ (cc)
+          (c .before .before .before .before .before .before .before .before .prepare .ensures .0 n) (did .0) (did .1),
+      c .before .before .before .before .before .before .before .before .prepare .ensures .1,
+    )
 
 pub proceed-spec : {M : Type 1} → statement M
 proceed-spec =

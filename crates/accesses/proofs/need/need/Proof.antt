@@ -13,7 +13,8 @@ returns c =
     let start = c .before .before in
     let q = start .args .ask in
     λ k l o e.
-    c .fetch-need .ensures k (q .page) e ∙ need-fetch (q .board) (q .page) (q .offset) (q .value) k (start .args .board) (q .writes) (sym l ∙ c .before .if1 .taken) (start .args .owner) o
+    c .fetch-need .ensures k (q .page) e ∙ need-fetch (q .board) (q .page) (q .offset) (q .value) k (start .args .board) (q .writes)
+    (sym l ∙ c .before .if1 .taken) (start .args .owner) o
 
 holder-need-requires : tie.Need-holder-need-requires
 holder-need-requires c κs = search needs
@@ -24,7 +25,8 @@ returns-2 c =
     let q = start .args .ask in
     λ k l o e.
     c .holder-need .ensures
-    ∙ need-own-write (q .board) (q .page) (q .offset) (q .value) k (start .args .board) (q .writes) (c .before .if2 .taken) (sym l ∙ c .before .before .if1 .left) (start .args .copies) e
+    ∙ need-own-write (q .board) (q .page) (q .offset) (q .value) k (start .args .board) (q .writes) (c .before .if2 .taken)
+    (sym l ∙ c .before .before .if1 .left) (start .args .copies) e
 
 returns-3 : tie.Need-returns-3
 returns-3 c =

@@ -16,20 +16,26 @@ use Rattle.accesses.proofs.need.short_board.Statement.{statement}
 use Rattle.accesses.proofs.need.short_board.Tie as tie
 
 abbrev Inv-loop : tie.InvT-loop
-Inv-loop bank boards pages ask lacks page owner copies board₀ board = (board ≤ boards) × (firstBelow boards (short (ask .board) (asked ask) (decode bank)) ≡ firstFrom board (boards - board) (short (ask .board) (asked ask) (decode bank)))
+Inv-loop bank boards pages ask lacks page owner copies board₀ board =
+    (board ≤ boards) × (firstBelow boards (short (ask .board) (asked ask) (decode bank))
+    ≡ firstFrom board (boards - board) (short (ask .board) (asked ask) (decode bank)))
 
 abbrev μ-loop : tie.MeasureT-loop
 μ-loop bank boards pages ask lacks page owner copies board₀ board = boards - board
 
 -- what the test of a board says
 told : (c : tie.After-short-of Inv-loop μ-loop)
-    → c .short-of .result ≡ short (c .before .before .before .before .before .before .before .args .ask .board) (asked (c .before .before .before .before .before .before .before .args .ask)) (decode (c .before .before .before .before .before .before .before .args .bank .now)) (c .before .before .before .loop .board)
+    → c .short-of .result ≡ short (c .before .before .before .before .before .before .before .args .ask .board)
+    (asked (c .before .before .before .before .before .before .before .args .ask))
+    (decode (c .before .before .before .before .before .before .before .args .bank .now)) (c .before .before .before .loop .board)
 unfolding short giver
 told c =
     let start = c .before .before .before .before .before .before .before in
     let entry = entry-told (start .pre .0 .bank) _ (start .pre .0 .page) in
     c .short-of .ensures
-    ∙ rw (c .before .need .ensures (decode (start .args .bank .now)) (start .pre .1) (c .before .before .before .before .before .read-owner .ensures ∙ ap (λ (e : Entry). e .owner) entry) (c .before .before .before .before .read-copies .ensures ∙ ap (λ (e : Entry). e .copies) entry))
+    ∙ rw (c .before .need .ensures (decode (start .args .bank .now)) (start .pre .1)
+    (c .before .before .before .before .before .read-owner .ensures ∙ ap (λ (e : Entry). e .owner) entry)
+    (c .before .before .before .before .read-copies .ensures ∙ ap (λ (e : Entry). e .copies) entry))
 
 read-owner-requires : tie.Need-read-owner-requires Inv-loop μ-loop
 read-owner-requires c κs = entry-at (c .before .pre .0 .bank) _ (c .before .pre .0 .page)
@@ -44,7 +50,11 @@ loop-holds : tie.Need-loop-holds Inv-loop μ-loop
 loop-holds c = (omega arith, search-begins _ _)
 
 need-requires : tie.Need-need-requires Inv-loop μ-loop
-need-requires c κs = omega (arith, c .before .before .before .before .before .pre .0 .count, c .before .before .before .before .before .pre .0 .bank .bank .sizes .boards)
+need-requires c κs = omega (
+  arith,
+  c .before .before .before .before .before .pre .0 .count,
+  c .before .before .before .before .before .pre .0 .bank .bank .sizes .boards,
+)
 
 short-of-requires : tie.Need-short-of-requires Inv-loop μ-loop
 short-of-requires c κs =
@@ -56,8 +66,11 @@ returns : tie.Need-returns Inv-loop μ-loop
 unfolding giver
 returns c =
     let start = c .before .before .before .before .before .before .before .before in
-    let loop = c .before .before .before .before .loop in
-    (found-at (start .args .boards) (loop .board) _ (loop .inv .1) (omega arith) (sym (told (c .before)) ∙ c .if1 .taken) ∙ search-of (start .args .boards) _ _ _ (start .pre .0 .count), omega arith)
+    let loop = c .before .before .before .before .loop in (
+      found-at (start .args .boards) (loop .board) _ (loop .inv .1) (omega arith) (sym (told (c .before)) ∙ c .if1 .taken)
+          ∙ search-of (start .args .boards) _ _ _ (start .pre .0 .count),
+      omega arith,
+    )
 
 add-board : tie.Need-add-board Inv-loop μ-loop
 add-board c = omega arith

@@ -11,7 +11,8 @@ use Rattle.accesses.proofs.need.short_of.Tie as tie
 
 -- the board's block in the bank
 lent : (c : tie.After-block-size)
-    → LentBlock (decode (c .before .before .before .before .args .bank .now)) (c .before .before .before .before .args .bank .now) (c .before .before .before .before .args .pages) (c .before .before .before .before .args .board) (c .before .block-at .result) (c .block-size .result)
+    → LentBlock (decode (c .before .before .before .before .args .bank .now)) (c .before .before .before .before .args .bank .now)
+    (c .before .before .before .before .args .pages) (c .before .before .before .before .args .board) (c .before .block-at .result) (c .block-size .result)
 lent c = lent-of (c .before .before .before .before .pre .0) _ _ (c .before .block-at .ensures) (c .block-size .ensures)
 
 returns : tie.Need-returns
@@ -41,7 +42,8 @@ room-requires c κs = lent-block (lent (c .before))
 returns-2 : tie.Need-returns-2
 returns-2 c =
     let start = c .before .before .before .before .before .before in
-    room-short _ (boardAt (decode (start .args .bank .now)) (start .args .board)) (start .args .need) _ (lent-board (lent (c .before .before))) (c .room .ensures)
+    room-short _ (boardAt (decode (start .args .bank .now)) (start .args .board)) (start .args .need) _ (lent-board (lent (c .before .before)))
+    (c .room .ensures)
 
 pub short-of-spec : {M : Type 1} → statement M
 short-of-spec =

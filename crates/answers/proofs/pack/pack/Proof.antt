@@ -1,26 +1,26 @@
--- `answers::pack::pack` meets its contract: each field in its own digits. Assumes nothing.
-use Rattle.answers.specs.Packed.{packed}
+-- `answers::pack::pack` meets its contract: each field in its own digits, so that it is read back. Assumes nothing.
+use mathlib.Core.Path.{ap}
+use Prim.Native.Nat.{_<_}
+use native.Mathlib.Omega.{arith}
+use Rattle.types.specs.declared.AnswerNumbers.{AnswerNumbers}
+use Rattle.model.specs.Definitions.Layout.{byteValues}
+use Rattle.model.specs.Definitions.Answers.{code, value, who}
+use Rattle.answers.specs.Packed.{packed, unpacked-packed}
 use borrow.Author.Needs.{needs}
 use Rattle.answers.proofs.pack.pack.Statement.{statement}
 use Rattle.answers.proofs.pack.pack.Tie as tie
 
-code-of-requires : tie.Need-code-of-requires
-code-of-requires c κs = search needs
+numbers-of-requires : tie.Need-numbers-of-requires
+numbers-of-requires c κs = search needs
 
 cast-code : tie.Need-cast-code
 cast-code c = search needs
-
-who-of-requires : tie.Need-who-of-requires
-who-of-requires c κs = search needs
 
 cast-who : tie.Need-cast-who
 cast-who c = search needs
 
 cast-stores : tie.Need-cast-stores
 cast-stores c = search needs
-
-value-of-requires : tie.Need-value-of-requires
-value-of-requires c κs = search needs
 
 cast-value : tie.Need-cast-value
 cast-value c = search needs
@@ -44,19 +44,21 @@ add-result-3 : tie.Need-add-result-3
 add-result-3 c = search needs
 
 returns : tie.Need-returns
-unfolding packed
-returns c = rw (c .value-of .ensures, c .before .before .who-of .ensures, c .before .before .before .code-of .ensures)
+unfolding packed code who value
+returns c =
+    let o = c .before .before .before .before .before .args .o in
+    let row = c .before .before .before .before .numbers-of in
+    let small : who (o .answer) < byteValues = omega (arith, ap (λ (n : AnswerNumbers). n .who) (row .ensures)) in
+    (rw (row .ensures), rw (row .ensures) (unpacked-packed o small (omega arith)))
 
 pub pack-spec : {M : Type 1} → statement M
 pack-spec =
     tie.close
     (tie.spec
-    code-of-requires
+    numbers-of-requires
     cast-code
-    who-of-requires
     cast-who
     cast-stores
-    value-of-requires
     cast-value
     mul-result
     add-result

@@ -4,7 +4,7 @@ use native.Mathlib.Omega.{arith}
 use Rattle.model.specs.Definitions.Bank.{Board}
 use Rattle.model.specs.Definitions.Codec.{decode}
 use Rattle.steps.specs.BankBlocks.{LentBlock, lent-in, lent-block, lent-board}
-use Rattle.steps.specs.Access.{accessOf}
+use Rattle.steps.specs.Blocks.{readOrWrite}
 use Rattle.exchange.specs.Banks.{lent-of}
 use Rattle.checks.specs.Admission.{admissionOf}
 use borrow.Author.Needs.{needs}
@@ -13,7 +13,8 @@ use Rattle.checks.proofs.admission.admit.Tie as tie
 
 -- the board's block in the bank
 lent : (c : tie.After-block-size)
-    → LentBlock (decode (c .before .before .before .args .bank .now)) (c .before .before .before .args .bank .now) (c .before .before .before .args .pages) (c .before .before .before .args .board) (c .before .block-at .result) (c .block-size .result)
+    → LentBlock (decode (c .before .before .before .args .bank .now)) (c .before .before .before .args .bank .now) (c .before .before .before .args .pages)
+    (c .before .before .before .args .board) (c .before .block-at .result) (c .block-size .result)
 lent c = lent-of (c .before .before .before .pre .0) _ _ (c .before .block-at .ensures) (c .block-size .ensures)
 
 block-at-requires : tie.Need-block-at-requires
@@ -40,7 +41,8 @@ admit-block-requires c κs = (lent-block (lent (c .before)), c .before .before .
 returns : tie.Need-returns
 returns c =
     let q = c .before .before .before .before .before .args in
-    λ o v. c .admit-block .ensures o v ∙ ap (λ (x : Board). admissionOf (q .replaying) (accessOf (q .writes) (q .page) o v) x) (lent-board (lent (c .before .before)))
+    λ o v. c .admit-block .ensures o v ∙ ap (λ (x : Board). admissionOf (q .replaying) (readOrWrite (q .writes) (q .page) o v) x)
+    (lent-board (lent (c .before .before)))
 
 pub admit-spec : {M : Type 1} → statement M
 admit-spec =

@@ -23,12 +23,14 @@ differs-requires c κs = search needs
 returns-3 : tie.Need-returns-3
 returns-3 c =
     let counted = c .before .before .before in
-    λ o v. admits-different _ _ _ (sym (counted .before .counters-full .ensures) ∙ counted .if1 .left) (passed refl (c .before .before .if2 .left)) (sym (c .before .differs .ensures o v) ∙ c .if3 .taken)
+    λ o v. admits-different _ _ _ (sym (counted .before .counters-full .ensures) ∙ counted .if1 .left) (passed refl (c .before .before .if2 .left))
+    (sym (c .before .differs .ensures o v) ∙ c .if3 .taken)
 
 returns-4 : tie.Need-returns-4
 returns-4 c =
     let counted = c .before .before .before in
-    λ o v. admits-repeated _ _ _ (sym (counted .before .counters-full .ensures) ∙ counted .if1 .left) (passed refl (c .before .before .if2 .left)) (sym (c .before .differs .ensures o v) ∙ c .if3 .left)
+    λ o v. admits-repeated _ _ _ (sym (counted .before .counters-full .ensures) ∙ counted .if1 .left) (passed refl (c .before .before .if2 .left))
+    (sym (c .before .differs .ensures o v) ∙ c .if3 .left)
 
 pub admit-block-spec : {M : Type 1} → statement M
 admit-block-spec =

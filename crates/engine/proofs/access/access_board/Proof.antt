@@ -12,7 +12,8 @@ use Rattle.engine.proofs.access.access_board.Tie as tie
 
 -- what the tests of the block said
 told : (c : tie.After-admit)
-    → c .admit .result ≡ admissionOf (c .before .before .before .args .replaying) (asked (c .before .before .before .args .ask)) (boardAt (decode (c .before .before .before .args .bank .now)) (c .before .before .before .args .ask .board))
+    → c .admit .result ≡ admissionOf (c .before .before .before .args .replaying) (asked (c .before .before .before .args .ask))
+    (boardAt (decode (c .before .before .before .args .bank .now)) (c .before .before .before .args .ask .board))
 told c = let q = c .before .before .before .args .ask in c .admit .ensures (q .offset) (q .value)
 
 admit-requires : tie.Need-admit-requires
@@ -45,7 +46,8 @@ board-count-requires c κs = search needs
 replay-requires : tie.Need-replay-requires
 replay-requires c κs =
     let start = c .before .before .before .before .before .before .before .before .before in
-    let can = can-repeat (start .pre .0) (omega arith) (start .pre .1) (start .pre .2) (told (c .before .before .before .before .before .before)) (c .before .before .before .before .enum-told3 .given .1) (c .before .if1 .taken) in
+    let can = can-repeat (start .pre .0) (omega arith) (start .pre .1) (start .pre .2) (told (c .before .before .before .before .before .before))
+    (c .before .before .before .before .enum-told3 .given .1) (c .before .if1 .taken) in
     (asks-counted _ (start .pre .0) (c .before .before .board-count .ensures), can .0, can .1, can .2)
 
 same-length : tie.Need-same-length
@@ -54,13 +56,17 @@ same-length c = search needs
 returns : tie.Need-returns
 returns c =
     let start = c .before .before .before .before .before .before .before .before .before .before .before .before in
-    answers-repeated (start .pre .0) (omega arith) (start .pre .1) (start .pre .2) (told (c .before .before .before .before .before .before .before .before .before)) (c .before .before .before .before .before .before .before .enum-told3 .given .1) (c .before .before .before .before .if1 .taken) (c .before .before .replay .ensures .0)
+    answers-repeated (start .pre .0) (omega arith) (start .pre .1) (start .pre .2)
+    (told (c .before .before .before .before .before .before .before .before .before))
+    (c .before .before .before .before .before .before .before .enum-told3 .given .1) (c .before .before .before .before .if1 .taken)
+    (c .before .before .replay .ensures .0)
 
 live-requires : tie.Need-live-requires
 live-requires c κs =
     let start = c .before .before .before .before .before .before .before .before .before in (
       asks-counted _ (start .pre .0) (c .before .before .board-count .ensures),
-      can-access (start .pre .0) (omega arith) (start .pre .1) (start .pre .2) (told (c .before .before .before .before .before .before)) (c .before .before .before .before .enum-told3 .given .1) (c .before .if1 .left),
+      can-access (start .pre .0) (omega arith) (start .pre .1) (start .pre .2) (told (c .before .before .before .before .before .before))
+          (c .before .before .before .before .enum-told3 .given .1) (c .before .if1 .left),
     )
 
 same-length-2 : tie.Need-same-length-2
@@ -69,7 +75,8 @@ same-length-2 c = search needs
 returns-2 : tie.Need-returns-2
 returns-2 c =
     let start = c .before .before .before .before .before .before in
-    answers-full (start .pre .0) (omega arith) (start .pre .1) (start .pre .2) (told (c .before .before .before)) (c .before .enum-told .given .1) (c .refuse .ensures)
+    answers-full (start .pre .0) (omega arith) (start .pre .1) (start .pre .2) (told (c .before .before .before)) (c .before .enum-told .given .1)
+    (c .refuse .ensures)
 
 same-length-3 : tie.Need-same-length-3
 same-length-3 c = search needs
@@ -77,7 +84,8 @@ same-length-3 c = search needs
 returns-3 : tie.Need-returns-3
 returns-3 c =
     let start = c .before .before .before .before .before .before in
-    answers-differs (start .pre .0) (omega arith) (start .pre .1) (start .pre .2) (told (c .before .before .before)) (c .before .enum-told2 .given .1) (c .refuse2 .ensures)
+    answers-differs (start .pre .0) (omega arith) (start .pre .1) (start .pre .2) (told (c .before .before .before)) (c .before .enum-told2 .given .1)
+    (c .refuse2 .ensures)
 
 same-length-4 : tie.Need-same-length-4
 same-length-4 c = search needs
@@ -85,7 +93,10 @@ same-length-4 c = search needs
 returns-4 : tie.Need-returns-4
 returns-4 c =
     let start = c .before .before .before .before .before .before .before .before .before .before .before .before in
-    answers-live (start .pre .0) (omega arith) (start .pre .1) (start .pre .2) (told (c .before .before .before .before .before .before .before .before .before)) (c .before .before .before .before .before .before .before .enum-told3 .given .1) (c .before .before .before .before .if1 .left) (c .before .before .live .ensures .0 0)
+    answers-live (start .pre .0) (omega arith) (start .pre .1) (start .pre .2)
+    (told (c .before .before .before .before .before .before .before .before .before))
+    (c .before .before .before .before .before .before .before .enum-told3 .given .1) (c .before .before .before .before .if1 .left)
+    (c .before .before .live .ensures .0 0)
 
 pub access-board-spec : {M : Type 1} → statement M
 access-board-spec =

@@ -1,22 +1,22 @@
 -- `engine::checkpoint::checkpoint` meets its contract: each return is one way through the call. Assumes nothing.
-use mathlib.Core.Path.{_≡_, _∙_}
+use mathlib.Core.Path.{_≡_, refl, _∙_}
 use mathlib.Core.Bool.{true}
-use native.Mathlib.Omega.{arith}
 use Rattle.model.specs.Definitions.WellFormed.{isUp}
 use Rattle.model.specs.Definitions.Steps.{start}
 use Rattle.model.specs.Definitions.Calls.{Checkpointing}
-use Rattle.model.specs.Laws.Codes.Statement.{boardOf}
+use Rattle.model.specs.Laws.Codes.Statement.{boardNamed}
 use Rattle.model.specs.Laws.Keeps.Clauses.{up-not-replaying}
 use Rattle.model.specs.Laws.Keeps.Live.{isUp-up}
 use Rattle.validity.specs.Search.{failed, passed}
-use Rattle.checks.specs.Entries.{OnBoard, on-bank, on-formed, on-small, unreadable-says, noBoard-says, board-says}
-use Rattle.engine.specs.Replies.{refused-replied, call-malformed, call-noBoard, ended-replied, checkpoint-refused, checkpoint-done}
+use Rattle.checks.specs.Findings.{OnBoard, on-bank, on-formed, on-small, board-says}
+use Rattle.engine.specs.Replies.{refused-replied, found-replied, ended-replied, checkpoint-refused, checkpoint-done}
 use borrow.Author.Needs.{needs}
 use Rattle.engine.proofs.checkpoint.checkpoint.Statement.{statement}
 use Rattle.engine.proofs.checkpoint.checkpoint.Tie as tie
 
 -- the board that was found, with its state
-found : (c : tie.After-state) → OnBoard (c .before .before .before .before .before .args .board) (c .before .before .before .before .before .args .bank .now) (c .state .given .0 .0)
+found : (c : tie.After-state)
+    → OnBoard (c .before .before .before .before .before .args .board) (c .before .before .before .before .before .args .bank .now) (c .state .given .0 .0)
 found c = board-says _ _ (c .before .before .enter .ensures) (c .state .given .1)
 
 -- and it is up
@@ -26,17 +26,11 @@ up c = passed (c .before .is-up .ensures) (c .if1 .left)
 enter-requires : tie.Need-enter-requires
 enter-requires c κs = search needs
 
-enum-told : tie.Need-enum-told
-enum-told c = search needs
+enum-known-refusal : tie.Need-enum-known-refusal
+enum-known-refusal c = search needs
 
-refuse-requires : tie.Need-refuse-requires
-refuse-requires c κs = search needs
-
-enum-told-2 : tie.Need-enum-told-2
-enum-told-2 c = search needs
-
-refuse-requires-2 : tie.Need-refuse-requires-2
-refuse-requires-2 c κs = search needs
+refuse-entry-requires : tie.Need-refuse-entry-requires
+refuse-entry-requires c κs = search needs
 
 enum-known-state : tie.Need-enum-known-state
 enum-known-state c = search needs
@@ -44,17 +38,17 @@ enum-known-state c = search needs
 is-up-requires : tie.Need-is-up-requires
 is-up-requires c κs = search needs
 
-cast-t15 : tie.Need-cast-t15
-cast-t15 c = omega (arith, on-small (found (c .before .before .before)))
-
-refuse-requires-3 : tie.Need-refuse-requires-3
-refuse-requires-3 c κs = search needs
+wrong-state-requires : tie.Need-wrong-state-requires
+wrong-state-requires c κs = on-small (found (c .before .before .before))
 
 same-length : tie.Need-same-length
 same-length c = search needs
 
 returns : tie.Need-returns
-returns c = refused-replied (checkpoint-refused (found (c .before .before .before .before)) (failed (c .before .before .is-up .ensures) (c .before .if1 .taken))) (c .refuse3 .ensures)
+returns c =
+    refused-replied
+    (checkpoint-refused (found (c .before .before .before .before)) (failed (c .before .before .is-up .ensures) (c .before .if1 .taken)))
+    (c .wrong-state .ensures)
 
 page-count-requires : tie.Need-page-count-requires
 page-count-requires c κs = found (c .before .before .before .before) .whole
@@ -71,21 +65,17 @@ same-length-2 : tie.Need-same-length-2
 same-length-2 c = search needs
 
 returns-2 : tie.Need-returns-2
-returns-2 c = refused-replied (call-malformed (Checkpointing _) _ (unreadable-says _ _ (c .before .before .before .enter .ensures) (c .before .enum-told .given .1))) (c .refuse .ensures)
+unfolding boardNamed
+returns-2 c =
+    found-replied (Checkpointing _) _ refl (c .before .before .before .before .enter .ensures) (c .before .before .refusal .given .1)
+    (c .refuse-entry .ensures)
 
 same-length-3 : tie.Need-same-length-3
 same-length-3 c = search needs
 
 returns-3 : tie.Need-returns-3
-unfolding boardOf
-returns-3 c = refused-replied (call-noBoard (Checkpointing _) _ (noBoard-says _ _ (c .before .before .before .enter .ensures) (c .before .enum-told2 .given .1))) (c .refuse2 .ensures)
-
-same-length-4 : tie.Need-same-length-4
-same-length-4 c = search needs
-
-returns-4 : tie.Need-returns-4
 unfolding start
-returns-4 c =
+returns-3 c =
     let ran = c .before .before .before .checkpoint in
     let tested = c .before .before .before .before .before .before .before in
     let on = found (tested .before .before .before) in
@@ -96,14 +86,11 @@ checkpoint-spec =
     tie.close
     (tie.spec
     enter-requires
-    enum-told
-    refuse-requires
-    enum-told-2
-    refuse-requires-2
+    enum-known-refusal
+    refuse-entry-requires
     enum-known-state
     is-up-requires
-    cast-t15
-    refuse-requires-3
+    wrong-state-requires
     same-length
     returns
     page-count-requires
@@ -112,6 +99,4 @@ checkpoint-spec =
     same-length-2
     returns-2
     same-length-3
-    returns-3
-    same-length-4
-    returns-4)
+    returns-3)

@@ -8,7 +8,7 @@ use Rattle.engine.specs.Making.{make-range, make-length, make-done}
 use borrow.Author.Needs.{needs}
 use Rattle.engine.proofs.make.make.Statement.{statement}
 use Rattle.engine.proofs.make.make.Tie as tie
-use Rattle.model.specs.Definitions.WellFormed.{sizesAllowed}
+use Rattle.model.specs.Definitions.Check.{sizesAllowed}
 use Rattle.model.specs.Laws.Fresh.{sizes-say}
 
 -- what the test of the sizes says, once it passed
@@ -32,7 +32,8 @@ refuse-requires-2 c κs = search needs
 
 returns-2 : tie.Need-returns-2
 returns-2 c =
-    refused-replied (make-length _ _ _ (sizes (c .before .before .before)) (ne-eqb _ _ (λ e. c .before .if2 .taken (e ∙ sym (c .before .before .bank-size .ensures))))) (c .refuse2 .ensures)
+    refused-replied (make-length _ _ _ (sizes (c .before .before .before))
+    (ne-eqb _ _ (λ e. c .before .if2 .taken (e ∙ sym (c .before .before .bank-size .ensures))))) (c .refuse2 .ensures)
 
 write-fresh-requires : tie.Need-write-fresh-requires
 write-fresh-requires c κs = (sizes-say _ _ (sizes (c .before .before .before)), c .before .if2 .left ∙ c .before .before .bank-size .ensures)
@@ -43,7 +44,8 @@ same-length c = search needs
 returns-3 : tie.Need-returns-3
 returns-3 c =
     let tested = c .before .before .before .before in
-    done-replied _ (make-done _ _ _ (sizes (tested .before .before)) (eq-eqb _ _ (tested .if2 .left ∙ tested .before .bank-size .ensures))) (c .before .before .write-fresh .ensures)
+    done-replied _ (make-done _ _ _ (sizes (tested .before .before)) (eq-eqb _ _ (tested .if2 .left ∙ tested .before .bank-size .ensures)))
+    (c .before .before .write-fresh .ensures)
 
 pub make-spec : {M : Type 1} → statement M
 make-spec =

@@ -1,5 +1,5 @@
 -- `engine::power::fuse` meets its contract: each return is one way through the call. Assumes nothing.
-use mathlib.Core.Path.{_≡_, sym, _∙_}
+use mathlib.Core.Path.{_≡_, refl, sym, _∙_}
 use mathlib.Core.Bool.{true, _&&_}
 use native.Mathlib.Omega.{arith}
 use lib.Dec.{ltb}
@@ -7,36 +7,33 @@ use borrow.Author.Tests.{ltb-true}
 use Rattle.model.specs.Definitions.Layout.{noFuse}
 use Rattle.model.specs.Definitions.Calls.{Fusing}
 use Rattle.model.specs.Laws.Logic.{and-right}
-use Rattle.model.specs.Laws.Codes.Statement.{boardOf}
+use Rattle.model.specs.Laws.Codes.Statement.{boardNamed}
 use Rattle.validity.specs.Search.{failed, passed}
-use Rattle.checks.specs.Entries.{OnBoard, on-small, unreadable-says, noBoard-says, board-says}
-use Rattle.engine.specs.Replies.{refused-replied, done-replied, call-malformed, call-noBoard, fuse-stores, fuse-down, fuse-done}
+use Rattle.checks.specs.Findings.{OnBoard, on-small, board-says}
+use Rattle.engine.specs.Replies.{refused-replied, found-replied, done-replied, fuse-stores, fuse-down, fuse-done}
 use borrow.Author.Needs.{needs}
 use Rattle.engine.proofs.power.fuse.Statement.{statement}
 use Rattle.engine.proofs.power.fuse.Tie as tie
 
 -- the board that was found, with its state
-found : (c : tie.After-state) → OnBoard (c .before .before .before .before .before .args .board) (c .before .before .before .before .before .args .bank .now) (c .state .given .0 .0)
+found : (c : tie.After-state)
+    → OnBoard (c .before .before .before .before .before .args .board) (c .before .before .before .before .before .args .bank .now) (c .state .given .0 .0)
 found c = board-says _ _ (c .before .before .enter .ensures) (c .state .given .1)
 
 -- the number of stores is one that a fuse may have
-allowed : (c : tie.Else1) → (ltb 0 (c .before .before .before .before .before .before .before .before .args .stores) && ltb (c .before .before .before .before .before .before .before .before .args .stores) noFuse) ≡ true
+allowed : (c : tie.Else1)
+    → (ltb 0 (c .before .before .before .before .before .before .before .before .args .stores)
+    && ltb (c .before .before .before .before .before .before .before .before .args .stores) noFuse) ≡ true
 allowed c = passed (c .before .settable .ensures) (c .if1 .left)
 
 enter-requires : tie.Need-enter-requires
 enter-requires c κs = search needs
 
-enum-told : tie.Need-enum-told
-enum-told c = search needs
+enum-known-refusal : tie.Need-enum-known-refusal
+enum-known-refusal c = search needs
 
-refuse-requires : tie.Need-refuse-requires
-refuse-requires c κs = search needs
-
-enum-told-2 : tie.Need-enum-told-2
-enum-told-2 c = search needs
-
-refuse-requires-2 : tie.Need-refuse-requires-2
-refuse-requires-2 c κs = search needs
+refuse-entry-requires : tie.Need-refuse-entry-requires
+refuse-entry-requires c κs = search needs
 
 enum-known-state : tie.Need-enum-known-state
 enum-known-state c = search needs
@@ -44,29 +41,33 @@ enum-known-state c = search needs
 settable-requires : tie.Need-settable-requires
 settable-requires c κs = search needs
 
-refuse-requires-3 : tie.Need-refuse-requires-3
-refuse-requires-3 c κs = search needs
+refuse-requires : tie.Need-refuse-requires
+refuse-requires c κs = search needs
 
 same-length : tie.Need-same-length
 same-length c = search needs
 
 returns : tie.Need-returns
-returns c = refused-replied (fuse-stores (found (c .before .before .before .before)) _ (failed (c .before .before .settable .ensures) (c .before .if1 .taken))) (c .refuse3 .ensures)
+returns c =
+    refused-replied
+    (fuse-stores (found (c .before .before .before .before)) _ (failed (c .before .before .settable .ensures) (c .before .if1 .taken)))
+    (c .refuse .ensures)
 
 is-down-requires : tie.Need-is-down-requires
 is-down-requires c κs = search needs
 
-cast-t16 : tie.Need-cast-t16
-cast-t16 c = omega (arith, on-small (found (c .before .before .before .before .before)))
-
-refuse-requires-4 : tie.Need-refuse-requires-4
-refuse-requires-4 c κs = search needs
+wrong-state-requires : tie.Need-wrong-state-requires
+wrong-state-requires c κs = on-small (found (c .before .before .before .before .before))
 
 same-length-2 : tie.Need-same-length-2
 same-length-2 c = search needs
 
 returns-2 : tie.Need-returns-2
-returns-2 c = refused-replied (fuse-down (found (c .before .before .before .before .before .before)) _ (allowed (c .before .before .before)) (sym (c .before .before .is-down .ensures) ∙ c .before .if2 .taken)) (c .refuse4 .ensures)
+returns-2 c =
+    refused-replied
+    (fuse-down (found (c .before .before .before .before .before .before)) _ (allowed (c .before .before .before))
+    (sym (c .before .before .is-down .ensures) ∙ c .before .if2 .taken))
+    (c .wrong-state .ensures)
 
 page-count-requires : tie.Need-page-count-requires
 page-count-requires c κs = found (c .before .before .before .before .before .before) .whole
@@ -85,41 +86,35 @@ same-length-3 : tie.Need-same-length-3
 same-length-3 c = search needs
 
 returns-3 : tie.Need-returns-3
-returns-3 c = refused-replied (call-malformed (Fusing _ _) _ (unreadable-says _ _ (c .before .before .before .enter .ensures) (c .before .enum-told .given .1))) (c .refuse .ensures)
+unfolding boardNamed
+returns-3 c =
+    found-replied (Fusing _ _) _ refl (c .before .before .before .before .enter .ensures) (c .before .before .refusal .given .1)
+    (c .refuse-entry .ensures)
 
 same-length-4 : tie.Need-same-length-4
 same-length-4 c = search needs
 
 returns-4 : tie.Need-returns-4
-unfolding boardOf
-returns-4 c = refused-replied (call-noBoard (Fusing _ _) _ (noBoard-says _ _ (c .before .before .before .enter .ensures) (c .before .enum-told2 .given .1))) (c .refuse2 .ensures)
-
-same-length-5 : tie.Need-same-length-5
-same-length-5 c = search needs
-
-returns-5 : tie.Need-returns-5
-returns-5 c =
+returns-4 c =
     let tested = c .before .before .before .before .before .before in
     let set = tested .before .before in
-    done-replied _ (fuse-done (found (set .before .before .before)) _ (allowed set) (sym (tested .before .is-down .ensures) ∙ tested .if2 .left)) (c .before .before .set-board-fuse .ensures)
+    done-replied _ (fuse-done (found (set .before .before .before)) _ (allowed set) (sym (tested .before .is-down .ensures) ∙ tested .if2 .left))
+    (c .before .before .set-board-fuse .ensures)
 
 pub fuse-spec : {M : Type 1} → statement M
 fuse-spec =
     tie.close
     (tie.spec
     enter-requires
-    enum-told
-    refuse-requires
-    enum-told-2
-    refuse-requires-2
+    enum-known-refusal
+    refuse-entry-requires
     enum-known-state
     settable-requires
-    refuse-requires-3
+    refuse-requires
     same-length
     returns
     is-down-requires
-    cast-t16
-    refuse-requires-4
+    wrong-state-requires
     same-length-2
     returns-2
     page-count-requires
@@ -128,6 +123,4 @@ fuse-spec =
     same-length-3
     returns-3
     same-length-4
-    returns-4
-    same-length-5
-    returns-5)
+    returns-4)

@@ -2,8 +2,8 @@
 use mathlib.Core.Path.{ap, _∙_}
 use Rattle.model.specs.Definitions.WellFormed.{FieldsOk}
 use Rattle.model.specs.Definitions.Replay.{replayOver}
-use Rattle.steps.specs.Blocks.{boardOf, block-length}
-use Rattle.steps.specs.Access.{board-written, block-written}
+use Rattle.steps.specs.Blocks.{boardOf}
+use Rattle.steps.specs.BlockLaws.{block-length, board-written, block-written}
 use Rattle.steps.specs.Selected.{stored-number}
 use Rattle.engine.specs.Restarts.{restarted, restarted-fields}
 use borrow.Author.Needs.{needs}
@@ -17,11 +17,12 @@ fields c = restarted-fields _ (c .pre .fields)
 read-number-requires : tie.Need-read-number-requires
 read-number-requires c κs = (c .before .before .pre .few, block-length (c .before .before .pre))
 
-restart-requires : tie.Need-restart-requires
-restart-requires c κs = search needs
+begin-replay-requires : tie.Need-begin-replay-requires
+begin-replay-requires c κs = search needs
 
 replay-over-requires : tie.Need-replay-over-requires
-replay-over-requires c κs = let start = c .before .before .before .before .before .before .before .before in block-written _ (start .pre .few) (fields start) (c .before .before .before .restart .ensures)
+replay-over-requires c κs = let start = c .before .before .before .before .before .before .before .before
+    in block-written _ (start .pre .few) (fields start) (c .before .before .before .begin-replay .ensures)
 
 same-length : tie.Need-same-length
 same-length c = search needs
@@ -29,10 +30,14 @@ same-length c = search needs
 returns : tie.Need-returns
 returns c =
     let start = c .before .before .before .before .before .before .before .before .before in
-    let stepped = c .before .before .before .before .restart .ensures in
-    (c .before .before .before .before .before .before .read-number .ensures ∙ stored-number (start .pre), c .replay-over .ensures ∙ ap replayOver (board-written _ (start .pre .few) (fields start) stepped), stepped)
+    let stepped = c .before .before .before .before .begin-replay .ensures in (
+      c .before .before .before .before .before .before .read-number .ensures ∙ stored-number (start .pre),
+      c .replay-over .ensures
+          ∙ ap replayOver (board-written _ (start .pre .few) (fields start) stepped),
+      stepped,
+    )
 
 pub restart-block-spec : {M : Type 1} → statement M
 restart-block-spec =
     tie.close
-    (tie.spec read-number-requires restart-requires replay-over-requires same-length returns)
+    (tie.spec read-number-requires begin-replay-requires replay-over-requires same-length returns)

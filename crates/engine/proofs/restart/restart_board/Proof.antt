@@ -13,7 +13,8 @@ use Rattle.engine.proofs.restart.restart_board.Tie as tie
 
 -- the board's block in the bank
 lent : (c : tie.After-block-size)
-    → LentBlock (decode (c .before .before .before .args .bank .now)) (c .before .before .before .args .bank .now) (c .before .before .before .args .pages) (c .before .before .before .args .board) (c .before .block-at .result) (c .block-size .result)
+    → LentBlock (decode (c .before .before .before .args .bank .now)) (c .before .before .before .args .bank .now) (c .before .before .before .args .pages)
+    (c .before .before .before .args .board) (c .before .block-at .result) (c .block-size .result)
 lent c = lent-of (c .before .before .before .pre) _ _ (c .before .block-at .ensures) (c .block-size .ensures)
 
 block-at-requires : tie.Need-block-at-requires
@@ -46,7 +47,8 @@ returns c =
     let stepped = c .before .before .restart-block in (
       stepped .ensures .0 ∙ ap (λ (x : Board). x .stable .selected .number) (lent-board block),
       stepped .ensures .1 ∙ ap (λ (x : Board). replayOver (restarted x)) (lent-board block),
-      lent-holds (c .before .before .before .before .before .before .before .pre) block restarted (stepped .last .0) (restarted-fields _ (lent-fields block)) (stepped .kept .0) (stepped .ensures .2),
+      lent-holds (c .before .before .before .before .before .before .before .pre) block restarted (stepped .last .0) (restarted-fields _ (lent-fields block))
+          (stepped .kept .0) (stepped .ensures .2),
     )
 
 pub restart-board-spec : {M : Type 1} → statement M

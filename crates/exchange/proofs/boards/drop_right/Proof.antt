@@ -10,7 +10,8 @@ use Rattle.model.specs.Definitions.Bank.{emptyFrame}
 use Rattle.model.specs.Definitions.Codec.{pageOf}
 use Rattle.model.specs.Definitions.WellFormed.{isGot}
 use Rattle.model.specs.Definitions.Steps.{dropped}
-use Rattle.model.specs.Laws.Keeps.Records.{Recordable, recordable-plain}
+use Rattle.model.specs.Laws.Keeps.NotedRecords.{recordable-plain}
+use Rattle.model.specs.Contracts.{Recordable}
 use Rattle.exchange.specs.Blocks.{recorded-block, recorded-frame}
 use borrow.Author.Needs.{needs}
 use Rattle.exchange.proofs.boards.drop_right.Statement.{statement}
@@ -47,7 +48,8 @@ unfolding dropped zeros
 returns c =
     let start = c .before .before .before .before .before .before .before .before .before .before in
     rw (c .before .before .before .empty-frame .ensures) at
-    (recorded-frame _ _ (start .pre .0) (start .pre .1) (drop-recordable (start .pre .2)) (c .before .before .before .before .before .before .before .«record» .ensures) (start .args .page) _ _ (c .before .before .set-frame .ensures))
+    (recorded-frame _ _ (start .pre .0) (start .pre .1) (drop-recordable (start .pre .2))
+    (c .before .before .before .before .before .before .before .«record» .ensures) (start .args .page) _ _ (c .before .before .set-frame .ensures))
 
 pub drop-right-spec : {M : Type 1} → statement M
 drop-right-spec = tie.close (tie.spec cast-t7 record-requires empty-frame-requires set-frame-requires same-length returns)

@@ -1,7 +1,7 @@
 -- `exchange::boards::take_copy` meets its contract: the record, then the frame. Assumes nothing.
 use Rattle.types.specs.declared.CopyOrOwn.the-variants.{GotCopy}
 use Rattle.model.specs.Laws.Boards.{tookCopy}
-use Rattle.model.specs.Laws.Keeps.Records.{recordable-got}
+use Rattle.model.specs.Laws.Keeps.NotedRecords.{recordable-got}
 use Rattle.exchange.specs.Blocks.{recorded-block, recorded-frame}
 use borrow.Author.Needs.{needs}
 use Rattle.exchange.proofs.boards.take_copy.Statement.{statement}
@@ -18,7 +18,8 @@ record-requires c κs =
 set-frame-requires : tie.Need-set-frame-requires
 set-frame-requires c κs =
     let start = c .before .before .before .before .before .before .before in (
-      recorded-block _ _ (start .pre .0) (start .pre .1) (recordable-got GotCopy (start .pre .3) (start .pre .2)) (c .before .before .before .«record» .ensures),
+      recorded-block _ _ (start .pre .0) (start .pre .1) (recordable-got GotCopy (start .pre .3) (start .pre .2))
+          (c .before .before .before .«record» .ensures),
       start .pre .2,
       start .pre .3 .size,
     )
@@ -30,7 +31,8 @@ returns : tie.Need-returns
 unfolding tookCopy
 returns c =
     let start = c .before .before .before .before .before .before .before .before .before .before in
-    recorded-frame _ _ (start .pre .0) (start .pre .1) (recordable-got GotCopy (start .pre .3) (start .pre .2)) (c .before .before .before .before .before .before .«record» .ensures) _ _ _ (c .before .before .set-frame .ensures)
+    recorded-frame _ _ (start .pre .0) (start .pre .1) (recordable-got GotCopy (start .pre .3) (start .pre .2))
+    (c .before .before .before .before .before .before .«record» .ensures) _ _ _ (c .before .before .set-frame .ensures)
 
 pub take-copy-spec : {M : Type 1} → statement M
 take-copy-spec = tie.close (tie.spec cast-t10 record-requires set-frame-requires same-length returns)

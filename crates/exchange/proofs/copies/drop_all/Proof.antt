@@ -3,7 +3,8 @@ use mathlib.Core.Path.{_≡_, refl, _∙_}
 use lib.ListN.{length}
 use Rattle.model.specs.Definitions.Codec.{decode}
 use Rattle.exchange.specs.Banks.{of-holds}
-use Rattle.exchange.specs.Drops.{Dropping, dropping-first, dropping-last, lowest-below, lowest-left, without-less, dropping-of, dropping-space, dropping-next}
+use Rattle.exchange.specs.Drops.{Dropping, dropping-first, dropping-last, lowest-below, lowest-left, without-less, dropping-of, dropping-space}
+use Rattle.exchange.specs.Drops.{dropping-next}
 use borrow.Author.Needs.{needs}
 use Rattle.exchange.proofs.copies.drop_all.Statement.{statement}
 use Rattle.exchange.proofs.copies.drop_all.Tie as tie
@@ -32,12 +33,14 @@ drop-at-requires c κs =
 without-holder-requires : tie.Need-without-holder-requires Inv-loop μ-loop
 without-holder-requires c κs =
     let start = c .before .before .before .before .before .before .before .before in
-    lowest-below (c .before .before .before .before .before .before .loop .inv .1) (start .pre .1) (start .pre .0 .bank .sizes .boards) (c .before .before .before .before .before .loop-test .taken) (c .before .before .before .before .lowest-holder .ensures)
+    lowest-below (c .before .before .before .before .before .before .loop .inv .1) (start .pre .1) (start .pre .0 .bank .sizes .boards)
+    (c .before .before .before .before .before .loop-test .taken) (c .before .before .before .before .lowest-holder .ensures)
 
 loop-less : tie.Need-loop-less Inv-loop μ-loop
 loop-less c =
     let start = c .before .before .before .before .before .before .before .before .before in
-    let among = lowest-left (c .before .before .before .before .before .before .before .loop .inv .1) (start .pre .1) (start .pre .0 .bank .sizes .boards) (c .before .before .before .before .before .before .loop-test .taken) (c .before .before .before .before .before .lowest-holder .ensures) in
+    let among = lowest-left (c .before .before .before .before .before .before .before .loop .inv .1) (start .pre .1) (start .pre .0 .bank .sizes .boards)
+    (c .before .before .before .before .before .before .loop-test .taken) (c .before .before .before .before .before .lowest-holder .ensures) in
     without-less _ _ _ among (c .without-holder .ensures)
 
 loop-again : tie.Need-loop-again Inv-loop μ-loop
@@ -46,7 +49,8 @@ loop-again c =
     let loop = c .before .before .before .before .before .before .before .loop in
     let went = c .before .before .before .drop-at in (
       went .kept .0 ∙ loop .inv .0,
-      dropping-next (loop .inv .1) (start .pre .1) (start .pre .0 .bank .sizes .boards) (c .before .before .before .before .before .before .loop-test .taken) (c .before .before .before .before .before .lowest-holder .ensures) _ _ (c .without-holder .ensures) (went .ensures),
+      dropping-next (loop .inv .1) (start .pre .1) (start .pre .0 .bank .sizes .boards) (c .before .before .before .before .before .before .loop-test .taken)
+          (c .before .before .before .before .before .lowest-holder .ensures) _ _ (c .without-holder .ensures) (went .ensures),
     )
 
 same-length : tie.Need-same-length Inv-loop μ-loop

@@ -11,7 +11,8 @@ use Rattle.exchange.proofs.copies.drop_at.Tie as tie
 
 -- the board's block in the bank
 lent : (c : tie.After-block-size)
-    → LentBlock (decode (c .before .before .before .args .bank .now)) (c .before .before .before .args .bank .now) (c .before .before .before .args .pages) (c .before .before .before .args .board) (c .before .block-at .result) (c .block-size .result)
+    → LentBlock (decode (c .before .before .before .args .bank .now)) (c .before .before .before .args .bank .now) (c .before .before .before .args .pages)
+    (c .before .before .before .args .board) (c .before .block-at .result) (c .block-size .result)
 lent c = lent-of (c .before .before .before .pre .0) _ _ (c .before .block-at .ensures) (c .block-size .ensures)
 
 block-at-requires : tie.Need-block-at-requires
@@ -33,7 +34,8 @@ part-drop-right-end : tie.Need-part-drop-right-end
 part-drop-right-end c = lent-in (lent c)
 
 drop-right-requires : tie.Need-drop-right-requires
-drop-right-requires c κs = let pre = c .before .before .before .before .pre in (lent-block (lent (c .before)), rw (lent-board (lent (c .before))) (pre .1), pre .2)
+drop-right-requires c κs = let pre = c .before .before .before .before .pre
+    in (lent-block (lent (c .before)), rw (lent-board (lent (c .before))) (pre .1), pre .2)
 
 same-length : tie.Need-same-length
 same-length c = search needs
@@ -43,7 +45,8 @@ returns c =
     let start = c .before .before .before .before .before .before .before in
     let block = lent (c .before .before .before .before) in
     let done = c .before .before .drop-right in
-    lent-holds (start .pre .0) block (dropped (start .args .page)) (done .last .0) (dropped-fields (lent-fields block) _ (start .pre .2) (start .pre .1)) (done .kept .0) (done .ensures)
+    lent-holds (start .pre .0) block (dropped (start .args .page)) (done .last .0) (dropped-fields (lent-fields block) _ (start .pre .2) (start .pre .1))
+    (done .kept .0) (done .ensures)
 
 pub drop-at-spec : {M : Type 1} → statement M
 drop-at-spec =

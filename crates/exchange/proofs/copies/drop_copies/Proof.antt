@@ -25,7 +25,8 @@ drop-all-requires c κs =
 
 write-entry-requires : tie.Need-write-entry-requires
 unfolding dropAt
-write-entry-requires c κs = entry-in (c .before .before .before .drop-all .ensures) _ (omega (arith, c .before .before .before .before .before .before .before .before .before .before .pre .0 .count))
+write-entry-requires c κs = entry-in (c .before .before .before .drop-all .ensures)
+    _ (omega (arith, c .before .before .before .before .before .before .before .before .before .before .pre .0 .count))
 
 same-length : tie.Need-same-length
 same-length c = search needs
@@ -33,7 +34,10 @@ same-length c = search needs
 returns : tie.Need-returns
 returns c =
     let start = c .before .before .before .before .before .before .before .before .before .before .before .before .before in
-    copies-dropped (start .args .page) _ _ (omega (arith, start .pre .0 .count)) (of-holds (start .pre .0)) (c .before .before .before .before .before .before .before .before .before .before .read-owner .ensures) (c .before .before .before .before .before .before .before .before .read-copies .ensures) (c .before .before .before .before .before .before .drop-all .ensures) (c .before .before .write-entry .ensures)
+    copies-dropped (start .args .page) _ _ (omega (arith, start .pre .0 .count)) (of-holds (start .pre .0))
+    (c .before .before .before .before .before .before .before .before .before .before .read-owner .ensures)
+    (c .before .before .before .before .before .before .before .before .read-copies .ensures)
+    (c .before .before .before .before .before .before .drop-all .ensures) (c .before .before .write-entry .ensures)
 
 pub drop-copies-spec : {M : Type 1} → statement M
 drop-copies-spec =

@@ -16,18 +16,21 @@ copy-to-requires c κs = search needs
 
 read-owner-requires : tie.Need-read-owner-requires
 unfolding onBoard
-read-owner-requires c κs = entry-in (c .before .before .before .copy-to .ensures) _ (omega (arith, c .before .before .before .before .before .before .before .before .pre .0 .count))
+read-owner-requires c κs = entry-in (c .before .before .before .copy-to .ensures)
+    _ (omega (arith, c .before .before .before .before .before .before .before .before .pre .0 .count))
 
 read-copies-requires : tie.Need-read-copies-requires
 unfolding onBoard
-read-copies-requires c κs = entry-in (c .before .before .before .before .before .copy-to .ensures) _ (omega (arith, c .before .before .before .before .before .before .before .before .before .before .pre .0 .count))
+read-copies-requires c κs = entry-in (c .before .before .before .before .before .copy-to .ensures)
+    _ (omega (arith, c .before .before .before .before .before .before .before .before .before .before .pre .0 .count))
 
 with-holder-requires : tie.Need-with-holder-requires
 with-holder-requires c κs = search needs
 
 write-entry-requires : tie.Need-write-entry-requires
 unfolding onBoard
-write-entry-requires c κs = entry-in (c .before .before .before .before .before .before .before .before .copy-to .ensures) _ (omega (arith, c .before .before .before .before .before .before .before .before .before .before .before .before .before .pre .0 .count))
+write-entry-requires c κs = entry-in (c .before .before .before .before .before .before .before .before .copy-to .ensures)
+    _ (omega (arith, c .before .before .before .before .before .before .before .before .before .before .before .before .before .pre .0 .count))
 
 same-length : tie.Need-same-length
 same-length c = search needs
@@ -37,7 +40,11 @@ returns c =
     let start = c .before .before .before .before .before .before .before .before .before .before .before .before .before .before .before .before in
     let args = start .args in
     let wrote = c .before .before in
-    copy-given (decode (args .bank .now)) (args .owner) (args .board) (args .page) _ _ _ _ (omega (arith, start .pre .0 .count)) (c .before .before .before .before .before .before .before .before .before .before .before .before .before .page-frame .ensures .0) (c .before .before .before .before .before .before .before .before .before .before .before .copy-to .ensures) (c .before .before .before .before .before .before .before .read-owner .ensures) (c .before .before .before .before .before .read-copies .ensures) (wrote .before .with-holder .ensures) (wrote .write-entry .ensures)
+    copy-given (decode (args .bank .now)) (args .owner) (args .board) (args .page) _ _ _ _ (omega (arith, start .pre .0 .count))
+    (c .before .before .before .before .before .before .before .before .before .before .before .before .before .page-frame .ensures .0)
+    (c .before .before .before .before .before .before .before .before .before .before .before .copy-to .ensures)
+    (c .before .before .before .before .before .before .before .read-owner .ensures) (c .before .before .before .before .before .read-copies .ensures)
+    (wrote .before .with-holder .ensures) (wrote .write-entry .ensures)
 
 pub give-copy-spec : {M : Type 1} → statement M
 give-copy-spec =

@@ -11,7 +11,8 @@ use Rattle.exchange.proofs.copies.own_to.Tie as tie
 
 -- the board's block in the bank
 lent : (c : tie.After-block-size)
-    → LentBlock (decode (c .before .before .before .args .bank .now)) (c .before .before .before .args .bank .now) (c .before .before .before .args .pages) (c .before .before .before .args .board) (c .before .block-at .result) (c .block-size .result)
+    → LentBlock (decode (c .before .before .before .args .bank .now)) (c .before .before .before .args .bank .now) (c .before .before .before .args .pages)
+    (c .before .before .before .args .board) (c .before .block-at .result) (c .block-size .result)
 lent c = lent-of (c .before .before .before .pre .0) _ _ (c .before .block-at .ensures) (c .block-size .ensures)
 
 block-at-requires : tie.Need-block-at-requires
@@ -43,7 +44,8 @@ returns c =
     let start = c .before .before .before .before .before .before .before in
     let block = lent (c .before .before .before .before) in
     let done = c .before .before .take-own in
-    lent-holds (start .pre .0) block (tookOwn (start .args .page) (start .args .frame .bytes)) (done .last .0) (tookOwn-fields (lent-fields block) _ (start .args .frame) (start .pre .2)) (done .kept .0) (done .ensures)
+    lent-holds (start .pre .0) block (tookOwn (start .args .page) (start .args .frame .bytes)) (done .last .0)
+    (tookOwn-fields (lent-fields block) _ (start .args .frame) (start .pre .2)) (done .kept .0) (done .ensures)
 
 pub own-to-spec : {M : Type 1} → statement M
 own-to-spec =

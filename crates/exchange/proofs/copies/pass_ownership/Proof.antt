@@ -42,8 +42,11 @@ own-to-requires : tie.Need-own-to-requires
 unfolding dropAt
 own-to-requires c κs =
     let pre = c .before .before .before .before .before .before .before .before .before .before .before .before .pre in
-    let dropped = c .before .before .before .drop-all .ensures in
-    (holds-of dropped _ _ (pre .0 .count) (rw (boards-dropAt _ _ _) (pre .0 .board)), pre .3, c .before .before .before .before .before .before .before .before .before .page-frame .ensures .1)
+    let dropped = c .before .before .before .drop-all .ensures in (
+      holds-of dropped _ _ (pre .0 .count) (rw (boards-dropAt _ _ _) (pre .0 .board)),
+      pre .3,
+      c .before .before .before .before .before .before .before .before .before .page-frame .ensures .1,
+    )
 
 cast-write-entry : tie.Need-cast-write-entry
 cast-write-entry c = search needs
@@ -60,10 +63,17 @@ same-length c = search needs
 
 returns : tie.Need-returns
 returns c =
-    let start = c .before .before .before .before .before .before .before .before .before .before .before .before .before .before .before .before .before .before .before in
+    let start = c .before .before .before .before .before .before .before .before .before .before .before .before .before .before .before .before .before
+    .before .before in
     let args = start .args in
-    let losers = c .before .before .before .before .before .before .before .before .before .before .before .before .with-holder .ensures ∙ ap (withMember (args .owner)) (c .before .before .before .before .before .before .before .before .before .before .before .before .before .without-holder .ensures) in
-    page-passed (args .owner) (args .board) (args .page) _ _ (omega (arith, start .pre .0 .count)) (of-holds (start .pre .0)) (start .pre .2) (c .before .before .before .before .before .before .before .before .before .before .before .before .before .before .read-copies .ensures) losers _ (c .before .before .before .before .before .before .before .before .before .before .before .before .before .before .before .before .page-frame .ensures .0) (c .before .before .before .before .before .before .before .before .before .before .drop-all .ensures) (c .before .before .before .before .before .before .own-to .ensures) (c .before .before .write-entry .ensures)
+    let losers = c .before .before .before .before .before .before .before .before .before .before .before .before .with-holder .ensures
+    ∙ ap (withMember (args .owner))
+    (c .before .before .before .before .before .before .before .before .before .before .before .before .before .without-holder .ensures) in
+    page-passed (args .owner) (args .board) (args .page) _ _ (omega (arith, start .pre .0 .count)) (of-holds (start .pre .0)) (start .pre .2)
+    (c .before .before .before .before .before .before .before .before .before .before .before .before .before .before .read-copies .ensures) losers
+    _ (c .before .before .before .before .before .before .before .before .before .before .before .before .before .before .before
+    .before .page-frame .ensures .0) (c .before .before .before .before .before .before .before .before .before .before .drop-all .ensures)
+    (c .before .before .before .before .before .before .own-to .ensures) (c .before .before .write-entry .ensures)
 
 pub pass-ownership-spec : {M : Type 1} → statement M
 pass-ownership-spec =

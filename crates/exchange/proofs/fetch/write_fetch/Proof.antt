@@ -4,7 +4,8 @@ use Prim.Native.Nat.{ℕ, _+_}
 use native.Mathlib.Omega.{arith}
 use Rattle.types.specs.declared.CopyOrOwn.the-variants.{GotOwn}
 use Rattle.exchange.specs.Progress.{lostBy, lossOf}
-use Rattle.exchange.specs.Fetching.{fetch-page, fetch-of, fetch-other, fetch-owner, fetch-shows, shown-of, shown-wellFormed, shown-taker, shown-room, write-lost, got-lost, got-passed, got-of, got-entry, got-space-owner, got-space-holder}
+use Rattle.exchange.specs.Fetching.{fetch-page, fetch-of, fetch-other, fetch-owner, fetch-shows, shown-of, shown-wellFormed, shown-taker, shown-room}
+use Rattle.exchange.specs.Fetching.{write-lost, got-lost, got-passed, got-of, got-entry, got-space-owner, got-space-holder}
 use borrow.Author.Needs.{needs}
 use Rattle.exchange.proofs.fetch.write_fetch.Statement.{statement}
 use Rattle.exchange.proofs.fetch.write_fetch.Tie as tie
@@ -94,7 +95,8 @@ returns-3 c =
       λ n.
           let gave = rw (c .before .before .before .before .before .before .before .before .before .before .before .if1 .left) at (shown .ensures .0 n) in
           rw (counted n (shown .result .stores) (got .result .stores))
-          (got-passed pre n gave refl (rw (c .before .before .before .before .if2 .left) at (got .ensures .0 (n + shown .result .stores))) refl _ (c .before .before .pass-ownership .ensures)),
+          (got-passed pre n gave refl (rw (c .before .before .before .before .if2 .left) at (got .ensures .0 (n + shown .result .stores))) refl
+          _ (c .before .before .pass-ownership .ensures)),
       omega (arith, shown .ensures .1, got .ensures .1),
     )
 

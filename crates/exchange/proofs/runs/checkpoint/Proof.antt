@@ -8,19 +8,22 @@ use Rattle.stores.specs.BoardRuns.{checkpointOn}
 use Rattle.stores.specs.RunFields.{checkpointOn-fields}
 use Rattle.stores.specs.Lifted.{checkpoint-lifted}
 use Rattle.exchange.specs.Banks.{lent-of}
-use Rattle.exchange.specs.Runs.{run-of, run-going, run-lost}
+use Rattle.exchange.specs.LentRuns.{run-of, run-going, run-lost}
 use borrow.Author.Needs.{needs}
 use Rattle.exchange.proofs.runs.checkpoint.Statement.{statement}
 use Rattle.exchange.proofs.runs.checkpoint.Tie as tie
 
 -- the board's block in the bank
 lent : (c : tie.After-block-size)
-    → LentBlock (decode (c .before .before .before .args .bank .now)) (c .before .before .before .args .bank .now) (c .before .before .before .args .pages) (c .before .before .before .args .board) (c .before .block-at .result) (c .block-size .result)
+    → LentBlock (decode (c .before .before .before .args .bank .now)) (c .before .before .before .args .bank .now) (c .before .before .before .args .pages)
+    (c .before .before .before .args .board) (c .before .block-at .result) (c .block-size .result)
 lent c = lent-of (c .before .before .before .pre .0) _ _ (c .before .block-at .ensures) (c .block-size .ensures)
 
 -- the board as its run leaves it
 fields : (c : tie.After-block-size)
-    → FieldsOk (c .before .before .before .args .pages) (checkpointOn (c .before .before .before .args .pages) (boardAt (decode (c .before .before .before .args .bank .now)) (c .before .before .before .args .board)) .board)
+    → FieldsOk (c .before .before .before .args .pages)
+    (checkpointOn (c .before .before .before .args .pages)
+    (boardAt (decode (c .before .before .before .args .bank .now)) (c .before .before .before .args .board)) .board)
 fields c = let start = c .before .before .before in checkpointOn-fields (start .args .pages) _ (lent c .few) (lent-fields (lent c))
 
 block-at-requires : tie.Need-block-at-requires
@@ -62,7 +65,9 @@ returns c =
     let ran = c .before .before .before .before .before .before .before .checkpoint in (
       λ n.
           rw (checkpoint-lifted (start .args .board) n (decode (start .args .bank .now)) (start .pre .0 .board), ← start .pre .0 .count)
-          (run-lost (start .pre .0) (lent lends) (checkpointOn (start .args .pages)) (fields lends) (ran .last .0) (ran .kept .0) (ran .ensures .0 .0) _ _ (ran .ensures .0 .1) (ran .ensures .0 .2) (c .before .before .before .before .if1 .taken) _ (c .before .before .forget .ensures) n),
+          (run-lost (start .pre .0) (lent lends) (checkpointOn (start .args .pages)) (fields lends) (ran .last .0) (ran .kept .0)
+          (ran .ensures .0 .0) _ _ (ran .ensures .0 .1) (ran .ensures .0 .2)
+          (c .before .before .before .before .if1 .taken) _ (c .before .before .forget .ensures) n),
       ran .ensures .1,
     )
 
@@ -76,7 +81,8 @@ returns-2 c =
     let ran = c .before .before .before .checkpoint in (
       λ n.
           rw (checkpoint-lifted (start .args .board) n (decode (start .args .bank .now)) (start .pre .0 .board), ← start .pre .0 .count)
-          (run-going (start .pre .0) (lent lends) (checkpointOn (start .args .pages)) (fields lends) (ran .last .0) (ran .kept .0) (ran .ensures .0 .0) _ _ (ran .ensures .0 .1) (ran .ensures .0 .2) (c .if1 .left) n),
+          (run-going (start .pre .0) (lent lends) (checkpointOn (start .args .pages)) (fields lends) (ran .last .0) (ran .kept .0)
+          (ran .ensures .0 .0) _ _ (ran .ensures .0 .1) (ran .ensures .0 .2) (c .if1 .left) n),
       ran .ensures .1,
     )
 

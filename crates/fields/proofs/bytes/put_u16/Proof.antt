@@ -12,7 +12,9 @@ same-length : tie.Need-same-length
 same-length c = search needs
 
 returns : tie.Need-returns
-returns c = c .before .before .write-u16 .ensures ∙ splice-word (c .before .before .before .before .before .args .s .now) (c .before .before .before .before .before .args .at) 2 (c .before .before .before .before .before .args .v)
+returns c =
+    c .before .before .write-u16 .ensures ∙ splice-word (c .before .before .before .before .before .args .s .now)
+    (c .before .before .before .before .before .args .at) 2 (c .before .before .before .before .before .args .v)
 
 pub put-u16-spec : {M : Type 1} → statement M
 put-u16-spec = tie.close (tie.spec write-u16-requires same-length returns)

@@ -12,7 +12,9 @@ same-length : tie.Need-same-length
 same-length c = search needs
 
 returns : tie.Need-returns
-returns c = c .before .before .write-u32 .ensures ∙ splice-word (c .before .before .before .before .before .args .s .now) (c .before .before .before .before .before .args .at) 4 (c .before .before .before .before .before .args .v)
+returns c =
+    c .before .before .write-u32 .ensures ∙ splice-word (c .before .before .before .before .before .args .s .now)
+    (c .before .before .before .before .before .args .at) 4 (c .before .before .before .before .before .args .v)
 
 pub put-u32-spec : {M : Type 1} → statement M
 put-u32-spec = tie.close (tie.spec write-u32-requires same-length returns)

@@ -35,7 +35,9 @@ returns : tie.Need-returns
 returns c =
     let start = c .before .before .before .before .before .before .before .before .before .before .before in
     let wrote = c .before .before .write-page in
-    written _ _ _ (start .args .frame) _ (start .pre) (wrote .ensures .1) (c .before .before .before .before .before .before .before .before .right-byte .ensures) (c .before .before .before .before .before .before .before .put .ensures) (wrote .ensures .0)
+    written _ _ _ (start .args .frame) _ (start .pre) (wrote .ensures .1)
+    (c .before .before .before .before .before .before .before .before .right-byte .ensures)
+    (c .before .before .before .before .before .before .before .put .ensures) (wrote .ensures .0)
 
 pub write-frame-spec : {M : Type 1} → statement M
 write-frame-spec =

@@ -28,7 +28,8 @@ returns : tie.Need-returns
 returns c =
     let start = c .before .before .before .before .before in
     let wrote = c .before .before .write-frame in
-    lent-written (start .args .s .now) (wrote .last .0) (start .args .at) frameSize (λ _. encodeFrame (start .args .frame)) (start .pre) (wrote .kept .0) (wrote .ensures)
+    lent-written (start .args .s .now) (wrote .last .0) (start .args .at) frameSize (λ _. encodeFrame (start .args .frame)) (start .pre) (wrote .kept .0)
+    (wrote .ensures)
 
 pub write-frame-at-spec : {M : Type 1} → statement M
 write-frame-at-spec =

@@ -3,7 +3,7 @@ use native.Mathlib.Omega.{arith}
 use Rattle.words.proofs.Places.{stores-splice}
 use Rattle.model.specs.Definitions.Layout.{mark0At}
 use Rattle.model.specs.Definitions.Parts.{splice}
-use Rattle.fields.specs.Records.{kindBytes}
+use Rattle.fields.specs.SlotParts.{kindBytes}
 use borrow.Author.Needs.{needs}
 use Rattle.fields.proofs.slot.write_kind.Statement.{statement}
 use Rattle.fields.proofs.slot.write_kind.Tie as tie

@@ -10,7 +10,7 @@ use Rattle.types.specs.declared.Record.{Record}
 use Rattle.model.specs.Definitions.Parts.{splice}
 use Rattle.model.specs.Definitions.Layout.{pageSize, sinceSize, mark0At, recordCountAt, slotBytesAt, slotSize}
 use Rattle.model.specs.Definitions.Codec.{encodeRecord}
-use Rattle.fields.specs.Records.{kindBytes, encodeRecord-parts, length-kindBytes}
+use Rattle.fields.specs.SlotParts.{kindBytes, encodeRecord-parts, length-kindBytes}
 use Rattle.fields.proofs.Splices.{splice-triple}
 use borrow.Author.Needs.{needs}
 use Rattle.fields.proofs.slot.write_record.Statement.{statement}
@@ -42,7 +42,9 @@ returns : tie.Need-returns
 returns c =
     let start = c .before .before .before .before .before .before .before .before .before .before .before .before .before .before in
     let wrote = c .before .before .write-page in
-    written _ _ _ _ (start .args .r) (start .pre) (wrote .ensures .1) (c .before .before .before .before .before .before .before .before .before .before .before .write-kind .ensures) (c .before .before .before .before .before .before .before .put-u16 .ensures) (wrote .ensures .0)
+    written _ _ _ _ (start .args .r) (start .pre) (wrote .ensures .1)
+    (c .before .before .before .before .before .before .before .before .before .before .before .write-kind .ensures)
+    (c .before .before .before .before .before .before .before .put-u16 .ensures) (wrote .ensures .0)
 
 pub write-record-spec : {M : Type 1} → statement M
 write-record-spec =

@@ -28,7 +28,8 @@ returns : tie.Need-returns
 returns c =
     let start = c .before .before .before .before .before in
     let wrote = c .before .before .write-record in
-    lent-written (start .args .s .now) (wrote .last .0) (start .args .at) slotSize (λ _. encodeRecord (start .args .r)) (start .pre) (wrote .kept .0) (wrote .ensures)
+    lent-written (start .args .s .now) (wrote .last .0) (start .args .at) slotSize (λ _. encodeRecord (start .args .r)) (start .pre) (wrote .kept .0)
+    (wrote .ensures)
 
 pub write-record-at-spec : {M : Type 1} → statement M
 write-record-at-spec =

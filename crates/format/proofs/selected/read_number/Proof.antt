@@ -30,7 +30,8 @@ read-number-requires c κs = search needs
 
 returns : tie.Need-returns
 returns c =
-    lent-area-read (c .before .before .before .before .before .args .block .now) _ _ _ _ (c .before .before .before .selected-at .ensures .0) (c .before .before .area-size .ensures)
+    lent-area-read (c .before .before .before .before .before .args .block .now) _ _ _ _ (c .before .before .before .selected-at .ensures .0)
+    (c .before .before .area-size .ensures)
     (λ a. numberOf (part a areaNumberAt numberSize)) (c .read-number .result) (c .read-number .ensures)
 
 pub read-number-spec : {M : Type 1} → statement M

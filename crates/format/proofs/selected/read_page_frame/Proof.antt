@@ -31,8 +31,10 @@ read-page-frame-requires c κs = search needs
 
 returns : tie.Need-returns
 returns c =
-    lent-area-read (c .before .before .before .before .before .args .block .now) _ _ _ _ (c .before .before .before .selected-at .ensures .0) (c .before .before .area-size .ensures)
-    (λ a. decodeFrame (part a (areaFramesAt + c .before .before .before .before .before .args .page * frameSize) frameSize)) (c .read-page-frame .result) (c .read-page-frame .ensures)
+    lent-area-read (c .before .before .before .before .before .args .block .now) _ _ _ _ (c .before .before .before .selected-at .ensures .0)
+    (c .before .before .area-size .ensures)
+    (λ a. decodeFrame (part a (areaFramesAt + c .before .before .before .before .before .args .page * frameSize) frameSize)) (c .read-page-frame .result)
+    (c .read-page-frame .ensures)
 
 pub read-page-frame-spec : {M : Type 1} → statement M
 read-page-frame-spec =

@@ -31,8 +31,10 @@ read-stored-requires c κs = search needs
 
 returns : tie.Need-returns
 returns c =
-    lent-area-read (c .before .before .before .before .before .args .block .now) _ _ _ _ (c .before .before .before .selected-at .ensures .0) (c .before .before .area-size .ensures)
-    (λ a. decodeRecord (part a (areaSlotsAt (c .before .before .before .before .before .args .pages) + c .before .before .before .before .before .args .index * slotSize) slotSize)) (c .read-stored .result) (c .read-stored .ensures)
+    lent-area-read (c .before .before .before .before .before .args .block .now) _ _ _ _ (c .before .before .before .selected-at .ensures .0)
+    (c .before .before .area-size .ensures)
+    (λ a. decodeRecord (part a (areaSlotsAt (c .before .before .before .before .before .args .pages) + c .before .before .before .before .before .args .index *
+    slotSize) slotSize)) (c .read-stored .result) (c .read-stored .ensures)
 
 pub read-stored-spec : {M : Type 1} → statement M
 read-stored-spec =

@@ -29,7 +29,8 @@ read-stored-count-requires c κs = search needs
 
 returns : tie.Need-returns
 returns c =
-    lent-area-read (c .before .before .before .before .before .args .block .now) _ _ _ _ (c .before .before .before .selected-at .ensures .0) (c .before .before .area-size .ensures)
+    lent-area-read (c .before .before .before .before .before .args .block .now) _ _ _ _ (c .before .before .before .selected-at .ensures .0)
+    (c .before .before .area-size .ensures)
     (λ a. byteAt a areaCountAt) (c .read-stored-count .result) (c .read-stored-count .ensures)
 
 pub read-stored-count-spec : {M : Type 1} → statement M

@@ -37,7 +37,8 @@ returns : tie.Need-returns
 returns c =
     let start = c .before .before .before .before .before .before .before .before in
     let wrote = c .before .before .write-page-frame in
-    lent-area-written (start .args .block .now) _ _ _ _ (c .before .before .before .before .before .spare-at .ensures .0) (c .before .before .before .before .area-size .ensures)
+    lent-area-written (start .args .block .now) _ _ _ _ (c .before .before .before .before .before .spare-at .ensures .0)
+    (c .before .before .before .before .area-size .ensures)
     (wrote .last .0) (λ a. splice a (areaFramesAt + start .args .page * frameSize) (encodeFrame (start .args .frame)))
     (omega arith) (wrote .kept .0) (wrote .ensures)
 

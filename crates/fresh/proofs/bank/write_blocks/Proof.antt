@@ -21,7 +21,9 @@ abbrev μ-loop : tie.MeasureT-loop
 
 -- the block that is written next
 due : (c : tie.After-block-at Inv-loop μ-loop)
-    → NextBlock (c .before .before .before .before .before .args .boards) (c .before .before .before .before .before .args .pages) (c .before .before .before .before .before .args .bank .now) (c .before .before .loop .bank) (c .before .before .loop .board) (c .block-at .result) (c .before .before .before .block-size .result)
+    → NextBlock (c .before .before .before .before .before .args .boards) (c .before .before .before .before .before .args .pages)
+    (c .before .before .before .before .before .args .bank .now) (c .before .before .loop .bank) (c .before .before .loop .board) (c .block-at .result)
+    (c .before .before .before .block-size .result)
 due c =
     record {
       whole = c .before .before .before .before .before .pre .1;
@@ -37,8 +39,11 @@ block-size-requires c κs = c .before .pre .0 .pages
 
 loop-holds : tie.Need-loop-holds Inv-loop μ-loop
 loop-holds c =
-    let start = c .before .before in
-    (omega arith, none-written encodeBoard (blockSize (start .args .pages)) (freshBoard (start .args .boards) (start .args .pages)) (block-wide _ _) (start .args .bank .now) (blocksAt (start .args .pages)))
+    let start = c .before .before in (
+      omega arith,
+      none-written encodeBoard (blockSize (start .args .pages)) (freshBoard (start .args .boards) (start .args .pages)) (block-wide _ _)
+          (start .args .bank .now) (blocksAt (start .args .pages)),
+    )
 
 block-at-requires : tie.Need-block-at-requires Inv-loop μ-loop
 block-at-requires c κs = let sizes = c .before .before .before .before .pre .0 in (sizes .pages, omega (arith, sizes .boards))

@@ -22,8 +22,12 @@ abbrev μ-loop : tie.MeasureT-loop
 
 loop-holds : tie.Need-loop-holds Inv-loop μ-loop
 loop-holds c =
-    let start = c .before in
-    (omega arith, sym (zero-mod (start .args .boards)), refl, none-written encodeEntry entrySize (freshEntry (start .args .boards)) (λ p. length-encodeEntry _) (start .args .bank .now) headSize)
+    let start = c .before in (
+      omega arith,
+      sym (zero-mod (start .args .boards)),
+      refl,
+      none-written encodeEntry entrySize (freshEntry (start .args .boards)) (λ p. length-encodeEntry _) (start .args .bank .now) headSize,
+    )
 
 cast-write-entry : tie.Need-cast-write-entry Inv-loop μ-loop
 cast-write-entry c =
@@ -56,7 +60,8 @@ loop-again c =
       went .kept .0 ∙ loop .inv .2,
       went .ensures
           ∙ rw (loop .inv .1)
-          (one-more encodeEntry entrySize (freshEntry boards) (λ p. length-encodeEntry _) (start .args .bank .now) (loop .bank) headSize (loop .page) (omega arith) (loop .inv .3)),
+          (one-more encodeEntry entrySize (freshEntry boards) (λ p. length-encodeEntry _) (start .args .bank .now) (loop .bank) headSize (loop .page)
+          (omega arith) (loop .inv .3)),
     )
 
 same-length : tie.Need-same-length Inv-loop μ-loop

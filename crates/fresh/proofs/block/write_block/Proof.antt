@@ -46,7 +46,8 @@ loop-again c =
     let loop = c .before .before .before .before .before .loop in
     let own = loop .inv .0 in (
       own-again _ _ (loop .page) own (start .pre .1),
-      c .before .before .write-own .ensures ∙ rw (loop .inv .1) (below-next _ _ _ (loop .page) own (start .pre .1) (c .before .before .before .before .loop-test .taken)),
+      c .before .before .write-own .ensures ∙ rw (loop .inv .1) (below-next _ _ _ (loop .page) own (start .pre .1)
+          (c .before .before .before .before .loop-test .taken)),
     )
 
 same-length : tie.Need-same-length Inv-loop μ-loop

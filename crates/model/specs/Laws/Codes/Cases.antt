@@ -12,7 +12,8 @@ use Rattle.model.specs.Definitions.WellFormed.{isUp, isDown, isReplaying
 use Rattle.model.specs.Definitions.Answers.{code}
 use Rattle.model.specs.Definitions.Steps.{Run, start, Access, pageNamed, valueOf, giver}
 use Rattle.model.specs.Definitions.Replay.{differs, tookDue, replayOver, endIfOver, replayed}
-use Rattle.model.specs.Definitions.Calls.{Result, unless, finished, lackingOf, shortBoard, isSome, numberIn, liveRefusals, prepared, performed, live, liveAfterEnd, replaying, accessInRange, countersFull, accessRefusals, accessBank}
+use Rattle.model.specs.Definitions.Calls.{Result, unless, finished, lackingOf, shortBoard, isSome, numberIn, liveRefusals, prepared, performed, live}
+use Rattle.model.specs.Definitions.Calls.{liveAfterEnd, replaying, accessInRange, countersFull, accessRefusals, accessBank}
 use Rattle.model.specs.Laws.Logic.{cases, casesOption}
 use Rattle.model.specs.Laws.Codes.Statement.{afterReplay}
 use Rattle.model.specs.Laws.Codes.Order.{unless-test, unless-go}

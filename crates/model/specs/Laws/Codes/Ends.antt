@@ -18,9 +18,10 @@ use Rattle.model.specs.Definitions.WellFormed.{isUp, isDown}
 use Rattle.model.specs.Definitions.Answers.{code}
 use Rattle.model.specs.Definitions.Steps.{Run, start, step, powerOff, withFuse, checkpoint, Access, Read, Write, valueOf, access}
 use Rattle.model.specs.Definitions.Replay.{loaded, usedUp, tookDue, endIfOver, replayed}
-use Rattle.model.specs.Definitions.Calls.{Result, unless, finished, prepared, performed, live, replaying, accessBank, checkpointBank, cutBank, fuseBank, restartBank, Call, Reading, Writing, Checkpointing, Cutting, Fusing, Restarting, callBank}
+use Rattle.model.specs.Definitions.Calls.{Result, unless, finished, prepared, performed, live, replaying, accessBank, checkpointBank, cutBank, fuseBank}
+use Rattle.model.specs.Definitions.Calls.{restartBank, Call, Reading, Writing, Checkpointing, Cutting, Fusing, Restarting, callBank}
 use Rattle.model.specs.Laws.Logic.{casesOption}
-use Rattle.model.specs.Laws.Codes.Statement.{OfAccess, boardOf, afterReplay}
+use Rattle.model.specs.Laws.Codes.Statement.{OfAccess, boardNamed, afterReplay}
 use Rattle.model.specs.Laws.Tests.{says-replaying}
 use Rattle.model.specs.Laws.Codes.Order.{never, fails}
 use Rattle.model.specs.Laws.Codes.Cases.{plain-cases, live-cases, replaying-cases, access-cases}
@@ -75,8 +76,8 @@ plain-ended k Late b out wrong v r =
 abbrev pub LateIn : Call → Bank → Run → Type 0
 LateIn c k r = OfAccess (λ b a. ReplayEnd b a k r) c
 
-pub call-ended : (c : Call) (k : Bank) → Ends (boardOf c) k (LateIn c k) (callBank c k)
-unfolding callBank OfAccess boardOf checkpointBank cutBank fuseBank restartBank
+pub call-ended : (c : Call) (k : Bank) → Ends (boardNamed c) k (LateIn c k) (callBank c k)
+unfolding callBank OfAccess boardNamed checkpointBank cutBank fuseBank restartBank
 call-ended (Reading b p o) k = access-ended b (Read p o) k
 call-ended (Writing b p o v) k = access-ended b (Write p o v) k
 call-ended (Checkpointing b) k =
@@ -127,4 +128,4 @@ late-not-lost (Fusing b n) k r l = absurd l
 late-not-lost (Restarting b) k r l = absurd l
 
 pub power-lost : (c : Call) (k : Bank) (b : ℕ) → (callBank c k .answer ≡ PowerLost b) ↔ (callBank c k .run .lost ≡ some b)
-power-lost c k b = ended-loss (boardOf c) k (LateIn c k) (callBank c k) (late-not-lost c k) (call-ended c k) b
+power-lost c k b = ended-loss (boardNamed c) k (LateIn c k) (callBank c k) (late-not-lost c k) (call-ended c k) b

@@ -14,9 +14,12 @@ use Rattle.types.specs.declared.Answer.the-variants.{OutOfRange, WrongState, Po
 use Rattle.model.specs.Definitions.Layout.{noFuse}
 use Rattle.model.specs.Definitions.Bank.{Board, Bank, boardAt, onBoard, onWorking}
 use Rattle.model.specs.Definitions.WellFormed.{WellFormed, isUp, isDown}
-use Rattle.model.specs.Definitions.Steps.{Run, start, step, powerOff, withFuse, checkpoint, Access, Read, Write, pageNamed, takes, valueOf, accessed, access, giver, dropCopies}
+use Rattle.model.specs.Definitions.Steps.{Run, start, step, powerOff, withFuse, checkpoint, Access, Read, Write, pageNamed, takes, valueOf, accessed}
+use Rattle.model.specs.Definitions.Steps.{access, giver, dropCopies}
 use Rattle.model.specs.Definitions.Replay.{loaded, usedUp, due, tookDue, replayOver, endIfOver, replayed}
-use Rattle.model.specs.Definitions.Calls.{Result, unless, finished, copiesOut, lackingOf, prepared, performed, live, replaying, accessBank, checkpointBank, cutBank, fuseBank, restartBank, Call, Reading, Writing, Checkpointing, Cutting, Fusing, Restarting, callBank}
+use Rattle.model.specs.Definitions.Calls.{Result, unless, finished, copiesOut, lackingOf, prepared, performed, live, replaying, accessBank}
+use Rattle.model.specs.Definitions.Calls.{checkpointBank, cutBank, fuseBank, restartBank, Call, Reading, Writing, Checkpointing, Cutting, Fusing}
+use Rattle.model.specs.Definitions.Calls.{Restarting, callBank}
 use Rattle.model.specs.Laws.Logic.{cases, casesOption, byEq, clash}
 use Rattle.model.specs.Laws.Boards.{boardAt-same, boardAt-other}
 use Rattle.model.specs.Laws.Runs.{lost-not}
@@ -26,7 +29,8 @@ use Rattle.model.specs.Laws.Codes.Order.{never, fails, refuted}
 use Rattle.model.specs.Laws.Codes.Cases.{plain-cases, live-cases, replaying-cases, access-cases}
 use Rattle.model.specs.Laws.Codes.Ends.{power-lost}
 use Rattle.model.specs.Laws.Codes.Unfused.{Unfused, unfused-endIfOver}
-use Rattle.model.specs.Laws.Codes.Power.{SameStates, KeepsState, states-trans, states-onBoard, states-dropCopies, downAt, Tracks, tracks-start, tracks-states, tracks-checkpoint, tracks-fetch, tracks-endReplay}
+use Rattle.model.specs.Laws.Codes.Power.{SameStates, KeepsState, states-trans, states-onBoard, states-dropCopies, downAt, Tracks, tracks-start}
+use Rattle.model.specs.Laws.Codes.Power.{tracks-states, tracks-checkpoint, tracks-fetch, tracks-endReplay}
 
 pub finished-run : (v : ℕ) (r : Run) → finished v r .run ≡ r
 unfolding finished

@@ -15,7 +15,8 @@ use Rattle.model.specs.Definitions.Calls.{copiesOut, fetchNeed, dropNeed
 use Rattle.model.specs.Laws.Logic.{cases, clash, byEq, byOption, and-right, true-not}
 use Rattle.model.specs.Laws.Lists.{Lowest, firstBelow-none, firstBelow-some}
 use Rattle.model.specs.Laws.Sets.{member-none}
-use Rattle.model.specs.Laws.Codes.Statement.{Fetches, Writes, Holds, ownerOf, Needs, nothing, reader, readOwner, writer, writeOwner, otherHolder, holder, storedCount, volatileCount, Short, SomeShort, LowestShort}
+use Rattle.model.specs.Laws.Codes.Statement.{Fetches, Writes, HoldsCopy, ownerOf, Needs, nothing, reader, readOwner, writer, writeOwner, otherHolder}
+use Rattle.model.specs.Laws.Codes.Statement.{holder, Short, SomeShort, LowestShort}
 use Rattle.model.specs.Laws.Tests.{Says, says-lt}
 use Rattle.model.specs.Laws.Codes.Order.{fails, refuted, says-iff}
 use Rattle.model.specs.Laws.Codes.Tests.{lacks-right}
@@ -67,7 +68,7 @@ writes-own (Read p o) w = absurd w
 writes-own (Write p o v) w = refl
 
 -- where a copy is held, copies are out
-holds-out : (a : Access) (k : Bank) (c : ℕ) → Writes a → Holds a k c → copiesOut a k ≡ true
+holds-out : (a : Access) (k : Bank) (c : ℕ) → Writes a → HoldsCopy a k c → copiesOut a k ≡ true
 unfolding copiesOut Writes pageNamed
 holds-out (Read p o) k c w h = absurd w
 holds-out (Write p o v) k c w h =
@@ -109,7 +110,7 @@ module _ (b : ℕ) (a : Access) (k : Bank) (c : ℕ) where
       omega arith
 
   pub says-short : Says (short b a k c) (Short b a k c)
-  unfolding short storedCount volatileCount
+  unfolding short
   says-short =
       says-iff
       (λ l. (need b a k c, need-part b a k c, l))

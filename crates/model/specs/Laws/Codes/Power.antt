@@ -18,10 +18,15 @@ use Rattle.model.specs.Definitions.Parts.{zeros, member}
 use Rattle.model.specs.Definitions.Layout.{pageSize}
 use Rattle.model.specs.Definitions.Bank.{Board, Bank, noBoard, boardAt, entryAt, onBoard, onWorking, onSpare}
 use Rattle.model.specs.Definitions.WellFormed.{isDown}
-use Rattle.model.specs.Definitions.Steps.{Run, start, step, poweredOff, powerOff, burnt, store, recorded, note, movedRecord, storedRecord, storeRecords, flush, storedFrame, storedHead, storedSelector, restedWorking, storeFrames, checkpoint, giver, show, frameOf, withFrame, giveCopy, dropped, dropCopies, passOwnership, readFetch, writeFetch, fetch}
+use Rattle.model.specs.Definitions.Steps.{Run, start, step, poweredOff, powerOff, burnt, store, recorded, note, movedRecord, storedRecord, storeRecords}
+use Rattle.model.specs.Definitions.Steps.{flush, storedFrame, storedHead, storedSelector, restedWorking, storeFrames, checkpoint, giver, show, frameOf}
+use Rattle.model.specs.Definitions.Steps.{withFrame, giveCopy, dropped, dropCopies, passOwnership, readFetch, writeFetch, fetch}
 use Rattle.model.specs.Definitions.Replay.{settled, endReplay}
 use Rattle.model.specs.Laws.Logic.{cases, byBool, byEq}
-use Rattle.model.specs.Laws.Boards.{boardAt-out, storedRecord-cases, boards-onBoard, boardAt-same, boardAt-other, onBoard-out, boards-powerOff, boardAt-powerOff-same, boardAt-powerOff-other, tookCopy, boards-giveCopy, boardAt-giveCopy-same, boardAt-giveCopy-other, droppedIf, boards-dropCopies, boardAt-dropCopies, tookOwn, boards-passOwnership, boardAt-passOwnership-same, boardAt-passOwnership-other}
+use Rattle.model.specs.Laws.Boards.{boardAt-out, storedRecord-cases, boards-onBoard, boardAt-same, boardAt-other, onBoard-out, boards-powerOff}
+use Rattle.model.specs.Laws.Boards.{boardAt-powerOff-same, boardAt-powerOff-other, tookCopy, boards-giveCopy, boardAt-giveCopy-same}
+use Rattle.model.specs.Laws.Boards.{boardAt-giveCopy-other, droppedIf, boards-dropCopies, boardAt-dropCopies, tookOwn, boards-passOwnership}
+use Rattle.model.specs.Laws.Boards.{boardAt-passOwnership-same, boardAt-passOwnership-other}
 use Rattle.model.specs.Laws.Runs.{lost-not, step-cases, store-cases}
 use Rattle.model.specs.Laws.Runs.Stores.{burnt-state}
 use Rattle.model.specs.Laws.Codes.Order.{never}

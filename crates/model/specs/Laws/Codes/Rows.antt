@@ -19,13 +19,18 @@ use Rattle.model.specs.Definitions.WellFormed.{WellFormed, PlaceOk, isUp
 use Rattle.model.specs.Definitions.Answers.{code, value, who}
 use Rattle.model.specs.Definitions.Steps.{Run, start, step, powerOff, withFuse, checkpoint, Access, Read, Write, valueOf, access, giver}
 use Rattle.model.specs.Definitions.Replay.{loaded, usedUp, differs, tookDue, replayOver, endIfOver, replayed}
-use Rattle.model.specs.Definitions.Calls.{Result, unless, finished, lackingOf, shortBoard, isSome, numberIn, liveRefusals, prepared, performed, live, liveAfterEnd, replaying, accessInRange, countersFull, accessRefusals, accessBank, checkpointBank, cutBank, fuseBank, restartBank, Call, Reading, Writing, Checkpointing, Cutting, Fusing, Restarting, callBank}
+use Rattle.model.specs.Definitions.Calls.{Result, unless, finished, lackingOf, shortBoard, isSome, numberIn, liveRefusals, prepared, performed, live}
+use Rattle.model.specs.Definitions.Calls.{liveAfterEnd, replaying, accessInRange, countersFull, accessRefusals, accessBank, checkpointBank, cutBank}
+use Rattle.model.specs.Definitions.Calls.{fuseBank, restartBank, Call, Reading, Writing, Checkpointing, Cutting, Fusing, Restarting, callBank}
 use Rattle.model.specs.Laws.Logic.{cases, casesOption}
 use Rattle.model.specs.Laws.Boards.{boardAt-same}
 use Rattle.model.specs.Laws.Runs.Stores.{endReplay-changed}
-use Rattle.model.specs.Laws.Codes.Statement.{Row, OfAccess, boardOf, AccessOut, NumbersOut, StateOut, CountersEnd, CountersOut, ReplayOther, ReplayOut, afterReplay, LiveOn, up, replayEnded, Live, ownerOf, FromNotUp, OwnerOut, SomeShort, RoomOut, LowestShort, refusalRows}
+use Rattle.model.specs.Laws.Codes.Statement.{Row, OfAccess, boardNamed, AccessOut, NumbersOut, StateOut, CountersEnd, CountersOut, ReplayOther, ReplayOut}
+use Rattle.model.specs.Laws.Codes.Statement.{afterReplay, LiveOn, up, replayEnded, Live, ownerOf, FromNotUp, OwnerOut, SomeShort, RoomOut, LowestShort}
+use Rattle.model.specs.Laws.Codes.Statement.{refusalRows}
 use Rattle.model.specs.Laws.Tests.{Says, says-and, says-down, says-up, says-replaying}
-use Rattle.model.specs.Laws.Codes.Order.{never, fails, says-absurd, says-iff, says-no, says-not-and, says-not-lt, says-not-pos, Judged, judged-nil, judged-past, judged-test, judged-go}
+use Rattle.model.specs.Laws.Codes.Order.{never, fails, says-absurd, says-iff, says-no, says-not-and, says-not-lt, says-not-pos, Judged, judged-nil}
+use Rattle.model.specs.Laws.Codes.Order.{judged-past, judged-test, judged-go}
 use Rattle.model.specs.Laws.Codes.Tests.{access-out, counters-end, replay-other, LastDue, last-due}
 use Rattle.model.specs.Laws.Codes.Needs.{fetches, some-short, lowest-short}
 
@@ -208,20 +213,21 @@ not-up Replaying = (λ t. inr refl, λ u. refl)
 -- the two tests that every other call makes, and then it runs
 plain-judged : (c : Call) (k : Bank) (out wrong : Bool) (v : ℕ) (r : Run) → ((P : ℕ → Access → Type 0) → ¬ OfAccess P c)
     → Says out (NumbersOut c k) → Says wrong (StateOut c k)
-    → Judged Ran 2 (refusalRows c k) (unless ((out, OutOfRange) ∷ (wrong, WrongState (boardOf c)) ∷ []) (start k) (finished v r) .answer)
+    → Judged Ran 2 (refusalRows c k) (unless ((out, OutOfRange) ∷ (wrong, WrongState (boardNamed c)) ∷ []) (start k) (finished v r) .answer)
 unfolding refusalRows CountersOut ReplayOut OwnerOut RoomOut code who value
 plain-judged c k out wrong v r other d2 d3 =
-    judged-test out OutOfRange ((wrong, WrongState (boardOf c)) ∷ []) (start k) (finished v r)
+    judged-test out OutOfRange ((wrong, WrongState (boardNamed c)) ∷ []) (start k) (finished v r)
     (record { says = d2; code = refl; who = λ t. refl; value = refl })
     (λ n2.
-    judged-test wrong (WrongState (boardOf c)) [] (start k) (finished v r)
+    judged-test wrong (WrongState (boardNamed c)) [] (start k) (finished v r)
     (record { says = d3; code = refl; who = λ t. refl; value = refl })
     (λ n3.
     judged-go (start k) (finished v r)
     (judged-past _ (other _) (judged-past _ (other _) (judged-past _ (other _) (judged-past _ (other _) (judged-nil (finished-ran v r))))))))
 
 pub rows-judged : (c : Call) (k : Bank) → WellFormed k → Judged Ran 2 (refusalRows c k) (callBank c k .answer)
-unfolding callBank refusalRows OfAccess NumbersOut StateOut CountersOut ReplayOut OwnerOut RoomOut boardOf accessRows liveRows checkpointBank cutBank fuseBank restartBank
+unfolding callBank refusalRows OfAccess NumbersOut StateOut CountersOut ReplayOut OwnerOut RoomOut boardNamed accessRows liveRows checkpointBank cutBank
+    fuseBank restartBank
 rows-judged (Reading b p o) k w = access-judged b (Read p o) k w
 rows-judged (Writing b p o v) k w = access-judged b (Write p o v) k w
 rows-judged (Checkpointing b) k w =

@@ -19,10 +19,11 @@ use Rattle.model.specs.Definitions.Parts.{member}
 use Rattle.model.specs.Definitions.Layout.{byteValues, mostBoards, mostPages, pageSize, slotCount, noFuse, lastSince, lastNumber, bankSize}
 use Rattle.model.specs.Definitions.Bank.{Board, Bank, boardAt, entryAt, frameAt, onBoard}
 use Rattle.model.specs.Definitions.Codec.{decode}
-use Rattle.model.specs.Definitions.WellFormed.{wellFormed}
+use Rattle.model.specs.Definitions.Check.{wellFormed}
 use Rattle.model.specs.Definitions.Steps.{Run, start, Access, Read, Write, pageNamed}
 use Rattle.model.specs.Definitions.Replay.{tookDue, endReplay}
 use Rattle.model.specs.Definitions.Calls.{Call, Reading, Writing, Checkpointing, Cutting, Fusing, Restarting, callBank}
+use Rattle.model.specs.Contracts.{storedCount, volatileCount}
 
 -- ==== rows, and their order
 
@@ -51,13 +52,13 @@ WhoIn (r ∷ rs) (suc i) w = WhoIn rs i w
 -- ==== the calls by their numbers
 
 -- the board that a call names
-unfoldable pub boardOf : Call → ℕ
-boardOf (Reading b p o) = b
-boardOf (Writing b p o v) = b
-boardOf (Checkpointing b) = b
-boardOf (Cutting b) = b
-boardOf (Fusing b n) = b
-boardOf (Restarting b) = b
+unfoldable pub boardNamed : Call → ℕ
+boardNamed (Reading b p o) = b
+boardNamed (Writing b p o v) = b
+boardNamed (Checkpointing b) = b
+boardNamed (Cutting b) = b
+boardNamed (Fusing b n) = b
+boardNamed (Restarting b) = b
 
 -- what only an access can meet
 unfoldable pub OfAccess : (ℕ → Access → Type 0) → Call → Type 0
@@ -183,8 +184,8 @@ abbrev pub OwnWrite : ℕ → Access → Bank → Type 0
 OwnWrite b a k = Writes a × (¬ Fetches b a k)
 
 -- board c holds a copy of the page
-abbrev pub Holds : Access → Bank → ℕ → Type 0
-Holds a k c = member c (entryAt k (pageNamed a) .copies) ≡ true
+abbrev pub HoldsCopy : Access → Bank → ℕ → Type 0
+HoldsCopy a k c = member c (entryAt k (pageNamed a) .copies) ≡ true
 
 -- "read fetch: reader 1, owner 1; write fetch: writer 1, owner 2, other holders 1; own write: holders 1": a part of board c that needs n slots.
 -- A board without a part needs nothing. The writer hasn't the owner's part: who owns a page lacks no right to it.
@@ -194,14 +195,8 @@ pub data Needs (b : ℕ) (a : Access) (k : Bank) (c : ℕ) : ℕ → Type 0 wher
   readOwner : ReadFetch b a k → c ≡ ownerOf a k → Needs b a k c 1
   writer : WriteFetch b a k → c ≡ b → Needs b a k c 1
   writeOwner : WriteFetch b a k → c ≢ b → c ≡ ownerOf a k → Needs b a k c 2
-  otherHolder : WriteFetch b a k → c ≢ b → Holds a k c → Needs b a k c 1
-  holder : OwnWrite b a k → Holds a k c → Needs b a k c 1
-
-unfoldable pub storedCount : Board → ℕ
-storedCount x = length (x .stable .selected .log .records)
-
-unfoldable pub volatileCount : Board → ℕ
-volatileCount x = length (x .working .log .records)
+  otherHolder : WriteFetch b a k → c ≢ b → HoldsCopy a k c → Needs b a k c 1
+  holder : OwnWrite b a k → HoldsCopy a k c → Needs b a k c 1
 
 abbrev pub Short : ℕ → Access → Bank → ℕ → Type 0
 Short b a k c = (n : ℕ) × Needs b a k c n × (slotCount < storedCount (boardAt k c) + volatileCount (boardAt k c) + n)
@@ -240,9 +235,9 @@ pub record LosesPower (c : Call) (k : Bank) (b : ℕ) : Type 0 where
 unfoldable pub refusalRows : Call → Bank → List Row
 refusalRows c k =
     record { when = NumbersOut c k; who = λ w. w ≡ 0 }
-    ∷ record { when = StateOut c k; who = λ w. w ≡ boardOf c }
-    ∷ record { when = CountersOut c k; who = λ w. w ≡ boardOf c }
-    ∷ record { when = ReplayOut c k; who = λ w. w ≡ boardOf c }
+    ∷ record { when = StateOut c k; who = λ w. w ≡ boardNamed c }
+    ∷ record { when = CountersOut c k; who = λ w. w ≡ boardNamed c }
+    ∷ record { when = ReplayOut c k; who = λ w. w ≡ boardNamed c }
     ∷ record { when = OwnerOut c k; who = λ w. OfAccess (λ b a. w ≡ ownerOf a k) c }
     ∷ record { when = RoomOut c k; who = λ w. OfAccess (λ b a. Live (λ j. LowestShort b a j w) k b a) c }
     ∷ []

@@ -21,7 +21,8 @@ use Rattle.model.specs.Definitions.Replay.{lacking, rightGot}
 use Rattle.model.specs.Laws.Logic.{byEq, clash}
 use Rattle.model.specs.Laws.Lists.{each-head, each-tail, each-getD-any, each-set, each-imp}
 use Rattle.model.specs.Laws.Boards.{frameAt-same, frameAt-other}
-use Rattle.model.specs.Laws.Keeps.Clauses.{Alone, Agreed, place-kept, onBoard-keeps}
+use Rattle.model.specs.Laws.Keeps.Clauses.{place-kept, onBoard-keeps}
+use Rattle.model.specs.Contracts.{Alone, Agreed}
 use Rattle.model.specs.Laws.Keeps.Stores.{frameOk-empty}
 
 -- ---- frames

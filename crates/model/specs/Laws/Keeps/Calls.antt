@@ -14,22 +14,28 @@ use Rattle.words.specs.Bytes.{Each, each-nil, each-cons}
 use Rattle.model.specs.Definitions.Layout.{byteValues, pageSize, noFuse, lastSince, lastNumber}
 use Rattle.model.specs.Definitions.Bank.{Board, Bank, boardAt, entryAt, onBoard}
 use Rattle.model.specs.Definitions.Codec.{decode}
-use Rattle.model.specs.Definitions.WellFormed.{FieldsOk, isUp, isDown, isReplaying, WellFormed, wellFormed}
+use Rattle.model.specs.Definitions.WellFormed.{FieldsOk, isUp, isDown, isReplaying, WellFormed}
+use Rattle.model.specs.Definitions.Check.{wellFormed}
 use Rattle.model.specs.Definitions.Steps.{Run, start, step, powerOff, withFuse, checkpoint, restedWorking, Access, Read, Write, pageNamed, cellsWritten}
 use Rattle.model.specs.Definitions.Replay.{loaded, usedUp, differs, tookDue, settled, replayOver, endReplay, endIfOver, replayed}
-use Rattle.model.specs.Definitions.Calls.{Result, firstOf, liveAfterEnd, replaying, accessInRange, countersFull, accessRefusals, accessBank, checkpointBank, cutBank, fuseBank, restartBank, Call, Reading, Writing, Checkpointing, Cutting, Fusing, Restarting, callBank, Reply, refused, replyOf, call}
+use Rattle.model.specs.Definitions.Calls.{Result, firstOf, liveAfterEnd, replaying, accessInRange, countersFull, accessRefusals, accessBank}
+use Rattle.model.specs.Definitions.Calls.{checkpointBank, cutBank, fuseBank, restartBank, Call, Reading, Writing, Checkpointing, Cutting, Fusing}
+use Rattle.model.specs.Definitions.Calls.{Restarting, callBank, Reply, refused, replyOf, call}
 use Rattle.model.specs.Laws.Logic.{cases, casesOption, byBool, clash, and-left, and-right, and-both}
 use Rattle.model.specs.Laws.WellFormedTest.{wellFormed-sound, wellFormed-complete}
 use Rattle.model.specs.Laws.Boards.{boards-onBoard, directory-onBoard, boardAt-same}
 use Rattle.model.specs.Laws.Runs.{Changed}
 use Rattle.model.specs.Laws.Runs.Stores.{Ended, endReplay-changed}
-use Rattle.model.specs.Laws.Keeps.Clauses.{up-not-replaying, Fits, InReplay, WellFormedBut, fits, but, onBoard-but}
+use Rattle.model.specs.Laws.Keeps.Clauses.{up-not-replaying, fits, but, onBoard-but}
+use Rattle.model.specs.Contracts.{Fits, InReplay, WellFormedBut, CanAccess, Entered}
 use Rattle.model.specs.Laws.Keeps.Stores.{powerOff-keeps, withFuse-keeps, step-keeps}
 use Rattle.model.specs.Laws.Keeps.Checkpoint.{checkpoint-keeps}
 use Rattle.model.specs.Laws.Keeps.Accesses.{writable}
 use Rattle.model.specs.Laws.Keeps.Rights.{or-none}
-use Rattle.model.specs.Laws.Keeps.Live.{NoneOf, CanAccess, live-keeps, firstOf-none, unless-keeps, finished-keeps, isUp-up, isDown-down, isDown-not, isReplaying-replaying, up-left}
-use Rattle.model.specs.Laws.Keeps.Replay.{TookDue, tookDue-took, fits-inReplay, loaded-inReplay, usedUp-inReplay, tookDue-inReplay, replayed-inReplay, endReplay-keeps, endIfOver-keeps}
+use Rattle.model.specs.Laws.Keeps.Live.{NoneOf, live-keeps, firstOf-none, unless-keeps, finished-keeps, isUp-up, isDown-down, isDown-not}
+use Rattle.model.specs.Laws.Keeps.Live.{isReplaying-replaying, up-left}
+use Rattle.model.specs.Laws.Keeps.Replay.{TookDue, tookDue-took, fits-inReplay, loaded-inReplay, usedUp-inReplay, tookDue-inReplay, replayed-inReplay}
+use Rattle.model.specs.Laws.Keeps.Replay.{endReplay-keeps, endIfOver-keeps}
 
 -- ---- the calls but accesses
 
@@ -79,15 +85,6 @@ module _ (b : ℕ) (k : Bank) (w : WellFormed k) where
       (endIfOver-keeps b (start j) refl (rw (boards-onBoard b (λ y. usedUp (loaded y)) k) l) v))
 
 -- ---- an access of a replaying board
-
--- what the tests on entry leave
-pub record Entered (b : ℕ) (a : Access) (k : Bank) : Type 0 where
-  pub board : b < length (k .boards)
-  pub page : pageNamed a < length (k .directory)
-  pub values : Each (λ v. v .1 < byteValues) (cellsWritten a)
-  pub power : boardAt k b .state ≢ Down
-  pub since : boardAt k b .working .since < lastSince
-  pub number : boardAt k b .working .number < lastNumber
 
 -- a board that entered and isn't replaying is up
 pub entered-live : (b : ℕ) (a : Access) (k : Bank) → Entered b a k → isReplaying (boardAt k b .state) ≡ false → CanAccess b a k

@@ -24,7 +24,8 @@ use Rattle.model.specs.Laws.WrittenTests.{log-count, bytes-encodeAll, ma
 use Rattle.model.specs.Laws.Fresh.{emptyLog-ok}
 use Rattle.model.specs.Laws.Runs.{Changed, Follows, follows-none, follows-trans, follows-store, follows-storeFrames}
 use Rattle.model.specs.Laws.Runs.Stores.{Headed, storedHead-changed}
-use Rattle.model.specs.Laws.Keeps.Clauses.{Fits, place-kept, place-idle, blank-same, onBoard-keeps}
+use Rattle.model.specs.Laws.Keeps.Clauses.{place-kept, place-idle, blank-same, onBoard-keeps}
+use Rattle.model.specs.Contracts.{Fits}
 use Rattle.model.specs.Laws.Keeps.Stores.{frameOk-empty, store-keeps, step-keeps}
 
 -- ---- a log as the slots that it leaves behind

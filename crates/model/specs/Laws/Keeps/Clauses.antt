@@ -2,7 +2,7 @@
 -- them on its board, and the lemmas here lift that to the bank. Assumes nothing.
 use mathlib.Core.Path.{_≡_, refl, sym, ap, _∙_}
 use mathlib.Core.Logic.{_≢_}
-use Prim.Native.Nat.{ℕ, _+_, _≤_, _<_}
+use Prim.Native.Nat.{ℕ, _≤_, _<_}
 use mathlib.Core.Bool.{false}
 use mathlib.Core.List.{List}
 use lib.ListN.{length, getD}
@@ -12,9 +12,10 @@ use Rattle.types.specs.declared.State.{State}
 use Rattle.types.specs.declared.State.the-variants.{Up, Down, Replaying}
 use Rattle.words.specs.Bytes.{Each}
 use Rattle.model.specs.Definitions.Parts.{member}
-use Rattle.model.specs.Definitions.Layout.{slotCount}
-use Rattle.model.specs.Definitions.Bank.{Entry, Working, Board, Bank, noBoard, boardAt, entryAt, frameAt, onBoard, noEntry}
-use Rattle.model.specs.Definitions.WellFormed.{AreaOk, FieldsOk, FuseOk, RoomOk, PlaceOk, ReplayingOk, Blank, DownOk, rightIn, BoardOk, EntryOk, SizesOk, WellFormed}
+use Rattle.model.specs.Definitions.Bank.{Entry, Working, Board, Bank, noBoard, boardAt, entryIn, entryAt, frameAt, onBoard}
+use Rattle.model.specs.Definitions.WellFormed.{AreaOk, FieldsOk, FuseOk, RoomOk, PlaceOk, ReplayingOk, Blank, DownOk, rightIn, BoardOk, EntryOk, SizesOk}
+use Rattle.model.specs.Definitions.WellFormed.{WellFormed}
+use Rattle.model.specs.Contracts.{Alone, Agreed, Fits, InReplay, WellFormedBut}
 use Rattle.model.specs.Laws.Logic.{byEq}
 use Rattle.model.specs.Laws.Lists.{length-update}
 use Rattle.model.specs.Laws.Boards.{boardAt-out, boardAt-same, boardAt-other}
@@ -33,44 +34,11 @@ module _ {X : Type 0} {s : State} where
 
 -- ---- the clauses of one board
 
--- what is asked of a board by itself, but for its place
-pub record Alone (pages : ℕ) (x : Board) : Type 0 where
-  pub fields : FieldsOk pages x
-  pub fuse : FuseOk x
-  pub room : RoomOk x
-  pub replaying : ReplayingOk x
-  pub down : DownOk x
-
-abbrev pub entryIn : List Entry → ℕ → Entry
-entryIn d p = getD d p noEntry
-
--- what a board and the directory say of each other
-pub record Agreed (d : List Entry) (b : ℕ) (x : Board) : Type 0 where
-  pub rights : x .state ≡ Up → (p : ℕ) → p < length d → frameAt (x .working .frames) p .right ≡ rightIn (entryIn d p) b
-  pub copies : x .state ≢ Up → (p : ℕ) → p < length d → member b (entryIn d p .copies) ≡ false
-
--- all clauses of board b
-pub record Fits (d : List Entry) (b : ℕ) (x : Board) : Type 0 where
-  pub alone : Alone (length d) x
-  pub place : PlaceOk (x .state) x
-  pub agreed : Agreed d b x
-
--- a replaying board, which may have used the last of its records
-pub record InReplay (d : List Entry) (b : ℕ) (x : Board) : Type 0 where
-  pub alone : Alone (length d) x
-  pub state : x .state ≡ Replaying
-  pub place : x .working .place ≤ length (x .stable .selected .log .records)
-  pub agreed : Agreed d b x
-
 -- what a power loss needs of its board
 pub record Stored (d : List Entry) (b : ℕ) (x : Board) : Type 0 where
   pub frames : length (x .working .frames) ≡ length d
   pub selected : AreaOk (length d) (x .stable .selected)
   pub spare : AreaOk (length d) (x .stable .spare)
-
--- room for n records more
-abbrev pub RoomFor : ℕ → Board → Type 0
-RoomFor n x = length (x .stable .selected .log .records) + length (x .working .log .records) + n ≤ slotCount
 
 -- a step that leaves the place alone and takes no stored record away
 pub place-kept : (s : State) (x y : Board) → PlaceOk s x → y .working .place ≡ x .working .place
@@ -110,13 +78,6 @@ blank-same x y h w f =
     }
 
 -- ---- the bank
-
--- a well-formed bank but for board b, of which `Kept` holds instead
-pub record WellFormedBut (b : ℕ) (Kept : List Entry → ℕ → Board → Type 0) (k : Bank) : Type 0 where
-  pub sizes : SizesOk (length (k .boards)) (length (k .directory))
-  pub directory : Each (EntryOk (length (k .boards))) (k .directory)
-  pub others : (c : ℕ) → c < length (k .boards) → c ≢ b → Fits (k .directory) c (boardAt k c)
-  pub this : b < length (k .boards) → Kept (k .directory) b (boardAt k b)
 
 pub boardOk-fits : (k : Bank) (b : ℕ) → BoardOk k b → Fits (k .directory) b (boardAt k b)
 unfolding entryAt

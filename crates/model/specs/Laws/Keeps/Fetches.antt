@@ -21,15 +21,17 @@ use Rattle.model.specs.Definitions.Layout.{pageSize}
 use Rattle.model.specs.Definitions.Bank.{Entry, Board, Bank, boardAt, entryAt, frameAt, onWorking, onFrames}
 use Rattle.model.specs.Definitions.Codec.{pageOf}
 use Rattle.model.specs.Definitions.WellFormed.{isGot, WellFormed}
-use Rattle.model.specs.Definitions.Steps.{Run, step, appended, recorded, note, flush, withFrame, frameOf, giver, show, giveCopy, passOwnership, readFetch, writeFetch, fetch}
+use Rattle.model.specs.Definitions.Steps.{Run, step, appended, recorded, note, flush, withFrame, frameOf, giver, show, giveCopy, passOwnership, readFetch}
+use Rattle.model.specs.Definitions.Steps.{writeFetch, fetch}
 use Rattle.model.specs.Definitions.Replay.{rightGot}
 use Rattle.model.specs.Definitions.Calls.{fetchNeed}
 use Rattle.model.specs.Laws.Logic.{byEq}
 use Rattle.model.specs.Laws.Boards.{frameAt-same, tookCopy, tookOwn, boardAt-giveCopy-same, boardAt-passOwnership-same}
 use Rattle.model.specs.Laws.Runs.{step-done, step-none, Changed, entryAt-changed, follows-none, follows-note-flush}
 use Rattle.model.specs.Laws.Runs.Stores.{recordsOf, FlushedWith, note-flush-changed, show-changed}
-use Rattle.model.specs.Laws.Keeps.Clauses.{RoomFor, fits, up-below}
-use Rattle.model.specs.Laws.Keeps.Records.{recordable-plain, recordable-got, note-keeps}
+use Rattle.model.specs.Laws.Keeps.Clauses.{fits, up-below}
+use Rattle.model.specs.Contracts.{RoomFor, CanFetch}
+use Rattle.model.specs.Laws.Keeps.NotedRecords.{recordable-plain, recordable-got, note-keeps}
 use Rattle.model.specs.Laws.Keeps.Stores.{step-keeps, flush-keeps}
 use Rattle.model.specs.Laws.Keeps.Rights.{or-cases, frameOk-of, giveCopy-keeps, passOwnership-keeps}
 
@@ -53,14 +55,6 @@ room-noted n kind bytes x y f m =
     )
 
 -- ---- what a fetch needs
-
--- page p is fetched by board b: taker and owner are two up boards, and each board has the room that code 7 asks for
-pub record CanFetch (g : CopyOrOwn) (b p : ℕ) (k : Bank) : Type 0 where
-  pub page : p < length (k .directory)
-  pub taker : boardAt k b .state ≡ Up
-  pub owner : boardAt k (giver k p) .state ≡ Up
-  pub other : giver k p ≢ b
-  pub room : (c : ℕ) → c < length (k .boards) → RoomFor (fetchNeed g k b (giver k p) p c) (boardAt k c)
 
 -- "owner records shown and flushes": an up board with room for one record
 pub show-keeps : (o p : ℕ) (r : Run) → WellFormed (r .bank) → (r .lost ≡ none → boardAt (r .bank) o .state ≡ Up)

@@ -19,16 +19,18 @@ use Rattle.model.specs.Definitions.Bank.{Board, Bank, boardAt, entryAt, 
 use Rattle.model.specs.Definitions.WellFormed.{rightIn, isUp, isDown, isReplaying, WellFormed}
 use Rattle.model.specs.Definitions.Steps.{Run, step, Access, Read, Write, pageNamed, cellsWritten, lacks, takes, access, giver, dropCopies, fetch}
 use Rattle.model.specs.Definitions.Replay.{lacking}
-use Rattle.model.specs.Definitions.Calls.{Result, firstOf, unless, finished, copiesOut, fetchNeed, dropNeed, lackingOf, need, short, shortBoard, isSome, liveRefusals, prepared, performed, live}
+use Rattle.model.specs.Definitions.Calls.{Result, firstOf, unless, finished, copiesOut, fetchNeed, dropNeed, lackingOf, need, short, shortBoard, isSome}
+use Rattle.model.specs.Definitions.Calls.{liveRefusals, prepared, performed, live}
 use Rattle.model.specs.Laws.Logic.{cases, casesOption, byBool, clash, and-both, true-not}
 use Rattle.model.specs.Laws.Lists.{firstBelow-none}
 use Rattle.model.specs.Laws.Boards.{droppedIf, boardAt-dropCopies, rightIn-owner, rightIn-copy}
 use Rattle.model.specs.Laws.Runs.{lost-not, step-done}
-use Rattle.model.specs.Laws.Keeps.Clauses.{up-below, up-not-down, down-not-replaying, RoomFor, fits}
+use Rattle.model.specs.Laws.Keeps.Clauses.{up-below, up-not-down, down-not-replaying, fits}
+use Rattle.model.specs.Contracts.{RoomFor, CanFetch, CanAccess, Ready}
 use Rattle.model.specs.Laws.Keeps.Stores.{step-keeps}
 use Rattle.model.specs.Laws.Keeps.Accesses.{access-keeps, writable, takes-enough}
 use Rattle.model.specs.Laws.Keeps.Rights.{entry-at, dropCopies-keeps}
-use Rattle.model.specs.Laws.Keeps.Fetches.{CanFetch, Taken, fetch-keeps, fetch-taken}
+use Rattle.model.specs.Laws.Keeps.Fetches.{Taken, fetch-keeps, fetch-taken}
 
 -- ---- tests and what follows them
 
@@ -85,13 +87,6 @@ up-left Replaying n h = clash refl h
 
 -- ---- the access itself
 
--- what an access needs of its board
-pub record Ready (a : Access) (x : Board) : Type 0 where
-  pub power : x .state ≢ Down
-  pub since : x .working .since < lastSince
-  pub number : x .working .number < lastNumber
-  pub right : lacking a (x .working .frames) ≡ false
-
 module _ (b : ℕ) (a : Access) (values : Each (λ w. w .1 < byteValues) (cellsWritten a)) where
   pub performed-keeps : (r : Run) → WellFormed (r .bank) → (r .lost ≡ none → Ready a (boardAt (r .bank) b))
       → WellFormed (performed b a r .run .bank)
@@ -119,14 +114,6 @@ isSome-none : (o : Option ℕ) → isSome o ≡ false → o ≡ none
 unfolding isSome
 isSome-none none h = refl
 isSome-none (some n) h = clash refl h
-
--- an access of an up board, as far as the codes up to 5 go
-pub record CanAccess (b : ℕ) (a : Access) (k : Bank) : Type 0 where
-  pub page : pageNamed a < length (k .directory)
-  pub values : Each (λ w. w .1 < byteValues) (cellsWritten a)
-  pub up : boardAt k b .state ≡ Up
-  pub since : boardAt k b .working .since < lastSince
-  pub number : boardAt k b .working .number < lastNumber
 
 -- what codes 6 and 7 tested
 module _ (b : ℕ) (a : Access) (k : Bank) (w : WellFormed k) (can : CanAccess b a k) where

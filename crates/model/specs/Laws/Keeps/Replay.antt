@@ -22,15 +22,17 @@ use Rattle.types.specs.declared.State.the-variants.{Up, Down, Replaying}
 use Rattle.words.specs.Bytes.{Each}
 use Rattle.model.specs.Definitions.Parts.{each, member}
 use Rattle.model.specs.Definitions.Layout.{lastSince, lastNumber}
-use Rattle.model.specs.Definitions.Bank.{Entry, Log, Working, Board, Bank, emptyFrame, boardAt, entryAt, frameAt, onWorking}
+use Rattle.model.specs.Definitions.Bank.{Entry, Log, Working, Board, Bank, emptyFrame, boardAt, entryAt, frameAt, onWorking, entryIn}
 use Rattle.model.specs.Definitions.WellFormed.{FrameOk, isGot, RecordOk, FramesOk, PlaceOk, rightIn, WellFormed}
 use Rattle.model.specs.Definitions.Steps.{Run, step, Access, pageNamed, cellsWritten, lacks, takes, accessed}
-use Rattle.model.specs.Definitions.Replay.{loaded, recordsLeft, used, useUp, usedUp, gotDue, due, sameGot, lacking, needsGot, differs, rightGot, tookGot, tookDue, replayOver, settledFrame, settled, endReplay, endIfOver, replayed}
+use Rattle.model.specs.Definitions.Replay.{loaded, recordsLeft, used, useUp, usedUp, gotDue, due, sameGot, lacking, needsGot, differs, rightGot, tookGot}
+use Rattle.model.specs.Definitions.Replay.{tookDue, replayOver, settledFrame, settled, endReplay, endIfOver, replayed}
 use Rattle.model.specs.Laws.Logic.{cases, casesOption, byBool, clash, and-left, and-right}
 use Rattle.model.specs.Laws.Lists.{each-head, each-drop, each-each, length-each}
 use Rattle.model.specs.Laws.Boards.{rightIn-owner, rightIn-none, frameAt-same, frameAt-each, boardAt-same, settle}
 use Rattle.model.specs.Laws.Runs.{lost-not, step-cases}
-use Rattle.model.specs.Laws.Keeps.Clauses.{up-not-down, up-not-replaying, down-not-replaying, Fits, InReplay, WellFormedBut, entryIn, place-replaying, replaying-place, whole, onBoard-but}
+use Rattle.model.specs.Laws.Keeps.Clauses.{up-not-down, up-not-replaying, down-not-replaying, place-replaying, replaying-place, whole, onBoard-but}
+use Rattle.model.specs.Contracts.{Fits, InReplay, WellFormedBut}
 use Rattle.model.specs.Laws.Keeps.Stores.{copy-some, own-some, frameOk-empty, frameOk-right}
 use Rattle.model.specs.Laws.Keeps.Checkpoint.{checkpoint-keeps}
 use Rattle.model.specs.Laws.Keeps.Accesses.{framesOk-set, Writable, takes-enough, accessed-alone, accessed-agreed}

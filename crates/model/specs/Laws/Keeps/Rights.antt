@@ -17,17 +17,21 @@ use Rattle.types.specs.declared.Kind.the-variants.{Got, Dropped}
 use Rattle.types.specs.declared.State.the-variants.{Up}
 use Rattle.model.specs.Definitions.Parts.{zeros, update, member, withMember}
 use Rattle.model.specs.Definitions.Layout.{pageSize}
-use Rattle.model.specs.Definitions.Bank.{Entry, Board, Bank, emptyFrame, noBoard, boardAt, entryAt, frameAt, onBoard, onEntry, onWorking, onFrames, noEntry}
+use Rattle.model.specs.Definitions.Bank.{Entry, Board, Bank, emptyFrame, noBoard, boardAt, entryAt, frameAt, onBoard, onEntry, onWorking, onFrames}
+use Rattle.model.specs.Definitions.Bank.{noEntry, entryIn}
 use Rattle.model.specs.Definitions.Codec.{pageOf}
 use Rattle.model.specs.Definitions.WellFormed.{FrameOk, isGot, rightIn, EntryOk, WellFormed}
 use Rattle.model.specs.Definitions.Steps.{recorded, note, withFrame, frameOf, giveCopy, dropped, dropAt, dropCopies, passOwnership}
 use Rattle.model.specs.Laws.Logic.{cases, byEq, byState, clash}
 use Rattle.model.specs.Laws.Lists.{length-update, getD-update-same, getD-update-other, update-set, each-getD, each-set}
 use Rattle.model.specs.Laws.Sets.{member-with-same, member-with-other, with-below, member-none}
-use Rattle.model.specs.Laws.Boards.{boardAt-out, rightIn-owner, rightIn-copy, rightIn-none, rightIn-same, frameAt-same, frameAt-other, tookCopy, withCopy, droppedIf, withoutCopies, ownedBy, tookOwn, boardAt-giveCopy-same, boardAt-giveCopy-other, boardAt-dropCopies, boardAt-passOwnership-same, boardAt-passOwnership-other}
+use Rattle.model.specs.Laws.Boards.{boardAt-out, rightIn-owner, rightIn-copy, rightIn-none, rightIn-same, frameAt-same, frameAt-other, tookCopy, withCopy}
+use Rattle.model.specs.Laws.Boards.{droppedIf, withoutCopies, ownedBy, tookOwn, boardAt-giveCopy-same, boardAt-giveCopy-other, boardAt-dropCopies}
+use Rattle.model.specs.Laws.Boards.{boardAt-passOwnership-same, boardAt-passOwnership-other}
 use Rattle.model.specs.Laws.Runs.{SameSizes, sizes-giveCopy, sizes-dropCopies, sizes-passOwnership}
-use Rattle.model.specs.Laws.Keeps.Clauses.{up-not-down, up-not-replaying, Fits, RoomFor, SameFor, entryIn, place-kept, fits, wellFormed-fits, fits-directory, up-below}
-use Rattle.model.specs.Laws.Keeps.Records.{recordable-plain, recordable-got, recorded-fits}
+use Rattle.model.specs.Laws.Keeps.Clauses.{up-not-down, up-not-replaying, SameFor, place-kept, fits, wellFormed-fits, fits-directory, up-below}
+use Rattle.model.specs.Contracts.{Fits, RoomFor}
+use Rattle.model.specs.Laws.Keeps.NotedRecords.{recordable-plain, recordable-got, recorded-fits}
 use Rattle.model.specs.Laws.Keeps.Stores.{copy-some, own-some, frameOk-empty, frameOk-right}
 use Rattle.model.specs.Laws.Keeps.Accesses.{frameOk-at, framesOk-set}
 

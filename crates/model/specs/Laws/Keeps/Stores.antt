@@ -15,7 +15,7 @@ use Rattle.types.specs.declared.Frame.{Frame}
 use Rattle.types.specs.declared.State.the-variants.{Down}
 use Rattle.model.specs.Definitions.Parts.{member, withoutMember}
 use Rattle.model.specs.Definitions.Layout.{pageSize, noFuse}
-use Rattle.model.specs.Definitions.Bank.{Entry, Board, Bank, emptyFrame, emptyLog, boardAt, onBoard, noEntry}
+use Rattle.model.specs.Definitions.Bank.{Entry, Board, Bank, emptyFrame, emptyLog, boardAt, onBoard, noEntry, entryIn}
 use Rattle.model.specs.Definitions.WellFormed.{FrameOk, PlaceOk, EntryOk, WellFormed}
 use Rattle.model.specs.Definitions.Steps.{Run, step, poweredOff, forgotten, powerOff, withFuse, burnt, store, storedRecord, storeRecords, flush}
 use Rattle.model.specs.Laws.Logic.{byEq, cases}
@@ -23,11 +23,13 @@ use Rattle.model.specs.Laws.Lists.{each-map}
 use Rattle.model.specs.Laws.Sets.{member-without-same, member-without-other, without-le}
 use Rattle.model.specs.Laws.WrittenTests.{log-count}
 use Rattle.model.specs.Laws.Fresh.{zeros-bytes, zeros-length, emptyLog-ok}
-use Rattle.model.specs.Laws.Boards.{getD-map-below, each-map-of, rightIn-same, boardAt-same, boards-powerOff, boardAt-powerOff-same, boardAt-powerOff-other, powerOff-onBoard}
+use Rattle.model.specs.Laws.Boards.{getD-map-below, each-map-of, rightIn-same, boardAt-same, boards-powerOff, boardAt-powerOff-same}
+use Rattle.model.specs.Laws.Boards.{boardAt-powerOff-other, powerOff-onBoard}
 use Rattle.model.specs.Laws.Runs.{step-cases, store-cases}
 use Rattle.model.specs.Laws.Runs.Stores.{burnt-working, burnt-stable}
-use Rattle.model.specs.Laws.Keeps.Clauses.{up-not-down, Fits, Stored, WellFormedBut, SameFor, entryIn, place-kept, but, wellFormed-fits, onBoard-keeps, fits-directory}
-use Rattle.model.specs.Laws.Keeps.Records.{storedRecord-fits}
+use Rattle.model.specs.Laws.Keeps.Clauses.{up-not-down, Stored, SameFor, place-kept, but, wellFormed-fits, onBoard-keeps, fits-directory}
+use Rattle.model.specs.Contracts.{Fits, WellFormedBut}
+use Rattle.model.specs.Laws.Keeps.NotedRecords.{storedRecord-fits}
 
 -- ---- frames
 

@@ -10,12 +10,16 @@ use mathlib.Core.Logic.{_⊎_, inl, inr}
 use Rattle.types.specs.declared.Answer.{Answer}
 use Rattle.model.specs.Definitions.Bank.{Entry, Bank, boardAt, entryAt, onBoard, onWorking}
 use Rattle.model.specs.Definitions.WellFormed.{isReplaying}
-use Rattle.model.specs.Definitions.Steps.{Run, start, step, powerOff, withFuse, checkpoint, Access, Read, Write, pageNamed, takes, accessed, access, giver, dropCopies}
+use Rattle.model.specs.Definitions.Steps.{Run, start, step, powerOff, withFuse, checkpoint, Access, Read, Write, pageNamed, takes, accessed, access}
+use Rattle.model.specs.Definitions.Steps.{giver, dropCopies}
 use Rattle.model.specs.Definitions.Replay.{loaded, usedUp, tookDue, replayOver, endReplay, endIfOver, replayed}
-use Rattle.model.specs.Definitions.Calls.{Result, firstOf, unless, finished, copiesOut, lackingOf, liveRefusals, prepared, performed, live, liveAfterEnd, replaying, accessBank, checkpointBank, cutBank, fuseBank, restartBank, Call, Reading, Writing, Checkpointing, Cutting, Fusing, Restarting, callBank}
+use Rattle.model.specs.Definitions.Calls.{Result, firstOf, unless, finished, copiesOut, lackingOf, liveRefusals, prepared, performed, live, liveAfterEnd}
+use Rattle.model.specs.Definitions.Calls.{replaying, accessBank, checkpointBank, cutBank, fuseBank, restartBank, Call, Reading, Writing, Checkpointing}
+use Rattle.model.specs.Definitions.Calls.{Cutting, Fusing, Restarting, callBank}
 use Rattle.model.specs.Laws.Logic.{cases, casesOption}
 use Rattle.model.specs.Laws.Boards.{entryAt-onBoard}
-use Rattle.model.specs.Laws.Runs.{entryAt-changed, lost-not, SameSizes, Follows, sizes-onBoard, sizes-powerOff, sizes-dropCopies, follows-refl, follows-trans, follows-step, follows-fetch, follows-checkpoint, follows-endReplay, follows-endIfOver}
+use Rattle.model.specs.Laws.Runs.{entryAt-changed, lost-not, SameSizes, Follows, sizes-onBoard, sizes-powerOff, sizes-dropCopies, follows-refl}
+use Rattle.model.specs.Laws.Runs.{follows-trans, follows-step, follows-fetch, follows-checkpoint, follows-endReplay, follows-endIfOver}
 use Rattle.model.specs.Laws.Runs.Stores.{endReplay-changed}
 
 -- a call that has stored nothing yet, on another bank of the same sizes

@@ -14,11 +14,13 @@ use Rattle.types.specs.declared.Record.{Record}
 use Rattle.model.specs.Definitions.Parts.{zeros}
 use Rattle.model.specs.Definitions.Layout.{pageSize, noFuse}
 use Rattle.model.specs.Definitions.Bank.{Working, Stable, Board, Bank, boardAt, entryAt, onBoard, onWorking, onSpare}
-use Rattle.model.specs.Definitions.Steps.{Run, step, withFuse, burnt, store, appended, recorded, note, movedRecord, storedRecord, storeRecords, flush, storedFrame, storedHead, storedSelector, restedWorking, storeFrames, checkpoint, show}
+use Rattle.model.specs.Definitions.Steps.{Run, step, withFuse, burnt, store, appended, recorded, note, movedRecord, storedRecord, storeRecords, flush}
+use Rattle.model.specs.Definitions.Steps.{storedFrame, storedHead, storedSelector, restedWorking, storeFrames, checkpoint, show}
 use Rattle.model.specs.Definitions.Replay.{settled, endReplay}
 use Rattle.model.specs.Laws.Logic.{cases}
 use Rattle.model.specs.Laws.Boards.{storedRecord-cases, settle}
-use Rattle.model.specs.Laws.Runs.{sizes-onBoard, follows-none, follows-step, follows-store, follows-storeRecords, follows-flush, follows-storeFrames, follows-checkpoint, Changed, changed-refl, changed-trans, changed-onBoard, changed-step, changed-store}
+use Rattle.model.specs.Laws.Runs.{sizes-onBoard, follows-none, follows-step, follows-store, follows-storeRecords, follows-flush, follows-storeFrames}
+use Rattle.model.specs.Laws.Runs.{follows-checkpoint, Changed, changed-refl, changed-trans, changed-onBoard, changed-step, changed-store}
 
 -- ---- a fuse lowered
 

@@ -2,14 +2,15 @@
 use mathlib.Core.Path.{_≡_, refl, sym, _∙_}
 use native.Mathlib.Omega.{arith}
 use lib.ListN.{length}
-use Rattle.script.specs.Laws.Machine.{starts}
+use Rattle.script.specs.Laws.Stream.{starts}
 use Rattle.script.specs.Contracts.{InBuffers}
 use borrow.Author.Needs.{needs}
 use Rattle.runner.proofs.reads.run_reads.Statement.{statement}
 use Rattle.runner.proofs.reads.run_reads.Tie as tie
 
 abbrev Inv-loop : tie.InvT-loop
-Inv-loop fd name input₀ line₀ bank₀ out₀ machine₀ turns₀ input line bank out machine turns = InBuffers line bank machine × (length input ≡ length input₀) × (length out ≡ length out₀)
+Inv-loop fd name input₀ line₀ bank₀ out₀ machine₀ turns₀ input line bank out machine turns =
+    InBuffers line bank machine × (length input ≡ length input₀) × (length out ≡ length out₀)
 
 abbrev μ-loop : tie.MeasureT-loop
 μ-loop fd name input₀ line₀ bank₀ out₀ machine₀ turns₀ input line bank out machine turns = turns
@@ -18,10 +19,13 @@ start-requires : tie.Need-start-requires Inv-loop μ-loop
 start-requires c κs = search needs
 
 loop-holds : tie.Need-loop-holds Inv-loop μ-loop
-loop-holds c = (rw (c .start .ensures) (starts _ _ _ _ (c .before .before .before .before .before .before .pre) .held), refl, refl)
+loop-holds c = (rw (c .start .ensures) (starts _ _ _ _ (c .before .before .before .before .before .before .pre)), refl, refl)
 
 run-read-requires : tie.Need-run-read-requires Inv-loop μ-loop
-run-read-requires c κs = let loop = c .before .before .before .before .before .loop in (loop .inv .0, omega (arith, loop .inv .1, loop .inv .2, c .before .before .before .before .before .before .before .before .before .before .before .before .pre .room))
+run-read-requires c κs =
+    let turn = c .before .before .before .before .before in
+    let start = turn .before .before .before .before .before .before .before in
+    (turn .loop .inv .0, omega (arith, turn .loop .inv .1, turn .loop .inv .2, start .pre .room))
 
 enum-told : tie.Need-enum-told Inv-loop μ-loop
 enum-told c = search needs
@@ -34,26 +38,36 @@ loop-less c = omega arith
 
 loop-again : tie.Need-loop-again Inv-loop μ-loop
 loop-again c =
-    let ran = c .before .before .before .before .before .before .before .before .before .before .before .run-read in
-    let turn = c .before .before .before .before .before .before .before .before .before .before .before .before .before .before .before .before .before .loop in
-    (ran .ensures, ran .kept .1 .1 .0 ∙ turn .inv .1, ran .kept .1 .1 .1 .1 .1 .0 ∙ turn .inv .2)
+    let read = c .before .before .before .before .before .before .before .before .before .before .before in
+    let turn = read .before .before .before .before .before .before in
+    (read .run-read .ensures, read .run-read .kept .1 .1 .0 ∙ turn .loop .inv .1, read .run-read .kept .1 .1 .1 .1 .1 .0 ∙ turn .loop .inv .2)
 
 enum-told-2 : tie.Need-enum-told-2 Inv-loop μ-loop
 enum-told-2 c = search needs
 
 run-end-requires : tie.Need-run-end-requires Inv-loop μ-loop
 run-end-requires c κs =
-    let ran = c .before .before .before .before .before .before .before .before .before .before .before .before .before .before .run-read in
-    (ran .ensures, omega (arith, c .before .before .before .before .before .before .before .before .before .before .before .before .before .before .before .before .before .before .before .before .before .before .before .before .before .before .before .pre .room, c .before .before .before .before .before .before .before .before .before .before .before .before .before .before .before .before .before .before .before .before .loop .inv .2, ran .kept .1 .1 .1 .1 .1 .0))
+    let read = c .before .before .before .before .before .before .before .before .before .before .before .before .before .before in
+    let turn = read .before .before .before .before .before .before in
+    let start = turn .before .before .before .before .before .before .before in
+    (read .run-read .ensures, omega (arith, start .pre .room, turn .loop .inv .2, read .run-read .kept .1 .1 .1 .1 .1 .0))
 
 same-length : tie.Need-same-length Inv-loop μ-loop
 same-length c = search needs
 
 same-length-2 : tie.Need-same-length-2 Inv-loop μ-loop
-same-length-2 c = c .before .before .before .before .before .before .before .before .before .before .before .before .before .before .before .before .before .before .before .run-read .ensures .lineBuffer ∙ sym (c .before .before .before .before .before .before .before .before .before .before .before .before .before .before .before .before .before .before .before .before .before .before .before .before .before .before .before .before .before .before .before .before .pre .lineBuffer)
+same-length-2 c =
+    let read = c .before .before .before .before .before .before .before .before .before .before .before .before .before .before .before .before .before .before
+    .before in
+    let start = read .before .before .before .before .before .before .before .before .before .before .before .before .before in
+    read .run-read .ensures .lineBuffer ∙ sym (start .pre .lineBuffer)
 
 same-length-3 : tie.Need-same-length-3 Inv-loop μ-loop
-same-length-3 c = c .before .before .before .before .run-end .kept .1 .0 ∙ c .before .before .before .before .before .before .before .before .before .before .before .before .before .before .before .before .before .before .before .run-read .ensures .bankBuffer ∙ sym (c .before .before .before .before .before .before .before .before .before .before .before .before .before .before .before .before .before .before .before .before .before .before .before .before .before .before .before .before .before .before .before .before .pre .bankBuffer)
+same-length-3 c =
+    let end = c .before .before .before .before in
+    let read = end .before .before .before .before .before .before .before .before .before .before .before .before .before .before .before in
+    let start = read .before .before .before .before .before .before .before .before .before .before .before .before .before in
+    end .run-end .kept .1 .0 ∙ read .run-read .ensures .bankBuffer ∙ sym (start .pre .bankBuffer)
 
 same-length-4 : tie.Need-same-length-4 Inv-loop μ-loop
 same-length-4 c = search needs

@@ -20,7 +20,9 @@ shared-slice-read-feed-byte : tie.Need-shared-slice-read-feed-byte Inv-loop μ-l
 shared-slice-read-feed-byte c = omega arith
 
 feed-byte-requires : tie.Need-feed-byte-requires Inv-loop μ-loop
-feed-byte-requires c κs = turn-running _ _ _ _ _ (c .before .before .before .before .before .before .before .before .before .before .pre) _ _ _ _ _ (c .before .before .before .before .before .loop .inv) (omega arith)
+feed-byte-requires c κs =
+    turn-running _ _ _ _ _ (c .before .before .before .before .before .before .before .before .before .before .pre) _ _ _ _ _
+    (c .before .before .before .before .before .loop .inv) (omega arith)
 
 add-i : tie.Need-add-i Inv-loop μ-loop
 add-i c = omega arith
@@ -37,14 +39,16 @@ loop-again c =
     record {
       inside = omega (arith, more);
       outKept = call .kept .1 .1 .1 .0 ∙ turn .inv .outKept;
-      fed = turn-next _ _ _ _ _ (start .pre) (turn .i) (turn .line) (turn .bank) (turn .out) (turn .machine) (turn .inv) more (call .result) _ _ _ (call .ensures);
+      fed =
+          turn-next _ _ _ _ _ (start .pre) (turn .i) (turn .line) (turn .bank) (turn .out) (turn .machine) (turn .inv) more (call .result) _ _ _
+          (call .ensures);
     }
 
 same-length : tie.Need-same-length Inv-loop μ-loop
-same-length c = c .before .loop .inv .fed .held .lineBuffer ∙ sym (c .before .before .before .before .before .before .pre .held .lineBuffer)
+same-length c = c .before .loop .inv .fed .leaves .held .lineBuffer ∙ sym (c .before .before .before .before .before .before .pre .held .lineBuffer)
 
 same-length-2 : tie.Need-same-length-2 Inv-loop μ-loop
-same-length-2 c = c .before .loop .inv .fed .held .bankBuffer ∙ sym (c .before .before .before .before .before .before .pre .held .bankBuffer)
+same-length-2 c = c .before .loop .inv .fed .leaves .held .bankBuffer ∙ sym (c .before .before .before .before .before .before .pre .held .bankBuffer)
 
 same-length-3 : tie.Need-same-length-3 Inv-loop μ-loop
 same-length-3 c = c .before .loop .inv .outKept

@@ -3,7 +3,7 @@ use mathlib.Core.Path.{sym, _∙_}
 use native.Mathlib.Omega.{arith}
 use lib.Seq.{length-take-le}
 use Rattle.script.specs.Laws.Machine.{fed-stopped, fed-line, fed-long, fed-more}
-use Rattle.script.specs.Laws.Tally.{counts-on}
+use Rattle.lines.specs.Laws.Tally.{counts-on}
 use borrow.Author.Needs.{needs}
 use Rattle.script.proofs.feed.feed_byte.Statement.{statement}
 use Rattle.script.proofs.feed.feed_byte.Tie as tie
@@ -12,7 +12,9 @@ stopped-requires : tie.Need-stopped-requires
 stopped-requires c κs = search needs
 
 returns : tie.Need-returns
-returns c = let start = c .before .before .before .before .before .before .before in fed-stopped (start .args .c) _ _ _ (start .args .from) (start .pre) (sym (c .before .stopped .ensures) ∙ c .if1 .taken)
+returns c =
+    let start = c .before .before .before .before .before .before .before in
+    fed-stopped (start .args .c) _ _ _ (start .args .from) (start .pre) (sym (c .before .stopped .ensures) ∙ c .if1 .taken)
 
 slice-reshare-prefix-run-line : tie.Need-slice-reshare-prefix-run-line
 slice-reshare-prefix-run-line c = search needs
@@ -28,7 +30,9 @@ run-line-requires c κs =
     record {
       buffer = start .pre .held .bankBuffer;
       within = start .pre .held .within;
-      counts = counts-on _ (start .pre .held .sums) (sym (c .before .before .before .before .before .stopped .ensures) ∙ c .before .before .before .before .if1 .left);
+      counts =
+          counts-on _ (start .pre .held .sums)
+          (sym (c .before .before .before .before .before .stopped .ensures) ∙ c .before .before .before .before .if1 .left);
       room = start .pre .room;
     }
 
@@ -44,12 +48,17 @@ same-length-3 c = search needs
 returns-2 : tie.Need-returns-2
 returns-2 c =
     let start = c .before .before .before .before .before .before .before .before .before .before .before .before .before .before .before .before in
-    fed-line (start .args .c) _ _ _ (start .args .from) (start .pre) (c .before .before .before .before .run-line .result) _ _ (sym (c .before .before .before .before .before .before .before .before .before .before .stopped .ensures) ∙ c .before .before .before .before .before .before .before .before .before .if1 .left) (c .before .before .before .before .before .before .before .before .if2 .taken) (c .before .before .before .before .run-line .ensures) (c .before .before .before .before .run-line .kept .1 .0)
+    fed-line (start .args .c) _ _ _ (start .args .from) (start .pre) (c .before .before .before .before .run-line .result) _ _
+    (sym (c .before .before .before .before .before .before .before .before .before .before .stopped .ensures)
+    ∙ c .before .before .before .before .before .before .before .before .before .if1 .left)
+    (c .before .before .before .before .before .before .before .before .if2 .taken) (c .before .before .before .before .run-line .ensures)
+    (c .before .before .before .before .run-line .kept .1 .0)
 
 returns-3 : tie.Need-returns-3
 returns-3 c =
     let start = c .before .before .before .before .before .before .before .before .before in
-    fed-long (start .args .c) _ _ _ (start .args .from) (start .pre) (sym (c .before .before .before .stopped .ensures) ∙ c .before .before .if1 .left) (c .before .if2 .left) (c .if3 .taken)
+    fed-long (start .args .c) _ _ _ (start .args .from) (start .pre) (sym (c .before .before .before .stopped .ensures) ∙ c .before .before .if1 .left)
+    (c .before .if2 .left) (c .if3 .taken)
 
 slice-write-line : tie.Need-slice-write-line
 slice-write-line c = search needs
@@ -63,7 +72,8 @@ same-length-4 c = search needs
 returns-4 : tie.Need-returns-4
 returns-4 c =
     let start = c .before .before .before .before .before .before .before .before .before in
-    fed-more (start .args .c) _ _ _ (start .args .from) (start .pre) (sym (c .before .before .before .stopped .ensures) ∙ c .before .before .if1 .left) (c .before .if2 .left) (c .if3 .left)
+    fed-more (start .args .c) _ _ _ (start .args .from) (start .pre) (sym (c .before .before .before .stopped .ensures) ∙ c .before .before .if1 .left)
+    (c .before .if2 .left) (c .if3 .left)
 
 pub feed-byte-spec : {M : Type 1} → statement M
 feed-byte-spec =

@@ -2,8 +2,8 @@
 use mathlib.Core.Path.{sym, _∙_}
 use native.Mathlib.Omega.{arith}
 use lib.Seq.{length-take-le}
-use Rattle.script.specs.Laws.Machine.{put-as, finish-stopped, finish-empty, put-finish}
-use Rattle.script.specs.Laws.Tally.{counts-on}
+use Rattle.script.specs.Laws.Machine.{ends-stopped, ends-empty, ends-line}
+use Rattle.lines.specs.Laws.Tally.{counts-on}
 use borrow.Author.Needs.{needs}
 use Rattle.script.proofs.feed.finish.Statement.{statement}
 use Rattle.script.proofs.feed.finish.Tie as tie
@@ -20,7 +20,8 @@ same-length c = search needs
 returns : tie.Need-returns
 returns c =
     let start = c .before .before .before .before .before .before .before .before .before .before .before in
-    put-as (finish-stopped (start .args .line .now) (start .args .bank .now) (start .args .from) (sym (c .before .before .before .before .before .stopped .ensures) ∙ c .before .before .before .before .if1 .taken)) (c .before .before .put-last .ensures)
+    ends-stopped _ _ (start .args .from) (start .pre .0 .within) (c .before .before .put-last .ensures)
+    (sym (c .before .before .before .before .before .stopped .ensures) ∙ c .before .before .before .before .if1 .taken)
 
 put-last-requires-2 : tie.Need-put-last-requires-2
 put-last-requires-2 c κs = search needs
@@ -31,7 +32,7 @@ same-length-2 c = search needs
 returns-2 : tie.Need-returns-2
 returns-2 c =
     let start = c .before .before .before .before .before .before .before .before .before .before .before .before in
-    put-as (finish-empty (start .args .line .now) (start .args .bank .now) (start .args .from) (sym (c .before .before .before .before .before .before .stopped .ensures) ∙ c .before .before .before .before .before .if1 .left) (c .before .before .before .before .if2 .taken)) (c .before .before .put-last2 .ensures)
+    ends-empty _ _ (start .args .from) (start .pre .0 .within) (c .before .before .put-last2 .ensures) (c .before .before .before .before .if2 .taken)
 
 slice-aggregate-run-line : tie.Need-slice-aggregate-run-line
 slice-aggregate-run-line c =
@@ -44,7 +45,9 @@ run-line-requires c κs =
     record {
       buffer = start .pre .0 .bankBuffer;
       within = start .pre .0 .within;
-      counts = counts-on _ (start .pre .0 .sums) (sym (c .before .before .before .before .before .stopped .ensures) ∙ c .before .before .before .before .if1 .left);
+      counts =
+          counts-on _ (start .pre .0 .sums)
+          (sym (c .before .before .before .before .before .stopped .ensures) ∙ c .before .before .before .before .if1 .left);
       room = omega (arith, start .pre .1);
     }
 
@@ -59,10 +62,12 @@ same-length-4 c = search needs
 
 returns-3 : tie.Need-returns-3
 returns-3 c =
-    let start = c .before .before .before .before .before .before .before .before .before .before .before .before .before .before .before .before .before .before .before .before .before in
-    let ran = c .before .before .before .before .before .before .before .before .before .run-line in
-    put-finish (start .args .line .now) (start .args .bank .now) (start .args .from) (ran .result) _ (start .args .out .now) _ _ _ (sym (c .before .before .before .before .before .before .before .before .before .before .before .before .before .before .before .stopped .ensures) ∙ c .before .before .before .before .before .before .before .before .before .before .before .before .before .before .if1 .left) (c .before .before .before .before .before .before .before .before .before .before .before .before .before .if2 .left)
-    (omega (arith, start .pre .0 .pendingIn, start .pre .0 .lineBuffer)) (omega (arith, start .pre .1)) (ran .ensures) (c .before .before .put-last3 .ensures)
+    let call = c .before .before .before .before .before .before .before .before .before in
+    let test = call .before .before .before .before in
+    let start = test .before .before .before .before .before .before .before .before in
+    ends-line _ _ (start .args .from) (call .run-line .result) _ _ _ _ _ (sym (test .before .before .stopped .ensures) ∙ test .before .if1 .left)
+    (test .if2 .left) (omega (arith, start .pre .0 .pendingIn, start .pre .0 .lineBuffer)) (omega (arith, start .pre .1)) (call .run-line .ensures)
+    (c .before .before .put-last3 .ensures)
 
 pub finish-spec : {M : Type 1} → statement M
 finish-spec =

@@ -28,10 +28,12 @@ same-length-2 c = search needs
 returns : tie.Need-returns
 returns c =
     let start = c .before .before .before .before .before .before .before .before .before .before .before .before .before .before .before .before in
+    let asked = c .before .before .before .before .before .before .before .before .before .read-request in
     let called = c .before .before .before .before .before .before .before .before .line-work in
     let put = c .before .before .before .put-line in
-    line-ran (start .args .line .now) (c .before .before .before .before .before .before .before .before .before .read-request .result) (start .args .from) (start .args .bank .now) (called .result) (c .with-line .result) (put .result) (called .last .0) (start .args .out .now) (put .last .0)
-    (start .pre .counts .sums) (c .before .before .before .before .before .before .before .before .before .read-request .ensures) (called .ensures) (put .ensures .0) (put .ensures .1) (c .with-line .ensures)
+    line-ran (start .args .line .now) (asked .result) (start .args .from) (start .args .bank .now) (called .last .0) (start .args .out .now)
+    (put .last .0) (called .result) (c .with-line .result) (put .result) (start .pre .counts .sums) (asked .ensures) (called .ensures)
+    (put .ensures .0) (put .ensures .1) (c .with-line .ensures)
 
 pub run-line-spec : {M : Type 1} → statement M
 run-line-spec =

@@ -8,7 +8,9 @@ empty-out-requires : tie.Need-empty-out-requires
 empty-out-requires c κs = search needs
 
 feed-requires : tie.Need-feed-requires
-feed-requires c κs = let start = c .before .before .before .before .before .before .before .before in rw (c .empty-out .ensures) (running-emptied _ _ _ (start .args .from) _ (start .pre .0) (start .pre .1))
+feed-requires c κs =
+    let start = c .before .before .before .before .before .before .before .before in
+    rw (c .empty-out .ensures) (running-emptied _ _ _ (start .args .from) _ (start .pre .0) (start .pre .1))
 
 same-length : tie.Need-same-length
 same-length c = search needs
@@ -23,7 +25,8 @@ returns : tie.Need-returns
 returns c =
     let start = c .before .before .before .before .before .before .before .before .before .before .before .before .before .before .before in
     let fed = c .before .before .before .before .before .before .feed in
-    read-streamed _ _ _ (start .args .from) _ (fed .result) _ _ _ (rw (c .before .before .before .before .before .before .before .empty-out .ensures) at (fed .ensures))
+    read-streamed _ _ (start .args .from) _ (fed .result) _ _ _ _
+    (rw (c .before .before .before .before .before .before .before .empty-out .ensures) at (fed .ensures))
 
 pub feed-read-spec : {M : Type 1} → statement M
 feed-read-spec = tie.close (tie.spec empty-out-requires feed-requires same-length same-length-2 same-length-3 returns)

@@ -81,42 +81,54 @@ same-length c = search needs
 
 returns-2 : tie.Need-returns-2
 unfolding work
-returns-2 c = call-worked _ _ (c .before .before .before .before .before .before .request .given .1) (c .before .before .before .read .ensures .0) (c .printed-of .ensures) refl
+returns-2 c =
+    call-worked _ _ (c .before .before .before .before .before .before .request .given .1) (c .before .before .before .read .ensures .0)
+    (c .printed-of .ensures) refl
 
 same-length-2 : tie.Need-same-length-2
 same-length-2 c = search needs
 
 returns-3 : tie.Need-returns-3
 unfolding work
-returns-3 c = call-worked _ _ (c .before .before .before .before .before .before .request2 .given .1) (c .before .before .before .write .ensures .0) (c .printed-of2 .ensures) refl
+returns-3 c =
+    call-worked _ _ (c .before .before .before .before .before .before .request2 .given .1) (c .before .before .before .write .ensures .0)
+    (c .printed-of2 .ensures) refl
 
 same-length-3 : tie.Need-same-length-3
 same-length-3 c = search needs
 
 returns-4 : tie.Need-returns-4
 unfolding work
-returns-4 c = call-worked _ _ (c .before .before .before .before .before .before .request3 .given .1) (c .before .before .before .checkpoint .ensures .0) (c .printed-of3 .ensures) refl
+returns-4 c =
+    call-worked _ _ (c .before .before .before .before .before .before .request3 .given .1) (c .before .before .before .checkpoint .ensures .0)
+    (c .printed-of3 .ensures) refl
 
 same-length-4 : tie.Need-same-length-4
 same-length-4 c = search needs
 
 returns-5 : tie.Need-returns-5
 unfolding work
-returns-5 c = call-worked _ _ (c .before .before .before .before .before .before .request4 .given .1) (c .before .before .before .cut .ensures .0) (c .printed-of4 .ensures) refl
+returns-5 c =
+    call-worked _ _ (c .before .before .before .before .before .before .request4 .given .1) (c .before .before .before .cut .ensures .0)
+    (c .printed-of4 .ensures) refl
 
 same-length-5 : tie.Need-same-length-5
 same-length-5 c = search needs
 
 returns-6 : tie.Need-returns-6
 unfolding work
-returns-6 c = call-worked _ _ (c .before .before .before .before .before .before .request5 .given .1) (c .before .before .before .fuse .ensures .0) (c .printed-of5 .ensures) refl
+returns-6 c =
+    call-worked _ _ (c .before .before .before .before .before .before .request5 .given .1) (c .before .before .before .fuse .ensures .0)
+    (c .printed-of5 .ensures) refl
 
 same-length-6 : tie.Need-same-length-6
 same-length-6 c = search needs
 
 returns-7 : tie.Need-returns-7
 unfolding work
-returns-7 c = call-worked _ _ (c .before .before .before .before .before .before .request6 .given .1) (c .before .before .before .restart .ensures .0) (c .printed-of6 .ensures) refl
+returns-7 c =
+    call-worked _ _ (c .before .before .before .before .before .before .request6 .given .1) (c .before .before .before .restart .ensures .0)
+    (c .printed-of6 .ensures) refl
 
 returns-8 : tie.Need-returns-8
 unfolding work

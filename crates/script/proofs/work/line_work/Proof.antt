@@ -6,12 +6,12 @@ use mathlib.Core.Logic.{inl, inr}
 use native.Mathlib.Omega.{arith}
 use types.Run.{OneOf}
 use denote.Enum.Declared.{tagOf}
-use Rattle.script.specs.declared.request.Request.{Request}
-use Rattle.script.specs.declared.request.Request.the-variants.{Make, Read, Write, Checkpoint, Cut, Fuse, Restart, Unreadable}
+use Rattle.lines.specs.declared.request.Request.{Request}
+use Rattle.lines.specs.declared.request.Request.the-variants.{Make, Read, Write, Checkpoint, Cut, Fuse, Restart, Unreadable}
 use Rattle.script.specs.Definitions.Runner.{work}
 use Rattle.script.specs.Laws.Work.{work-called, works-as, make-first}
 use Rattle.script.specs.Contracts.{called}
-use Rattle.script.proofs.request.Request as R
+use Rattle.lines.proofs.request.Request as R
 use borrow.Author.Needs.{needs}
 use Rattle.script.proofs.work.line_work.Statement.{statement}
 use Rattle.script.proofs.work.line_work.Tie as tie
@@ -59,7 +59,9 @@ same-length-2 : tie.Need-same-length-2
 same-length-2 c = search needs
 
 returns-2 : tie.Need-returns-2
-returns-2 c = works-as (make-first _ _ _ _ _ _ (c .before .before .before .before .before .before .before .if1 .left) (c .before .before .before .before .before .request .given .1)) (c .before .before .make-bank .ensures)
+returns-2 c =
+    works-as (make-first _ _ _ _ _ _ (c .before .before .before .before .before .before .before .if1 .left)
+    (c .before .before .before .before .before .request .given .1)) (c .before .before .make-bank .ensures)
 
 same-length-3 : tie.Need-same-length-3
 same-length-3 c = search needs

@@ -10,7 +10,7 @@ use Rattle.script.specs.Laws.Work.{bank-sizes, make-works-refused, make-
 use borrow.Author.Needs.{needs}
 use Rattle.script.proofs.work.make_bank.Statement.{statement}
 use Rattle.script.proofs.work.make_bank.Tie as tie
-use Rattle.model.specs.Definitions.WellFormed.{sizesAllowed}
+use Rattle.model.specs.Definitions.Check.{sizesAllowed}
 use Rattle.model.specs.Laws.Fresh.{sizes-say}
 
 -- the sizes are allowed, so the bank fits
@@ -32,7 +32,8 @@ printed-of-requires c κs = search needs
 returns : tie.Need-returns
 returns c =
     let start = c .before .before .before .before in
-    make-works-refused (start .args .boards) (start .args .pages) _ (c .printed-of .result) _ (sym (c .before .before .sizes-allowed .ensures) ∙ not-true _ (c .before .if1 .taken)) (c .printed-of .ensures)
+    make-works-refused (start .args .boards) (start .args .pages) _ (c .printed-of .result) _
+    (sym (c .before .before .sizes-allowed .ensures) ∙ not-true _ (c .before .if1 .taken)) (c .printed-of .ensures)
 
 bank-size-requires : tie.Need-bank-size-requires
 bank-size-requires c κs =
@@ -59,7 +60,8 @@ returns-2 c =
     let start = c .before .before .before .before .before .before .before .before .before in
     let size = c .before .before .before .before .before in
     let call = c .before .before .before .make in
-    make-works-done (start .args .boards) (start .args .pages) _ _ (c .printed-of2 .result) (size .bank-size .result) _ _ (allowed (size .before)) (size .bank-size .ensures) (length-take-le _ _ (fits size)) (call .ensures .0) (c .printed-of2 .ensures) (call .kept .0)
+    make-works-done (start .args .boards) (start .args .pages) _ _ (c .printed-of2 .result) (size .bank-size .result) _ _ (allowed (size .before))
+    (size .bank-size .ensures) (length-take-le _ _ (fits size)) (call .ensures .0) (c .printed-of2 .ensures) (call .kept .0)
 
 pub make-bank-spec : {M : Type 1} → statement M
 make-bank-spec =

@@ -4,7 +4,7 @@ use borrow.Author.Tests.{eq-eqb, ne-eqb}
 use Rattle.steps.specs.Access.{counters-test}
 use Rattle.steps.proofs.access.counters_full.Statement.{statement}
 use Rattle.steps.proofs.access.counters_full.Tie as tie
-use Rattle.steps.specs.Blocks.{block-length}
+use Rattle.steps.specs.BlockLaws.{block-length}
 
 read-since-requires : tie.Need-read-since-requires
 read-since-requires c κs = omega (arith, block-length (c .before .pre))

@@ -5,7 +5,7 @@ use Rattle.model.specs.Definitions.Codec.{decodeBoard}
 use Rattle.steps.specs.Access.{access-counted}
 use Rattle.steps.proofs.access.read_access.Statement.{statement}
 use Rattle.steps.proofs.access.read_access.Tie as tie
-use Rattle.steps.specs.Blocks.{block-length}
+use Rattle.steps.specs.BlockLaws.{block-length}
 
 read-number-requires : tie.Need-read-number-requires
 read-number-requires c κs = omega (arith, block-length (c .before .before .pre .0))

@@ -5,7 +5,7 @@ use borrow.Author.Needs.{needs}
 use Rattle.steps.specs.Access.{byte-read}
 use Rattle.steps.proofs.access.read_byte.Statement.{statement}
 use Rattle.steps.proofs.access.read_byte.Tie as tie
-use Rattle.steps.specs.Blocks.{block-length}
+use Rattle.steps.specs.BlockLaws.{block-length}
 
 mul-get : tie.Need-mul-get
 mul-get c = search needs

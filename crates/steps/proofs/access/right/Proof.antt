@@ -4,7 +4,7 @@ use borrow.Author.Needs.{needs}
 use Rattle.steps.specs.Access.{right-read}
 use Rattle.steps.proofs.access.right.Statement.{statement}
 use Rattle.steps.proofs.access.right.Tie as tie
-use Rattle.steps.specs.Blocks.{block-length}
+use Rattle.steps.specs.BlockLaws.{block-length}
 
 mul-get : tie.Need-mul-get
 mul-get c = search needs

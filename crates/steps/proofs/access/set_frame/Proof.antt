@@ -5,7 +5,7 @@ use borrow.Author.Needs.{needs}
 use Rattle.steps.specs.Access.{frame-written}
 use Rattle.steps.proofs.access.set_frame.Statement.{statement}
 use Rattle.steps.proofs.access.set_frame.Tie as tie
-use Rattle.steps.specs.Blocks.{block-length}
+use Rattle.steps.specs.BlockLaws.{block-length}
 
 write-page-frame-requires : tie.Need-write-page-frame-requires
 write-page-frame-requires c κs = omega (arith, block-length (c .before .before .pre .0))

@@ -5,22 +5,22 @@ use mathlib.Core.Bool.{Bool, true, false}
 use borrow.Author.Needs.{needs}
 use Rattle.types.specs.declared.Right.the-variants.{None, Copy, Own}
 use Rattle.model.specs.Definitions.Steps.{lacks}
-use Rattle.steps.specs.Access.{accessOf}
+use Rattle.steps.specs.Blocks.{readOrWrite}
 use Rattle.steps.proofs.access.too_little.Statement.{statement}
 use Rattle.steps.proofs.access.too_little.Tie as tie
 
-lacks-none : (writes : Bool) (p o v : ℕ) → true ≡ lacks (accessOf writes p o v) None
-unfolding lacks accessOf
+lacks-none : (writes : Bool) (p o v : ℕ) → true ≡ lacks (readOrWrite writes p o v) None
+unfolding lacks readOrWrite
 lacks-none true p o v = refl
 lacks-none false p o v = refl
 
-lacks-copy : (writes : Bool) (p o v : ℕ) → writes ≡ lacks (accessOf writes p o v) Copy
-unfolding lacks accessOf
+lacks-copy : (writes : Bool) (p o v : ℕ) → writes ≡ lacks (readOrWrite writes p o v) Copy
+unfolding lacks readOrWrite
 lacks-copy true p o v = refl
 lacks-copy false p o v = refl
 
-lacks-own : (writes : Bool) (p o v : ℕ) → false ≡ lacks (accessOf writes p o v) Own
-unfolding lacks accessOf
+lacks-own : (writes : Bool) (p o v : ℕ) → false ≡ lacks (readOrWrite writes p o v) Own
+unfolding lacks readOrWrite
 lacks-own true p o v = refl
 lacks-own false p o v = refl
 

@@ -5,7 +5,7 @@ use borrow.Author.Needs.{needs}
 use Rattle.steps.specs.Access.{byte-written}
 use Rattle.steps.proofs.access.write_access.Statement.{statement}
 use Rattle.steps.proofs.access.write_access.Tie as tie
-use Rattle.steps.specs.Blocks.{block-length}
+use Rattle.steps.specs.BlockLaws.{block-length}
 
 read-access-requires : tie.Need-read-access-requires
 read-access-requires c κs = search needs

@@ -4,7 +4,7 @@ use Rattle.steps.specs.Checkpoint.{rest-bytes}
 use borrow.Author.Needs.{needs}
 use Rattle.steps.proofs.checkpoint.rest.Statement.{statement}
 use Rattle.steps.proofs.checkpoint.rest.Tie as tie
-use Rattle.steps.specs.Blocks.{block-length}
+use Rattle.steps.specs.BlockLaws.{block-length}
 
 write-since-requires : tie.Need-write-since-requires
 write-since-requires c κs = omega (arith, block-length (c .before .before .pre))
@@ -21,7 +21,11 @@ same-length c = search needs
 returns : tie.Need-returns
 returns c =
     let block = c .before .before .before .before .before .before .before .before .before .before .before .before .before .pre in
-    rw (c .before .before .clear-volatiles .ensures, c .before .before .before .before .before .before .write-volatile-count .ensures, c .before .before .before .before .before .before .before .before .before .before .write-since .ensures)
+    rw (
+      c .before .before .clear-volatiles .ensures,
+      c .before .before .before .before .before .before .write-volatile-count .ensures,
+      c .before .before .before .before .before .before .before .before .before .before .write-since .ensures,
+    )
     (rest-bytes _ _ _ (block .fields) (block .back))
 
 pub rest-spec : {M : Type 1} → statement M

@@ -5,7 +5,7 @@ use Rattle.steps.specs.Checkpoint.{store-frame-bytes}
 use borrow.Author.Needs.{needs}
 use Rattle.steps.proofs.checkpoint.store_frame.Statement.{statement}
 use Rattle.steps.proofs.checkpoint.store_frame.Tie as tie
-use Rattle.steps.specs.Blocks.{block-length}
+use Rattle.steps.specs.BlockLaws.{block-length}
 
 read-page-frame-requires : tie.Need-read-page-frame-requires
 read-page-frame-requires c κs = omega (arith, block-length (c .before .before .pre .0))

@@ -5,7 +5,7 @@ use Rattle.steps.specs.Checkpoint.{store-head-bytes}
 use borrow.Author.Needs.{needs}
 use Rattle.steps.proofs.checkpoint.store_head.Statement.{statement}
 use Rattle.steps.proofs.checkpoint.store_head.Tie as tie
-use Rattle.steps.specs.Blocks.{block-length}
+use Rattle.steps.specs.BlockLaws.{block-length}
 
 read-number-requires : tie.Need-read-number-requires
 read-number-requires c κs = omega (arith, block-length (c .before .before .pre))

@@ -5,7 +5,7 @@ use Rattle.steps.specs.Checkpoint.{store-selector-bytes}
 use borrow.Author.Needs.{needs}
 use Rattle.steps.proofs.checkpoint.store_selector.Statement.{statement}
 use Rattle.steps.proofs.checkpoint.store_selector.Tie as tie
-use Rattle.steps.specs.Blocks.{block-length}
+use Rattle.steps.specs.BlockLaws.{block-length}
 
 read-selector-requires : tie.Need-read-selector-requires
 read-selector-requires c κs = omega (arith, block-length (c .before .before .pre))
@@ -19,7 +19,8 @@ same-length c = search needs
 returns : tie.Need-returns
 returns c =
     let block = c .before .before .before .before .before .before .before .pre in
-    c .before .before .write-selector .ensures ∙ store-selector-bytes _ _ _ (block .fields) (block .back) _ (c .before .before .before .before .read-selector .ensures)
+    c .before .before .write-selector .ensures ∙ store-selector-bytes _ _ _ (block .fields) (block .back) _
+    (c .before .before .before .before .read-selector .ensures)
 
 pub store-selector-spec : {M : Type 1} → statement M
 store-selector-spec =

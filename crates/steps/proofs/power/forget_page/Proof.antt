@@ -36,7 +36,8 @@ returns c =
     let args = c .before .before .before .before .before .before .before .before .before .before .args in
     c .before .before .write-entry .ensures
     ∙ ap (λ (e : Entry). splice (args .bank .now) (headSize + args .page * entrySize) (encodeEntry e))
-    (entry-forgotten _ _ _ _ _ (c .before .before .before .before .before .before .before .read-owner .ensures) (c .before .before .before .before .before .read-copies .ensures) (c .before .before .before .without-holder .ensures))
+    (entry-forgotten _ _ _ _ _ (c .before .before .before .before .before .before .before .read-owner .ensures)
+    (c .before .before .before .before .before .read-copies .ensures) (c .before .before .before .without-holder .ensures))
 
 pub forget-page-spec : {M : Type 1} → statement M
 forget-page-spec =

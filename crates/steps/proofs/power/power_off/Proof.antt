@@ -26,10 +26,13 @@ block-size-requires c κs = search needs
 lent : (c : tie.After-block-size)
     → LentBlock
     (record {
-      directory = map (forgotten (c .before .before .before .before .before .before .before .args .board)) (decode (c .before .before .before .before .before .before .before .args .bank .now) .directory);
+      directory =
+          map (forgotten (c .before .before .before .before .before .before .before .args .board))
+          (decode (c .before .before .before .before .before .before .before .args .bank .now) .directory);
       boards = decode (c .before .before .before .before .before .before .before .args .bank .now) .boards;
     })
-    (c .before .before .before .before .forget .last .0) (c .before .before .before .before .before .before .before .args .pages) (c .before .before .before .before .before .before .before .args .board) (c .before .block-at .result) (c .block-size .result)
+    (c .before .before .before .before .forget .last .0) (c .before .before .before .before .before .before .before .args .pages)
+    (c .before .before .before .before .before .before .before .args .board) (c .before .block-at .result) (c .block-size .result)
 lent c =
     let start = c .before .before .before .before .before .before .before in
     let k : Bank = decode (start .args .bank .now) in

@@ -8,7 +8,7 @@ use Rattle.steps.specs.Power.{wiped-bytes}
 use borrow.Author.Needs.{needs}
 use Rattle.steps.proofs.power.wipe.Statement.{statement}
 use Rattle.steps.proofs.power.wipe.Tie as tie
-use Rattle.steps.specs.Blocks.{block-length}
+use Rattle.steps.specs.BlockLaws.{block-length}
 
 write-state-requires : tie.Need-write-state-requires
 write-state-requires c κs = omega (arith, block-length (c .before .before .pre))
@@ -44,9 +44,14 @@ returns : tie.Need-returns
 returns c =
     let block = c .before .before .before .before .before .before .before .before .before .before .before .before .before .before .pre in
     let cleared = c .before .before .clear in
-    lent-cleared (c .before .before .before .before .before .before .before .write-fuse .last .0) (cleared .last .0) numberAt (c .before .before .before .before .area-at .result - numberAt)
+    lent-cleared (c .before .before .before .before .before .before .before .write-fuse .last .0) (cleared .last .0) numberAt
+    (c .before .before .before .before .area-at .result - numberAt)
     (omega (arith, block-length block)) (cleared .kept .0) (cleared .ensures)
-    ∙ rw (c .before .before .before .before .area-at .ensures, c .before .before .before .before .before .before .before .write-fuse .ensures, c .before .before .before .before .before .before .before .before .before .before .before .write-state .ensures)
+    ∙ rw (
+      c .before .before .before .before .area-at .ensures,
+      c .before .before .before .before .before .before .before .write-fuse .ensures,
+      c .before .before .before .before .before .before .before .before .before .before .before .write-state .ensures,
+    )
     (wiped-bytes _ _ _ (block .fields) (block .back))
 
 pub wipe-spec : {M : Type 1} → statement M

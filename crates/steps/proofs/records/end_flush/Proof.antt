@@ -4,11 +4,11 @@ use Prim.Native.Nat.{_*_}
 use native.Mathlib.Omega.{arith}
 use Rattle.model.specs.Definitions.Layout.{slotSize}
 use Rattle.fields.proofs.Lent.{lent-cleared}
-use Rattle.steps.specs.Records.{end-bytes}
+use Rattle.steps.specs.Logs.{end-bytes}
 use borrow.Author.Needs.{needs}
 use Rattle.steps.proofs.records.end_flush.Statement.{statement}
 use Rattle.steps.proofs.records.end_flush.Tie as tie
-use Rattle.steps.specs.Blocks.{block-length}
+use Rattle.steps.specs.BlockLaws.{block-length}
 
 write-volatile-count-requires : tie.Need-write-volatile-count-requires
 write-volatile-count-requires c κs = omega (arith, block-length (c .before .before .pre .0))

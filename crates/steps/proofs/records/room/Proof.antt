@@ -4,11 +4,11 @@ use Prim.Native.Nat.{_+_}
 use native.Mathlib.Omega.{arith}
 use borrow.Author.Tests.{lt-leb}
 use Rattle.model.specs.Definitions.Layout.{slotCount}
-use Rattle.steps.specs.Records.{fits-left}
+use Rattle.steps.specs.Logs.{fits-left}
 use borrow.Author.Needs.{needs}
 use Rattle.steps.proofs.records.room.Statement.{statement}
 use Rattle.steps.proofs.records.room.Tie as tie
-use Rattle.steps.specs.Blocks.{block-length}
+use Rattle.steps.specs.BlockLaws.{block-length}
 
 stored-count-requires : tie.Need-stored-count-requires
 stored-count-requires c κs = search needs
@@ -29,7 +29,8 @@ returns c =
 returns-2 : tie.Need-returns-2
 returns-2 c =
     let start = c .before .before .before .before in
-    fits-left (start .args .need) _ slotCount (c .if1 .left) ∙ rw (c .before .before .stored-count .ensures, c .before .volatile-count .ensures (start .args .pages))
+    fits-left (start .args .need) _ slotCount (c .if1 .left)
+    ∙ rw (c .before .before .stored-count .ensures, c .before .volatile-count .ensures (start .args .pages))
 
 pub room-spec : {M : Type 1} → statement M
 room-spec =

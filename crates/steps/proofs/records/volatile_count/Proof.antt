@@ -1,6 +1,6 @@
 -- `steps::records::volatile_count` meets its contract. Assumes nothing.
 use mathlib.Core.Path.{_∙_}
-use Rattle.steps.specs.Records.{volatile-read}
+use Rattle.steps.specs.Logs.{volatile-read}
 use borrow.Author.Needs.{needs}
 use Rattle.steps.proofs.records.volatile_count.Statement.{statement}
 use Rattle.steps.proofs.records.volatile_count.Tie as tie

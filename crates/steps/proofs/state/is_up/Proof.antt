@@ -1,29 +1,15 @@
--- `steps::state::is_up` meets its contract: each arm is a case of the definition. Assumes nothing.
-use Rattle.model.specs.Definitions.WellFormed.{isUp}
+-- `steps::state::is_up` meets its contract. Assumes nothing.
+use mathlib.Core.Path.{_∙_}
+use Rattle.steps.specs.States.{up-byte}
 use borrow.Author.Needs.{needs}
 use Rattle.steps.proofs.state.is_up.Statement.{statement}
 use Rattle.steps.proofs.state.is_up.Tie as tie
 
-enum-told : tie.Need-enum-told
-enum-told c = search needs
-
-enum-told-2 : tie.Need-enum-told-2
-enum-told-2 c = search needs
-
-enum-told-3 : tie.Need-enum-told-3
-enum-told-3 c = search needs
+same-requires : tie.Need-same-requires
+same-requires c κs = search needs
 
 returns : tie.Need-returns
-unfolding isUp
-returns c = cc
-
-returns-2 : tie.Need-returns-2
-unfolding isUp
-returns-2 c = cc
-
-returns-3 : tie.Need-returns-3
-unfolding isUp
-returns-3 c = cc
+returns c = c .same .ensures ∙ up-byte (c .before .args .state)
 
 pub is-up-spec : {M : Type 1} → statement M
-is-up-spec = tie.close (tie.spec enum-told enum-told-2 enum-told-3 returns returns-2 returns-3)
+is-up-spec = tie.close (tie.spec same-requires returns)

@@ -2,7 +2,8 @@
 use mathlib.Core.Path.{sym, _∙_}
 use Prim.Native.Nat.{_-_}
 use native.Mathlib.Omega.{arith}
-use Rattle.steps.specs.Blocks.{boardOf, block-length}
+use Rattle.steps.specs.Blocks.{boardOf}
+use Rattle.steps.specs.BlockLaws.{block-length}
 use Rattle.stores.specs.Checkpoint.{Saving, saving-begun, saving-block, saving-next, saving-cut, saving-all}
 use Rattle.stores.proofs.checkpoint.store_frames.Statement.{statement}
 use Rattle.stores.proofs.checkpoint.store_frames.Tie as tie
@@ -24,21 +25,26 @@ add-page c = omega arith
 
 spend-requires : tie.Need-spend-requires Inv-loop μ-loop
 spend-requires c κs =
-    saving-block (c .before .before .before .before .before .before .loop .inv) (c .before .before .before .before .before .loop-test .taken) (c .before .before .before .store-frame .ensures)
+    saving-block (c .before .before .before .before .before .before .loop .inv) (c .before .before .before .before .before .loop-test .taken)
+    (c .before .before .before .store-frame .ensures)
 
 cast-t11 : tie.Need-cast-t11 Inv-loop μ-loop
 cast-t11 c = omega (arith, c .before .before .before .before .before .before .before .before .before .before .before .before .pre .few)
 
 same-length : tie.Need-same-length Inv-loop μ-loop
 same-length c =
-    c .before .before .before .spend .kept .0 ∙ c .before .before .before .before .before .before .before .store-frame .kept .0 ∙ block-length (c .before .before .before .before .before .before .before .before .before .before .loop .inv .block)
+    c .before .before .before .spend .kept .0 ∙ c .before .before .before .before .before .before .before .store-frame .kept .0
+    ∙ block-length (c .before .before .before .before .before .before .before .before .before .before .loop .inv .block)
     ∙ sym (block-length (c .before .before .before .before .before .before .before .before .before .before .before .before .pre))
 
 returns : tie.Need-returns Inv-loop μ-loop
 returns c =
     let loop = c .before .before .before .before .before .before .before .before .before .before .loop in
-    let h = c .before .before .before .before .before .before .before .before .before .loop-test .taken in
-    (saving-cut (loop .inv) h (c .before .before .before .before .before .before .before .store-frame .ensures) (c .before .before .before .spend .ensures) (c .if1 .taken), omega arith)
+    let h = c .before .before .before .before .before .before .before .before .before .loop-test .taken in (
+      saving-cut (loop .inv) h (c .before .before .before .before .before .before .before .store-frame .ensures) (c .before .before .before .spend .ensures)
+          (c .if1 .taken),
+      omega arith,
+    )
 
 loop-less : tie.Need-loop-less Inv-loop μ-loop
 loop-less c = omega arith
@@ -47,7 +53,8 @@ loop-again : tie.Need-loop-again Inv-loop μ-loop
 loop-again c =
     let loop = c .before .before .before .before .before .before .before .before .before .before .loop in
     let h = c .before .before .before .before .before .before .before .before .before .loop-test .taken in
-    saving-next (loop .inv) h (c .before .before .before .before .before .before .before .store-frame .ensures) (c .before .before .before .spend .ensures) (c .if1 .left)
+    saving-next (loop .inv) h (c .before .before .before .before .before .before .before .store-frame .ensures) (c .before .before .before .spend .ensures)
+    (c .if1 .left)
 
 cast-t12 : tie.Need-cast-t12 Inv-loop μ-loop
 cast-t12 c = omega (arith, c .before .before .before .pre .few)

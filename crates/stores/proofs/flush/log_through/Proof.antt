@@ -22,7 +22,8 @@ returns : tie.Need-returns
 returns c =
     let start = c .before .before .before .before .before .before .before .before .before in
     let flush = c .before .before .flush in (
-      logged-ran (start .pre .0) (start .args .kind) (start .args .bytes) (start .pre .1) (start .pre .2) (c .before .before .before .before .before .before .«record» .ensures) (flush .ensures .0),
+      logged-ran (start .pre .0) (start .args .kind) (start .args .bytes) (start .pre .1) (start .pre .2)
+          (c .before .before .before .before .before .before .«record» .ensures) (flush .ensures .0),
       flush .ensures .1,
     )
 

@@ -9,15 +9,15 @@ use lib.ListN.{take, drop}
 use Rattle.model.specs.Definitions.Layout.{entrySize, headSize, blockSize, blocksAt}
 use Rattle.model.specs.Definitions.Parts.{part}
 use Rattle.model.specs.Laws.Parts.{index-in}
-use Rattle.validity.specs.BankChecks.{directoryOf, blockOfPages, blockFits}
+use Rattle.model.specs.Definitions.Check.{blockFits, directoryOf, blockOf}
 use Rattle.fields.proofs.Lent.{lent-read}
 use Rattle.validity.proofs.bank.block_fits_at.Statement.{statement}
 use Rattle.validity.proofs.bank.block_fits_at.Tie as tie
 
 lent : (s : List ℕ) (pages board a size : ℕ) (r : Bool) → a ≡ blocksAt pages + board * blockSize pages → size ≡ blockSize pages
     → r ≡ blockFits pages (take (headSize + pages * entrySize - headSize) (drop headSize s)) (take (a + size - a) (drop a s)) board
-    → r ≡ blockFits pages (directoryOf pages s) (blockOfPages pages s board) board
-unfolding directoryOf blockOfPages
+    → r ≡ blockFits pages (directoryOf pages s) (blockOf pages s board) board
+unfolding directoryOf blockOf
 lent s pages board a size r p q h =
     rw (← p, ← q)
     (lent-read s a size (λ l. blockFits pages (part s headSize (pages * entrySize)) l board) r
@@ -45,7 +45,9 @@ part-block-fits-end : tie.Need-part-block-fits-end
 part-block-fits-end c = search needs
 
 add-block-fits-2 : tie.Need-add-block-fits-2
-add-block-fits-2 c = let start = c .before .before .before .before in omega (arith, index-in (blockSize (start .args .pages)) (start .args .boards) (start .args .board) (start .pre .3))
+add-block-fits-2 c =
+    let start = c .before .before .before .before in
+    omega (arith, index-in (blockSize (start .args .pages)) (start .args .boards) (start .args .board) (start .pre .3))
 
 sub-block-fits-2 : tie.Need-sub-block-fits-2
 sub-block-fits-2 c = search needs
@@ -54,13 +56,17 @@ part-block-fits-start-2 : tie.Need-part-block-fits-start-2
 part-block-fits-start-2 c = search needs
 
 part-block-fits-end-2 : tie.Need-part-block-fits-end-2
-part-block-fits-end-2 c = let start = c .before .before .before .before in omega (arith, index-in (blockSize (start .args .pages)) (start .args .boards) (start .args .board) (start .pre .3))
+part-block-fits-end-2 c =
+    let start = c .before .before .before .before in
+    omega (arith, index-in (blockSize (start .args .pages)) (start .args .boards) (start .args .board) (start .pre .3))
 
 block-fits-requires : tie.Need-block-fits-requires
 block-fits-requires c κs = search needs
 
 returns : tie.Need-returns
-returns c = lent (c .before .before .before .before .before .before .args .bank .now) _ _ _ _ _ (c .before .before .before .before .block-at .ensures) (c .before .before .before .block-size .ensures) (c .block-fits .ensures)
+returns c =
+    let sized = c .before .before .before in
+    lent (sized .before .before .before .args .bank .now) _ _ _ _ _ (sized .before .block-at .ensures) (sized .block-size .ensures) (c .block-fits .ensures)
 
 pub block-fits-at-spec : {M : Type 1} → statement M
 block-fits-at-spec =

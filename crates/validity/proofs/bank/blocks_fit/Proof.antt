@@ -4,13 +4,13 @@ use mathlib.Core.Path.{_≡_}
 use Prim.Native.Nat.{_≤_, _-_}
 use mathlib.Core.Bool.{true}
 use Rattle.model.specs.Definitions.Parts.{everyBelow}
+use Rattle.model.specs.Definitions.Check.{blockFits, directoryOf, blockOf, blocksFit}
 use Rattle.validity.specs.Search.{failed, passed, below-none, below-next, below-stop, below-end}
-use Rattle.validity.specs.BankChecks.{directoryOf, blockOfPages, blockFits}
 use Rattle.validity.proofs.bank.blocks_fit.Statement.{statement}
 use Rattle.validity.proofs.bank.blocks_fit.Tie as tie
 
 abbrev Inv-loop : tie.InvT-loop
-Inv-loop bank boards pages board₀ board = (board ≤ boards) × (everyBelow board (λ b. blockFits pages (directoryOf pages bank) (blockOfPages pages bank b) b) ≡ true)
+Inv-loop bank boards pages board₀ board = (board ≤ boards) × (everyBelow board (λ b. blockFits pages (directoryOf pages bank) (blockOf pages bank b) b) ≡ true)
 
 abbrev μ-loop : tie.MeasureT-loop
 μ-loop bank boards pages board₀ board = boards - board
@@ -22,6 +22,7 @@ block-fits-at-requires : tie.Need-block-fits-at-requires Inv-loop μ-loop
 block-fits-at-requires c κs = omega arith
 
 returns : tie.Need-returns Inv-loop μ-loop
+unfolding blocksFit
 returns c = below-stop _ _ _ (omega arith) (failed (c .before .block-fits-at .ensures) (c .if1 .taken))
 
 add-board : tie.Need-add-board Inv-loop μ-loop
@@ -34,6 +35,7 @@ loop-again : tie.Need-loop-again Inv-loop μ-loop
 loop-again c = (omega arith, below-next _ _ (c .before .before .before .loop .inv .1) (passed (c .before .block-fits-at .ensures) (c .if1 .left)))
 
 returns-2 : tie.Need-returns-2 Inv-loop μ-loop
+unfolding blocksFit
 returns-2 c = below-end _ _ _ (omega arith) (omega arith) (c .before .loop .inv .1)
 
 pub blocks-fit-spec : {M : Type 1} → statement M

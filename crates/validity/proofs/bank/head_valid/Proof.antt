@@ -2,16 +2,16 @@
 use borrow.Author.Needs.{needs}
 use borrow.Author.Tests.{ne-eqb}
 use Rattle.model.specs.Definitions.Parts.{byteAt}
+use Rattle.model.specs.Definitions.Check.{headValid}
 use Rattle.validity.specs.Search.{failed, passed}
-use Rattle.validity.specs.BankChecks.{inRange, in-range-says, head-test, no-head}
+use Rattle.validity.specs.Order.{in-range-says, head-test, no-head}
 use mathlib.Core.Path.{_≡_}
 use mathlib.Core.Bool.{_&&_}
 use Prim.Native.Nat.{ℕ}
 use mathlib.Core.List.{List}
 use lib.ListN.{length}
-use lib.Dec.{eqb}
+use lib.Dec.{eqb, ltb, leb}
 use Rattle.model.specs.Definitions.Layout.{mostPages, pagesAt, bankSize}
-use Rattle.model.specs.Definitions.WellFormed.{headValid}
 use Rattle.validity.proofs.bank.head_valid.Statement.{statement}
 use Rattle.validity.proofs.bank.head_valid.Tie as tie
 
@@ -21,7 +21,8 @@ bytes c = c .before .before .before .before .before .before .before .before .bef
 
 boards-known : (c : tie.Else4)
     → headValid (bytes c)
-    ≡ (inRange (byteAt (bytes c) pagesAt) mostPages && eqb (length (bytes c)) (bankSize (c .before .before .wide .result) (byteAt (bytes c) pagesAt)))
+    ≡ ((ltb 0 (byteAt (bytes c) pagesAt) && leb (byteAt (bytes c) pagesAt) mostPages)
+    && eqb (length (bytes c)) (bankSize (c .before .before .wide .result) (byteAt (bytes c) pagesAt)))
 unfolding byteAt
 boards-known c =
     let read = c .before .before in
@@ -84,7 +85,8 @@ in-range-requires-2 c κs = search needs
 
 returns-5 : tie.Need-returns-5
 unfolding byteAt
-returns-5 c = rw (boards-known (c .before .before .before .before), ← c .before .before .wide2 .ensures .0, failed (c .before .in-range2 .ensures) (c .if5 .taken))
+returns-5 c =
+    rw (boards-known (c .before .before .before .before), ← c .before .before .wide2 .ensures .0, failed (c .before .in-range2 .ensures) (c .if5 .taken))
 
 bank-size-requires : tie.Need-bank-size-requires
 bank-size-requires c κs =

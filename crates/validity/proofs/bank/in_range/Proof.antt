@@ -1,16 +1,13 @@
 -- `validity::bank::in_range` meets its contract. Assumes nothing.
 use native.Mathlib.Omega.{arith}
 use borrow.Author.Tests.{lt-ltb}
-use Rattle.validity.specs.BankChecks.{inRange}
 use Rattle.validity.proofs.bank.in_range.Statement.{statement}
 use Rattle.validity.proofs.bank.in_range.Tie as tie
 
 returns : tie.Need-returns
-unfolding inRange
 returns c = rw (c .if1 .taken)
 
 returns-2 : tie.Need-returns-2
-unfolding inRange
 returns-2 c = rw (lt-ltb 0 (c .before .args .n) (omega arith))
 
 pub in-range-spec : {M : Type 1} → statement M

@@ -1,14 +1,14 @@
 -- `validity::bank::longest_log` meets its contract. Assumes nothing.
 use borrow.Author.Needs.{needs}
-use Rattle.validity.specs.BlockChecks.{longestLog}
+use Rattle.validity.specs.Search.{longestLog}
 use Rattle.validity.proofs.bank.longest_log.Statement.{statement}
 use Rattle.validity.proofs.bank.longest_log.Tie as tie
 
-stored-count-requires : tie.Need-stored-count-requires
-stored-count-requires c κs = search needs
+area-count-requires : tie.Need-area-count-requires
+area-count-requires c κs = search needs
 
-stored-count-requires-2 : tie.Need-stored-count-requires-2
-stored-count-requires-2 c κs = search needs
+area-count-requires-2 : tie.Need-area-count-requires-2
+area-count-requires-2 c κs = search needs
 
 larger-requires : tie.Need-larger-requires
 larger-requires c κs = search needs
@@ -32,16 +32,16 @@ returns c =
       volatile .wide .ensures .0,
       volatile .before .read-volatile-count .ensures,
       stored .larger .ensures,
-      stored .before .stored-count2 .ensures .0,
-      stored .before .before .stored-count .ensures .0,
+      stored .before .area-count2 .ensures .0,
+      stored .before .before .area-count .ensures .0,
     )
 
 pub longest-log-spec : {M : Type 1} → statement M
 longest-log-spec =
     tie.close
     (tie.spec
-    stored-count-requires
-    stored-count-requires-2
+    area-count-requires
+    area-count-requires-2
     larger-requires
     read-volatile-count-requires
     wide-requires

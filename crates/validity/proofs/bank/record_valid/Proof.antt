@@ -3,15 +3,14 @@ use borrow.Author.Needs.{needs}
 use borrow.Author.Tests.{lt-ltb, le-ltb}
 use Prim.Native.Nat.{_+_, _*_}
 use Rattle.model.specs.Definitions.Layout.{slotSize}
-use Rattle.model.specs.Definitions.WellFormed.{slotValid}
+use Rattle.model.specs.Definitions.Check.{slotValid, recordValid}
 use Rattle.fields.proofs.Lent.{lent-read}
-use Rattle.validity.specs.BlockChecks.{recordValid}
 use Rattle.validity.proofs.bank.record_valid.Statement.{statement}
 use Rattle.validity.proofs.bank.record_valid.Tie as tie
 
 returns : tie.Need-returns
 unfolding recordValid
-returns c = rw (le-ltb _ _ (c .if1 .taken))
+returns c = rw (le-ltb _ _ (c .if1 .taken), recordValid)
 
 mul-a : tie.Need-mul-a
 mul-a c = search needs
@@ -39,7 +38,7 @@ unfolding recordValid
 returns-2 c =
     let reached = c .before .before in
     let start = reached .before .before in
-    rw (lt-ltb _ _ (reached .if1 .left))
+    rw (lt-ltb _ _ (reached .if1 .left), recordValid)
     (lent-read (start .args .block .now) (start .args .at + start .args .index * slotSize) slotSize (slotValid (start .args .pages)) _ (c .slot-valid .ensures))
 
 pub record-valid-spec : {M : Type 1} → statement M

@@ -1,39 +1,27 @@
 -- `validity::bank::records_valid` meets its contract. The invariants: every record of the boards before `board` is valid, and of this board
 -- every record before `index`. The search is left at the first that is not, or at its end. Assumes nothing.
-use mathlib.Core.Path.{_≡_, sym, _∙_}
+use mathlib.Core.Path.{_≡_, _∙_}
 use mathlib.Core.Logic.{⊎-elim}
-use Prim.Native.Nat.{ℕ, _+_, _-_, _*_, _≤_, _<_}
+use Prim.Native.Nat.{ℕ, _+_, _-_, _*_, _≤_}
 use native.Mathlib.Omega.{arith}
-use mathlib.Core.Bool.{true, false}
+use mathlib.Core.Bool.{true}
 use mathlib.Core.List.{List}
 use lib.ListN.{length, take, drop, length-take, length-drop}
 use borrow.Author.Tests.{eq-eqb, ne-eqb}
 use Rattle.model.specs.Definitions.Layout.{slotCount, blockSize, blocksAt}
 use Rattle.model.specs.Definitions.Parts.{part, everyBelow}
-use Rattle.model.specs.Laws.Lists.{everyBelow-at}
 use Rattle.model.specs.Laws.Parts.{index-in}
-use Rattle.validity.specs.Search.{failed, passed, below-none, below-next, below-stop, below-end}
-use Rattle.validity.specs.BlockChecks.{countsValid, longestLog, slotsValid, recordsValid, longest-few}
-use Rattle.validity.specs.BankChecks.{blockOfPages}
+use Rattle.model.specs.Definitions.Check.{countsValid, slotsValid, recordsValid, blockOf, logsValid}
+use Rattle.validity.specs.Search.{failed, passed, below-none, below-next, below-stop, below-end, longestLog, longest-few, ended, stopped}
+use Rattle.validity.specs.Order.{counts-known}
 use Rattle.validity.proofs.bank.records_valid.Statement.{statement}
 use Rattle.validity.proofs.bank.records_valid.Tie as tie
 
 -- the block that is looked through
 lent : (s : List ℕ) (pages board a size : ℕ) → a ≡ blocksAt pages + board * blockSize pages → size ≡ blockSize pages
-    → take (a + size - a) (drop a s) ≡ blockOfPages pages s board
-unfolding blockOfPages part
+    → take (a + size - a) (drop a s) ≡ blockOf pages s board
+unfolding blockOf part
 lent s pages board a size p q = let e : a + size - a ≡ size = omega arith in rw (e, p, q)
-
--- a block whose slots were all passed, and one with a record that failed
-module _ (pages : ℕ) (l : List ℕ) {slots : ℕ} (e : slots ≡ longestLog pages l) (index : ℕ) where
-  ended : index ≤ slots → slots ≤ index → everyBelow index (slotsValid pages l) ≡ true
-      → recordsValid pages l ≡ true
-  unfolding recordsValid
-  ended h k p = rw (← e) (sym (below-end _ slots index h k p))
-
-  stopped : index < slots → slotsValid pages l index ≡ false → recordsValid pages l ≡ false
-  unfolding recordsValid
-  stopped h p = rw (← e) (sym (below-stop _ slots index h p))
 
 abbrev Inv-loop : tie.InvT-loop
 Inv-loop bank boards pages size board a block slots index₀ index =
@@ -44,7 +32,7 @@ abbrev μ-loop : tie.MeasureT-loop
 
 abbrev Inv-search : tie.InvT-search
 Inv-search bank boards pages size board₀ board =
-    (board ≤ boards) × (everyBelow board (λ b. recordsValid pages (blockOfPages pages bank b)) ≡ true)
+    (board ≤ boards) × (everyBelow board (λ b. recordsValid pages (blockOf pages bank b)) ≡ true)
 
 abbrev μ-search : tie.MeasureT-search
 μ-search bank boards pages size board₀ board = boards - board
@@ -71,18 +59,19 @@ boardOf c = c .before .before .search .board
 -- its block, that it lies inside the bank, and its counts
 module _ (c : tie.After-block-at Inv-loop μ-loop Inv-search μ-search) where
   found : take (c .block-at .result + c .before .before .before .block-size .result - c .block-at .result) (drop (c .block-at .result) (bytes c))
-      ≡ blockOfPages (pagesOf c) (bytes c) (boardOf c)
+      ≡ blockOf (pagesOf c) (bytes c) (boardOf c)
   found = lent (bytes c) (pagesOf c) (boardOf c) _ _ (c .block-at .ensures) (c .before .before .before .block-size .ensures)
 
   inside : c .block-at .result + c .before .before .before .block-size .result ≤ length (bytes c)
   inside = omega (arith, index-in (blockSize (pagesOf c)) (c .before .before .before .before .before .args .boards) (boardOf c) (c .before .search-test .taken))
 
-  counted : countsValid (pagesOf c) (blockOfPages (pagesOf c) (bytes c) (boardOf c)) ≡ true
-  counted = everyBelow-at _ (boardOf c) _ (c .before .before .before .before .before .pre .3) (c .before .search-test .taken)
+  counted : countsValid (pagesOf c) (blockOf (pagesOf c) (bytes c) (boardOf c)) ≡ true
+  counted = counts-known _ (pagesOf c) (bytes c) (boardOf c) (c .before .before .before .before .before .pre .3) (c .before .search-test .taken)
 
-  few : longestLog (pagesOf c) (take (c .block-at .result + c .before .before .before .block-size .result - c .block-at .result) (drop (c .block-at .result) (bytes c)))
+  few : longestLog (pagesOf c)
+      (take (c .block-at .result + c .before .before .before .block-size .result - c .block-at .result) (drop (c .block-at .result) (bytes c)))
       ≤ slotCount
-  few = rw found (longest-few (pagesOf c) (blockOfPages (pagesOf c) (bytes c) (boardOf c)) counted)
+  few = rw found (longest-few (pagesOf c) (blockOf (pagesOf c) (bytes c) (boardOf c)) counted)
 
 add-block : tie.Need-add-block Inv-loop μ-loop Inv-search μ-search
 add-block c = omega (arith, inside c)
@@ -127,18 +116,23 @@ search-again c = (
   omega arith,
   below-next _ _ (c .before .before .before .before .before .before .search .inv .1)
       (rw (← found (c .before .before .before .before))
-      (ended _ _ (c .before .before .longest-log .ensures) (c .before .loop .index) (omega arith) (omega arith) (c .before .loop .inv .1))),
+      (ended _ _ (c .before .before .longest-log .ensures) (c .before .loop .index) (omega arith) (c .before .loop .inv .1))),
 )
 
 returns : tie.Need-returns Inv-loop μ-loop Inv-search μ-search
+unfolding logsValid
 returns c =
     ⊎-elim
-    (λ w. eq-eqb (c .before .search .board) (c .before .before .before .before .args .boards) (omega (arith, w .left)) ∙ below-end _ _ (c .before .search .board) (c .before .search .inv .0) (w .left) (c .before .search .inv .1))
+    (λ w.
+    eq-eqb (c .before .search .board) (c .before .before .before .before .args .boards) (omega (arith, w .left))
+    ∙ below-end _ _ (c .before .search .board) (c .before .search .inv .0) (w .left) (c .before .search .inv .1))
     (λ w.
     ne-eqb (c .before .search .board) (c .before .before .before .before .args .boards) (λ e. omega (arith, w .0 .taken))
     ∙ below-stop _ _ (c .before .search .board) (w .0 .taken)
-    (rw (← found (record { before = record { before = c .before; search-test = w .0 }; block-at = w .1 }))
-    (stopped _ _ (w .3 .ensures) (w .4 .index) (w .5 .taken) (failed (w .6 .ensures) (w .7 .taken)))))
+    (let here : tie.After-block-at Inv-loop μ-loop Inv-search μ-search = record { before = record { before = c .before; search-test = w .0 }; block-at = w .1 }
+    in
+    rw (← found here)
+    (stopped _ _ (w .3 .ensures) (w .4 .index) (rw (found here) (counted here)) (w .5 .taken) (failed (w .6 .ensures) (w .7 .taken)))))
     (c .search-test .came)
 
 pub records-valid-spec : {M : Type 1} → statement M

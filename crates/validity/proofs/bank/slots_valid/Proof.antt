@@ -5,8 +5,8 @@ use mathlib.Core.List.{List}
 use borrow.Author.Needs.{needs}
 use Rattle.model.specs.Definitions.Layout.{volatileCountAt, slotsAt}
 use Rattle.model.specs.Definitions.Parts.{byteAt}
+use Rattle.model.specs.Definitions.Check.{recordValid, slotsValid}
 use Rattle.validity.specs.Search.{failed, passed}
-use Rattle.validity.specs.BlockChecks.{recordValid, slotsValid}
 use Rattle.validity.proofs.bank.slots_valid.Statement.{statement}
 use Rattle.validity.proofs.bank.slots_valid.Tie as tie
 
@@ -18,7 +18,8 @@ module _ (c : tie.After-record-valid) where
   abbrev bytes : List ℕ
   bytes = c .before .before .before .before .before .args .block .now
 
-  volatile : c .record-valid .result ≡ recordValid pages (slotsAt pages) (byteAt bytes volatileCountAt) bytes (c .before .before .before .before .before .args .index)
+  volatile : c .record-valid .result
+      ≡ recordValid pages (slotsAt pages) (byteAt bytes volatileCountAt) bytes (c .before .before .before .before .before .args .index)
   volatile =
       cc (
         c .record-valid .ensures,

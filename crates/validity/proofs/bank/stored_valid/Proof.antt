@@ -1,7 +1,8 @@
 -- `validity::bank::stored_valid` meets its contract. Assumes nothing.
 use borrow.Author.Needs.{needs}
 use native.Mathlib.Omega.{arith}
-use Rattle.validity.specs.BlockChecks.{storedValid, area-inside}
+use Rattle.model.specs.Definitions.Check.{storedValid}
+use Rattle.validity.specs.Words.{area-inside}
 use Rattle.validity.proofs.bank.stored_valid.Statement.{statement}
 use Rattle.validity.proofs.bank.stored_valid.Tie as tie
 
@@ -16,8 +17,8 @@ add-at c =
     let start = c .before .before .before in
     omega (arith, area-inside (start .args .pages) (start .args .area) (start .pre .2))
 
-stored-count-requires : tie.Need-stored-count-requires
-stored-count-requires c κs = search needs
+area-count-requires : tie.Need-area-count-requires
+area-count-requires c κs = search needs
 
 record-valid-requires : tie.Need-record-valid-requires
 record-valid-requires c κs =
@@ -28,7 +29,7 @@ returns : tie.Need-returns
 unfolding storedValid
 returns c =
     let count = c .before in
-    rw (c .record-valid .ensures, count .stored-count .ensures .0, count .before .area-slots-at .ensures, count .before .before .area-at .ensures)
+    rw (c .record-valid .ensures, count .area-count .ensures .0, count .before .area-slots-at .ensures, count .before .before .area-at .ensures)
 
 pub stored-valid-spec : {M : Type 1} → statement M
 stored-valid-spec =
@@ -37,6 +38,6 @@ stored-valid-spec =
     area-at-requires
     area-slots-at-requires
     add-at
-    stored-count-requires
+    area-count-requires
     record-valid-requires
     returns)

@@ -7,13 +7,11 @@ use mathlib.Core.Bool.{_&&_}
 use mathlib.Core.List.{List}
 use lib.ListN.{length-take, length-drop}
 use Rattle.model.specs.Definitions.Layout.{entrySize, headSize}
-use Rattle.model.specs.Definitions.Parts.{byteAt, every, everyBelow, decodeAll}
-use Rattle.model.specs.Definitions.Codec.{decodeEntry}
-use Rattle.model.specs.Definitions.WellFormed.{entryValid, wellFormed}
-use Rattle.model.specs.Laws.CodecBankBack.{HeadOk, head-ok}
+use Rattle.model.specs.Definitions.Parts.{byteAt}
+use Rattle.model.specs.Definitions.Check.{directoryValid, wellFormed, directoryOf, blocksFit, logsValid}
 use Rattle.validity.specs.Search.{failed, passed}
-use Rattle.validity.specs.BlockChecks.{recordsValid}
-use Rattle.validity.specs.BankChecks.{directoryOf, blockOfPages, blockFits, well-formed-split, not-well-formed, counts-known}
+use Rattle.validity.specs.Order.{not-well-formed, well-formed-left}
+use Rattle.model.specs.Laws.CodecBankBack.{HeadOk, head-ok}
 use Rattle.fields.proofs.Lent.{lent-read}
 use Rattle.validity.proofs.bank.well_formed.Statement.{statement}
 use Rattle.validity.proofs.bank.well_formed.Tie as tie
@@ -32,14 +30,14 @@ boards c = c .before .before .wide .result
 abbrev pages : tie.After-wide2 → ℕ
 pages c = c .wide2 .result
 
+-- what is left to test
 split : (c : tie.After-wide2)
     → wellFormed (bytes c)
-    ≡ (every (entryValid (boards c)) (decodeAll decodeEntry entrySize (pages c) (directoryOf (pages c) (bytes c)))
-    && (everyBelow (boards c) (λ b. blockFits (pages c) (directoryOf (pages c) (bytes c)) (blockOfPages (pages c) (bytes c) b) b)
-    && everyBelow (boards c) (λ b. recordsValid (pages c) (blockOfPages (pages c) (bytes c) b))))
+    ≡ (directoryValid (boards c) (pages c) (directoryOf (pages c) (bytes c))
+    && (blocksFit (boards c) (pages c) (bytes c) && logsValid (boards c) (pages c) (bytes c)))
 unfolding byteAt
 split c =
-    well-formed-split (bytes c)
+    well-formed-left (bytes c)
     (c .before .before .wide .ensures .0)
     (c .wide2 .ensures .0)
     (λ i h. omega (arith, c .before .before .before .before .before .before .shared-slice-known .given i))
@@ -47,15 +45,11 @@ split c =
 
 directory-test : (c : tie.After-directory-valid)
     → c .directory-valid .result
-    ≡ every (entryValid (boards (c .before .before)))
-    (decodeAll decodeEntry entrySize (pages (c .before .before)) (directoryOf (pages (c .before .before)) (bytes (c .before .before))))
+    ≡ directoryValid (boards (c .before .before)) (pages (c .before .before)) (directoryOf (pages (c .before .before)) (bytes (c .before .before)))
 unfolding directoryOf
 directory-test c =
     let read = c .before .before in
-    lent-read (bytes read) headSize (pages read * entrySize)
-    (λ d. every (entryValid (boards read)) (decodeAll decodeEntry entrySize (pages read) d))
-    _
-    (c .directory-valid .ensures)
+    lent-read (bytes read) headSize (pages read * entrySize) (λ d. directoryValid (boards read) (pages read) d) _ (c .directory-valid .ensures)
 
 head-valid-requires : tie.Need-head-valid-requires
 head-valid-requires c κs = search needs
@@ -93,7 +87,9 @@ part-directory-valid-end c = omega (arith, known (c .before .before .before .bef
 
 directory-valid-requires : tie.Need-directory-valid-requires
 unfolding byteAt
-directory-valid-requires c κs = (simp (length-take, length-drop) (omega (arith, known (c .before .before .before .before .before) .size)), omega (arith, known (c .before .before .before .before .before) .boards))
+directory-valid-requires c κs =
+    let head = known (c .before .before .before .before .before) in
+    (simp (length-take, length-drop) (omega (arith, head .size)), omega (arith, head .boards))
 
 returns-2 : tie.Need-returns-2
 returns-2 c = rw (split (c .before .before .before), failed (directory-test (c .before)) (c .if2 .taken))
@@ -101,26 +97,40 @@ returns-2 c = rw (split (c .before .before .before), failed (directory-test (c .
 blocks-fit-requires : tie.Need-blocks-fit-requires
 unfolding byteAt
 blocks-fit-requires c κs =
-    let head = known (c .before .before .before .before .before .before .before) in
-    (rw (c .before .before .before .before .before .wide .ensures .0, c .before .before .before .wide2 .ensures .0) (head .size), omega (arith, head .boards), omega (arith, head .pages))
+    let read = c .before .before .before in
+    let head = known (read .before .before .before .before) in
+    (rw (read .before .before .wide .ensures .0, read .wide2 .ensures .0) (head .size), omega (arith, head .boards), omega (arith, head .pages))
 
 returns-3 : tie.Need-returns-3
 returns-3 c =
-    rw (split (c .before .before .before .before .before), passed (directory-test (c .before .before .before)) (c .before .before .if2 .left), failed (c .before .blocks-fit .ensures) (c .if3 .taken))
+    let listed = c .before .before in
+    rw (
+      split (listed .before .before .before),
+      passed (directory-test (listed .before)) (listed .if2 .left),
+      failed (c .before .blocks-fit .ensures) (c .if3 .taken),
+    )
 
 records-valid-requires : tie.Need-records-valid-requires
 unfolding byteAt
 records-valid-requires c κs =
-    let head = known (c .before .before .before .before .before .before .before .before .before) in (
-      rw (c .before .before .before .before .before .before .before .wide .ensures .0, c .before .before .before .before .before .wide2 .ensures .0) (head .size),
+    let read = c .before .before .before .before .before in
+    let head = known (read .before .before .before .before) in (
+      rw (read .before .before .wide .ensures .0, read .wide2 .ensures .0) (head .size),
       omega (arith, head .boards),
       omega (arith, head .pages),
-      counts-known _ _ _ (passed (c .before .blocks-fit .ensures) (c .if3 .left)),
+      passed (c .before .blocks-fit .ensures) (c .if3 .left),
     )
 
 returns-4 : tie.Need-returns-4
 returns-4 c =
-    rw (split (c .before .before .before .before .before .before), passed (directory-test (c .before .before .before .before)) (c .before .before .before .if2 .left), passed (c .before .before .blocks-fit .ensures) (c .before .if3 .left), c .records-valid .ensures)
+    let fitting = c .before in
+    let listed = fitting .before .before in
+    rw (
+      split (listed .before .before .before),
+      passed (directory-test (listed .before)) (listed .if2 .left),
+      passed (fitting .before .blocks-fit .ensures) (fitting .if3 .left),
+      c .records-valid .ensures,
+    )
 
 pub well-formed-spec : {M : Type 1} → statement M
 well-formed-spec =

@@ -1,44 +1,44 @@
 -- `validity::block::all_frames_valid` meets its contract: each return follows the tests in turn. Assumes nothing.
 use borrow.Author.Needs.{needs}
+use Rattle.model.specs.Definitions.Check.{allFramesValid}
 use Rattle.validity.specs.Search.{failed, passed}
-use Rattle.validity.specs.BlockChecks.{allFramesValid}
 use Rattle.validity.proofs.block.all_frames_valid.Statement.{statement}
 use Rattle.validity.proofs.block.all_frames_valid.Tie as tie
 
-frames-valid-at-requires : tie.Need-frames-valid-at-requires
-frames-valid-at-requires c κs = search needs
+frames-valid-requires : tie.Need-frames-valid-requires
+frames-valid-requires c κs = search needs
 
 returns : tie.Need-returns
 unfolding allFramesValid
-returns c = rw (failed (c .before .frames-valid-at .ensures) (c .if1 .taken))
+returns c = rw (failed (c .before .frames-valid .ensures) (c .if1 .taken))
 
 area-at-requires : tie.Need-area-at-requires
 area-at-requires c κs = search needs
 
-add-frames-valid-at : tie.Need-add-frames-valid-at
-add-frames-valid-at c = search needs
+add-frames-valid : tie.Need-add-frames-valid
+add-frames-valid c = search needs
 
-frames-valid-at-requires-2 : tie.Need-frames-valid-at-requires-2
-frames-valid-at-requires-2 c κs = search needs
+frames-valid-requires-2 : tie.Need-frames-valid-requires-2
+frames-valid-requires-2 c κs = search needs
 
 returns-2 : tie.Need-returns-2
 unfolding allFramesValid
 returns-2 c =
     let working = c .before .before .before in
     rw (
-      passed (working .before .frames-valid-at .ensures) (working .if1 .left),
+      passed (working .before .frames-valid .ensures) (working .if1 .left),
       ← c .before .before .area-at .ensures,
-      failed (c .before .frames-valid-at2 .ensures) (c .if2 .taken),
+      failed (c .before .frames-valid2 .ensures) (c .if2 .taken),
     )
 
 area-at-requires-2 : tie.Need-area-at-requires-2
 area-at-requires-2 c κs = search needs
 
-add-frames-valid-at-2 : tie.Need-add-frames-valid-at-2
-add-frames-valid-at-2 c = search needs
+add-frames-valid-2 : tie.Need-add-frames-valid-2
+add-frames-valid-2 c = search needs
 
-frames-valid-at-requires-3 : tie.Need-frames-valid-at-requires-3
-frames-valid-at-requires-3 c κs = search needs
+frames-valid-requires-3 : tie.Need-frames-valid-requires-3
+frames-valid-requires-3 c κs = search needs
 
 returns-3 : tie.Need-returns-3
 unfolding allFramesValid
@@ -46,24 +46,24 @@ returns-3 c =
     let first = c .before .before in
     let working = first .before .before .before in
     rw (
-      passed (working .before .frames-valid-at .ensures) (working .if1 .left),
+      passed (working .before .frames-valid .ensures) (working .if1 .left),
       ← first .before .before .area-at .ensures,
-      passed (first .before .frames-valid-at2 .ensures) (first .if2 .left),
+      passed (first .before .frames-valid2 .ensures) (first .if2 .left),
       ← c .before .area-at2 .ensures,
-      c .frames-valid-at3 .ensures,
+      c .frames-valid3 .ensures,
     )
 
 pub all-frames-valid-spec : {M : Type 1} → statement M
 all-frames-valid-spec =
     tie.close
     (tie.spec
-    frames-valid-at-requires
+    frames-valid-requires
     returns
     area-at-requires
-    add-frames-valid-at
-    frames-valid-at-requires-2
+    add-frames-valid
+    frames-valid-requires-2
     returns-2
     area-at-requires-2
-    add-frames-valid-at-2
-    frames-valid-at-requires-3
+    add-frames-valid-2
+    frames-valid-requires-3
     returns-3)

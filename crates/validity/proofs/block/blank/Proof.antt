@@ -1,9 +1,8 @@
 -- `validity::block::blank` meets its contract: each return follows the tests in turn. Assumes nothing.
 use borrow.Author.Needs.{needs}
-use native.Mathlib.Omega.{arith}
 use borrow.Author.Tests.{ne-eqb}
+use Rattle.model.specs.Definitions.Check.{isZero, isBlank}
 use Rattle.validity.specs.Search.{failed, passed}
-use Rattle.validity.specs.BoardChecks.{blank-test}
 use mathlib.Core.Path.{_≡_}
 use Prim.Native.Nat.{_*_}
 use mathlib.Core.Bool.{_&&_}
@@ -11,45 +10,37 @@ use lib.Dec.{eqb}
 use Rattle.words.specs.LittleEndian.{numberOf}
 use Rattle.model.specs.Definitions.Layout.{noFuse, frameSize, fuseSize, volatileCountAt, framesAt, fuseAt}
 use Rattle.model.specs.Definitions.Parts.{part, byteAt}
-use Rattle.model.specs.Definitions.Codec.{decodeBoard}
-use Rattle.model.specs.Definitions.WellFormed.{isZero, isBlank}
 use Rattle.validity.proofs.block.blank.Statement.{statement}
 use Rattle.validity.proofs.block.blank.Tie as tie
 
 -- what is left to test once number and since are found zero
 counters-zero : (c : tie.Else2)
-    → isBlank (decodeBoard (c .before .before .before .before .before .args .pages) (c .before .before .before .before .before .args .block .now))
-    ≡ (eqb (byteAt (c .before .before .before .before .before .args .block .now) volatileCountAt) 0
-    && (isZero (part (c .before .before .before .before .before .args .block .now) framesAt (c .before .before .before .before .before .args .pages * frameSize))
-    && eqb (numberOf (part (c .before .before .before .before .before .args .block .now) fuseAt fuseSize)) noFuse))
+    → let start = c .before .before .before .before .before in
+    let l = start .args .block .now in
+    isBlank (start .args .pages) l
+    ≡ (eqb (byteAt l volatileCountAt) 0
+    && (isZero (part l framesAt (start .args .pages * frameSize)) && eqb (numberOf (part l fuseAt fuseSize)) noFuse))
+unfolding isBlank
 counters-zero c =
     let number = c .before .before in
-    let start = number .before .before .before in
-    rw (
-      blank-test (start .args .pages) (start .args .block .now) (omega arith),
-      ← number .before .read-number .ensures,
-      number .if1 .left,
-      ← c .before .read-since .ensures,
-      c .if2 .left,
-    )
+    rw (← number .before .read-number .ensures, number .if1 .left, ← c .before .read-since .ensures, c .if2 .left)
 
 read-number-requires : tie.Need-read-number-requires
 read-number-requires c κs = search needs
 
 returns : tie.Need-returns
+unfolding isBlank
 returns c =
-    let start = c .before .before .before in
-    rw (blank-test (start .args .pages) (start .args .block .now) (omega arith), ← c .before .read-number .ensures, ne-eqb _ _ (c .if1 .taken))
+    rw (← c .before .read-number .ensures, ne-eqb _ _ (c .if1 .taken))
 
 read-since-requires : tie.Need-read-since-requires
 read-since-requires c κs = search needs
 
 returns-2 : tie.Need-returns-2
+unfolding isBlank
 returns-2 c =
     let number = c .before .before in
-    let start = number .before .before .before in
     rw (
-      blank-test (start .args .pages) (start .args .block .now) (omega arith),
       ← number .before .read-number .ensures,
       number .if1 .left,
       ← c .before .read-since .ensures,

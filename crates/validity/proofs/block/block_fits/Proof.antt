@@ -1,7 +1,7 @@
 -- `validity::block::block_fits` meets its contract: each return follows the tests in turn. Assumes nothing.
 use borrow.Author.Needs.{needs}
+use Rattle.model.specs.Definitions.Check.{blockFits}
 use Rattle.validity.specs.Search.{failed, passed}
-use Rattle.validity.specs.BankChecks.{blockFits}
 use Rattle.validity.proofs.block.block_fits.Statement.{statement}
 use Rattle.validity.proofs.block.block_fits.Tie as tie
 
@@ -17,7 +17,8 @@ board-valid-requires c κs = search needs
 
 returns-2 : tie.Need-returns-2
 unfolding blockFits
-returns-2 c = rw (passed (c .before .before .before .fields-valid .ensures) (c .before .before .if1 .left), failed (c .before .board-valid .ensures) (c .if2 .taken))
+returns-2 c =
+    rw (passed (c .before .before .before .fields-valid .ensures) (c .before .before .if1 .left), failed (c .before .board-valid .ensures) (c .if2 .taken))
 
 pages-agree-requires : tie.Need-pages-agree-requires
 pages-agree-requires c κs = search needs

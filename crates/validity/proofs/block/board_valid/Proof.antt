@@ -1,7 +1,7 @@
 -- `validity::block::board_valid` meets its contract: each return follows the tests in turn. Assumes nothing.
 use borrow.Author.Needs.{needs}
 use borrow.Author.Tests.{le-leb, lt-leb, ne-eqb}
-use Rattle.validity.specs.BoardChecks.{board-test}
+use Rattle.model.specs.Definitions.Check.{boardValid}
 use Rattle.validity.proofs.block.board_valid.Statement.{statement}
 use Rattle.validity.proofs.block.board_valid.Tie as tie
 
@@ -9,7 +9,8 @@ read-fuse-requires : tie.Need-read-fuse-requires
 read-fuse-requires c κs = search needs
 
 returns : tie.Need-returns
-returns c = rw (board-test, ← c .before .read-fuse .ensures, c .if1 .taken)
+unfolding boardValid
+returns c = rw (← c .before .read-fuse .ensures, c .if1 .taken)
 
 selected-count-requires : tie.Need-selected-count-requires
 selected-count-requires c κs = search needs
@@ -24,10 +25,10 @@ add-if2 : tie.Need-add-if2
 add-if2 c = search needs
 
 returns-2 : tie.Need-returns-2
+unfolding boardValid
 returns-2 c =
     let fused = c .before .before .before .before in
     rw (
-      board-test,
       ← fused .before .read-fuse .ensures,
       ne-eqb _ _ (fused .if1 .left),
       ← c .before .before .before .selected-count .ensures .0,
@@ -40,11 +41,11 @@ state-valid-requires : tie.Need-state-valid-requires
 state-valid-requires c κs = search needs
 
 returns-3 : tie.Need-returns-3
+unfolding boardValid
 returns-3 c =
     let room = c .before in
     let fused = room .before .before .before .before in
     rw (
-      board-test,
       ← fused .before .read-fuse .ensures,
       ne-eqb _ _ (fused .if1 .left),
       ← room .before .before .before .selected-count .ensures .0,

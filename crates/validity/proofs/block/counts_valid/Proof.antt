@@ -1,7 +1,7 @@
 -- `validity::block::counts_valid` meets its contract: each return follows the tests in turn. Assumes nothing.
 use borrow.Author.Needs.{needs}
 use borrow.Author.Tests.{le-leb, lt-leb}
-use Rattle.validity.specs.BlockChecks.{countsValid}
+use Rattle.model.specs.Definitions.Check.{countsValid}
 use Rattle.validity.proofs.block.counts_valid.Statement.{statement}
 use Rattle.validity.proofs.block.counts_valid.Tie as tie
 
@@ -15,8 +15,8 @@ returns : tie.Need-returns
 unfolding countsValid
 returns c = rw (← c .before .before .read-volatile-count .ensures, ← c .before .wide .ensures .0, lt-leb _ _ (c .if1 .taken))
 
-stored-count-requires : tie.Need-stored-count-requires
-stored-count-requires c κs = search needs
+area-count-requires : tie.Need-area-count-requires
+area-count-requires c κs = search needs
 
 returns-2 : tie.Need-returns-2
 unfolding countsValid
@@ -26,12 +26,12 @@ returns-2 c =
       ← few .before .before .read-volatile-count .ensures,
       ← few .before .wide .ensures .0,
       le-leb _ _ (few .if1 .left),
-      ← c .before .stored-count .ensures .0,
+      ← c .before .area-count .ensures .0,
       lt-leb _ _ (c .if2 .taken),
     )
 
-stored-count-requires-2 : tie.Need-stored-count-requires-2
-stored-count-requires-2 c κs = search needs
+area-count-requires-2 : tie.Need-area-count-requires-2
+area-count-requires-2 c κs = search needs
 
 returns-3 : tie.Need-returns-3
 unfolding countsValid
@@ -42,9 +42,9 @@ returns-3 c =
       ← few .before .before .read-volatile-count .ensures,
       ← few .before .wide .ensures .0,
       le-leb _ _ (few .if1 .left),
-      ← less .before .stored-count .ensures .0,
+      ← less .before .area-count .ensures .0,
       le-leb _ _ (less .if2 .left),
-      c .stored-count2 .ensures .0,
+      c .area-count2 .ensures .0,
     )
 
 pub counts-valid-spec : {M : Type 1} → statement M
@@ -54,7 +54,7 @@ counts-valid-spec =
     read-volatile-count-requires
     wide-requires
     returns
-    stored-count-requires
+    area-count-requires
     returns-2
-    stored-count-requires-2
+    area-count-requires-2
     returns-3)

@@ -2,8 +2,8 @@
 use borrow.Author.Needs.{needs}
 use borrow.Author.Tests.{le-leb, lt-leb}
 use Rattle.model.specs.Definitions.Codec.{selectorByte}
+use Rattle.model.specs.Definitions.Check.{fieldsValid}
 use Rattle.validity.specs.Search.{failed, passed}
-use Rattle.validity.specs.BlockChecks.{fieldsValid}
 use Rattle.validity.proofs.block.fields_valid.Statement.{statement}
 use Rattle.validity.proofs.block.fields_valid.Tie as tie
 

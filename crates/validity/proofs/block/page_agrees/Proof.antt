@@ -2,19 +2,16 @@
 use borrow.Author.Needs.{needs}
 use Rattle.model.specs.Definitions.Parts.{byteAt}
 use Rattle.model.specs.Definitions.Codec.{decodeEntry}
-use Rattle.validity.specs.BoardChecks.{agrees}
+use Rattle.model.specs.Definitions.Check.{pageAgrees}
 use Rattle.validity.proofs.block.page_agrees.Statement.{statement}
 use Rattle.validity.proofs.block.page_agrees.Tie as tie
 
-right-in-requires : tie.Need-right-in-requires
-right-in-requires c κs = search needs
-
-stands-for-requires : tie.Need-stands-for-requires
-stands-for-requires c κs = search needs
+right-agrees-requires : tie.Need-right-agrees-requires
+right-agrees-requires c κs = search needs
 
 returns : tie.Need-returns
-unfolding agrees
-returns c = rw (c .before .before .if1 .taken, ← c .before .right-in .ensures, c .stands-for .ensures)
+unfolding pageAgrees
+returns c = rw (c .before .if1 .taken, c .right-agrees .ensures)
 
 shared-slice-read-holds : tie.Need-shared-slice-read-holds
 shared-slice-read-holds c = search needs
@@ -23,15 +20,14 @@ holds-requires : tie.Need-holds-requires
 holds-requires c κs = search needs
 
 returns-2 : tie.Need-returns-2
-unfolding agrees decodeEntry byteAt
+unfolding pageAgrees decodeEntry byteAt
 returns-2 c = rw (c .before .before .if1 .left, c .holds .ensures)
 
 pub page-agrees-spec : {M : Type 1} → statement M
 page-agrees-spec =
     tie.close
     (tie.spec
-    right-in-requires
-    stands-for-requires
+    right-agrees-requires
     returns
     shared-slice-read-holds
     holds-requires

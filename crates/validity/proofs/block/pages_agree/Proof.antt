@@ -9,10 +9,11 @@ use lib.Dec.{eqb}
 use Rattle.types.specs.declared.State.the-variants.{Up}
 use Rattle.model.specs.Definitions.Layout.{entrySize, frameSize, stateAt, framesAt}
 use Rattle.model.specs.Definitions.Parts.{byteAt, everyBelow}
-use Rattle.model.specs.Definitions.Codec.{decodeEntry, rightOf, stateByte}
+use Rattle.model.specs.Definitions.Codec.{decodeEntry, rightOf, decodeFrame, stateByte}
+use Rattle.model.specs.Definitions.Check.{pageAgrees, pageAgreesAt, pagesAgree}
 use Rattle.validity.specs.Search.{failed, passed, below-none, below-next, below-stop, below-end}
-use Rattle.validity.specs.BoardChecks.{agrees, agreesAt, pagesAgree, up-byte}
 use borrow.Author.Needs.{needs}
+use Rattle.model.specs.Laws.Parts.{byteAt-first}
 use Rattle.fields.proofs.Lent.{lent-read}
 use Rattle.validity.proofs.block.pages_agree.Statement.{statement}
 use Rattle.validity.proofs.block.pages_agree.Tie as tie
@@ -22,14 +23,16 @@ agreed : (directory l : List ℕ) (board page state up right : ℕ) (r : Bool)
     → state ≡ byteAt l stateAt
     → up ≡ stateByte Up
     → right ≡ byteAt l (framesAt + page * frameSize)
-    → r ≡ agrees (eqb state up) (rightOf right) (decodeEntry (take (page * entrySize + entrySize - page * entrySize) (drop (page * entrySize) directory))) board
-    → r ≡ agreesAt directory l board page
-unfolding agreesAt
+    → r ≡ pageAgrees (eqb state up) (rightOf right)
+    (decodeEntry (take (page * entrySize + entrySize - page * entrySize) (drop (page * entrySize) directory))) board
+    → r ≡ pageAgreesAt directory l board page
+unfolding pageAgreesAt decodeFrame
 agreed directory l board page state up right r p u q h =
-    rw (up-byte, ← p, ← u, ← q) (lent-read directory (page * entrySize) entrySize (λ e. agrees (eqb state up) (rightOf right) (decodeEntry e) board) r h)
+    rw (← byteAt-first l (framesAt + page * frameSize) frameSize (omega arith), ← p, ← u, ← q)
+    (lent-read directory (page * entrySize) entrySize (λ e. pageAgrees (eqb state up) (rightOf right) (decodeEntry e) board) r h)
 
 abbrev Inv-loop : tie.InvT-loop
-Inv-loop directory block pages board up page₀ page = (page ≤ pages) × (everyBelow page (agreesAt directory block board) ≡ true)
+Inv-loop directory block pages board up page₀ page = (page ≤ pages) × (everyBelow page (pageAgreesAt directory block board) ≡ true)
 
 abbrev μ-loop : tie.MeasureT-loop
 μ-loop directory block pages board up page₀ page = pages - page
@@ -72,7 +75,8 @@ page-agrees-requires c κs = (simp (length-take, length-drop) (omega arith), ome
 
 tested : (c : tie.After-page-agrees Inv-loop μ-loop)
     → let start = c .before .before .before .before .before .before .before .before .before in
-    c .page-agrees .result ≡ agreesAt (start .args .directory .now) (start .args .block .now) (start .args .board) (c .before .before .before .before .loop .page)
+    c .page-agrees .result
+    ≡ pageAgreesAt (start .args .directory .now) (start .args .block .now) (start .args .board) (c .before .before .before .before .loop .page)
 tested c =
     let up = c .before .before .before .before .before in
     agreed _ _ _ _ _ _ _ _ (up .before .get .ensures) (up .state-byte .ensures) (c .before .before .get2 .ensures) (c .page-agrees .ensures)

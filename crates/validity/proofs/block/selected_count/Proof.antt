@@ -1,5 +1,7 @@
 -- `validity::block::selected_count` meets its contract. Assumes nothing.
 use borrow.Author.Needs.{needs}
+use Rattle.model.specs.Definitions.Check.{areaCount, selectedCount}
+use Rattle.format.specs.Areas.{selectedAt}
 use Rattle.validity.proofs.block.selected_count.Statement.{statement}
 use Rattle.validity.proofs.block.selected_count.Tie as tie
 
@@ -16,6 +18,7 @@ wide-requires : tie.Need-wide-requires
 wide-requires c κs = search needs
 
 returns : tie.Need-returns
+unfolding selectedCount areaCount selectedAt
 returns c = (rw (c .wide .ensures .0, c .before .get .ensures, c .before .before .selected-at .ensures .0), c .wide .ensures .1)
 
 pub selected-count-spec : {M : Type 1} → statement M

@@ -1,7 +1,6 @@
 -- `validity::block::state_valid` meets its contract: each return follows its state's tests. Assumes nothing.
 use borrow.Author.Needs.{needs}
-use borrow.Author.Tests.{lt-ltb, le-ltb, ne-eqb}
-use Rattle.validity.specs.BoardChecks.{up-test, down-test, replaying-test}
+use Rattle.model.specs.Definitions.Check.{stateValid}
 use mathlib.Core.Path.{_≡_}
 use borrow.Author.Tests.{lt-ltb, le-ltb, ne-eqb}
 use Rattle.types.specs.declared.State.the-variants.{Up, Down, Replaying}
@@ -10,8 +9,6 @@ use Rattle.model.specs.Definitions.Parts.{byteAt}
 use Rattle.model.specs.Definitions.Codec.{stateOf}
 use Rattle.validity.proofs.block.state_valid.Statement.{statement}
 use Rattle.validity.proofs.block.state_valid.Tie as tie
-
--- `validity::block::state_valid` meets its contract: each return follows its state's tests. Assumes nothing.
 
 read-place-requires : tie.Need-read-place-requires
 read-place-requires c κs = search needs
@@ -26,11 +23,11 @@ enum-told-2 : tie.Need-enum-told-2
 enum-told-2 c = search needs
 
 returns : tie.Need-returns
+unfolding stateValid
 returns c =
-    let start = c .before .before .before .before .before .before in
-    let l = start .args .block .now in
+    let l = c .before .before .before .before .before .before .args .block .now in
     let e : stateOf (byteAt l stateAt) ≡ Down = cc in
-    rw (down-test (start .args .pages) l e, ← c .before .before .before .before .read-place .ensures, ne-eqb _ _ (c .if1 .taken))
+    rw (e, ← c .before .before .before .before .read-place .ensures, ne-eqb _ _ (c .if1 .taken))
 
 blank-requires : tie.Need-blank-requires
 blank-requires c κs = search needs
@@ -45,12 +42,12 @@ wide-requires : tie.Need-wide-requires
 wide-requires c κs = search needs
 
 returns-2 : tie.Need-returns-2
+unfolding stateValid
 returns-2 c =
-    let start = c .before .before .before .before .before .before .before .before in
-    let l = start .args .block .now in
+    let l = c .before .before .before .before .before .before .before .before .args .block .now in
     let e : stateOf (byteAt l stateAt) ≡ Replaying = cc in
     rw (
-      replaying-test (start .args .pages) l e,
+      e,
       ← c .before .before .selected-count .ensures .0,
       ← c .before .before .before .before .before .before .read-place .ensures,
       ← c .before .wide .ensures .0,
@@ -61,26 +58,26 @@ read-volatile-count-requires : tie.Need-read-volatile-count-requires
 read-volatile-count-requires c κs = search needs
 
 returns-3 : tie.Need-returns-3
+unfolding stateValid
 returns-3 c =
-    let start = c .before .before .before .before .before in
-    let l = start .args .block .now in
+    let l = c .before .before .before .before .before .args .block .now in
     let e : stateOf (byteAt l stateAt) ≡ Up = cc in
-    rw (up-test (start .args .pages) l e, c .before .before .before .read-place .ensures)
+    rw (e, c .before .before .before .read-place .ensures)
 
 returns-4 : tie.Need-returns-4
+unfolding stateValid
 returns-4 c =
-    let start = c .before .before .before .before .before .before .before in
-    let l = start .args .block .now in
+    let l = c .before .before .before .before .before .before .before .args .block .now in
     let e : stateOf (byteAt l stateAt) ≡ Down = cc in
-    rw (down-test (start .args .pages) l e, ← c .before .before .before .before .before .read-place .ensures, c .before .if1 .left, c .blank .ensures)
+    rw (e, ← c .before .before .before .before .before .read-place .ensures, c .before .if1 .left, c .blank .ensures)
 
 returns-5 : tie.Need-returns-5
+unfolding stateValid
 returns-5 c =
-    let start = c .before .before .before .before .before .before .before .before .before in
-    let l = start .args .block .now in
+    let l = c .before .before .before .before .before .before .before .before .before .args .block .now in
     let e : stateOf (byteAt l stateAt) ≡ Replaying = cc in
     rw (
-      replaying-test (start .args .pages) l e,
+      e,
       ← c .before .before .before .selected-count .ensures .0,
       ← c .before .before .before .before .before .before .before .read-place .ensures,
       ← c .before .before .wide .ensures .0,

@@ -1,7 +1,7 @@
 -- `validity::parts::bare_mark` meets its contract: the law by numbers. Assumes nothing.
 use borrow.Author.Needs.{needs}
 use borrow.Author.Tests.{eq-eqb, ne-eqb}
-use Rattle.validity.specs.PartChecks.{bare-number}
+use Rattle.validity.specs.Words.{bare-number}
 use Rattle.validity.proofs.parts.bare_mark.Statement.{statement}
 use Rattle.validity.proofs.parts.bare_mark.Tie as tie
 

@@ -6,15 +6,16 @@ use mathlib.Core.Bool.{true}
 use Rattle.model.specs.Definitions.Layout.{entrySize}
 use Rattle.model.specs.Definitions.Parts.{part, everyBelow}
 use Rattle.model.specs.Definitions.Codec.{decodeEntry}
-use Rattle.model.specs.Definitions.WellFormed.{entryValid}
-use Rattle.validity.specs.Search.{failed, passed, below-none, below-next, below-stop, below-end, read-below}
+use Rattle.model.specs.Definitions.Check.{entryValid, directoryValid}
+use Rattle.validity.specs.Search.{failed, passed, below-none, below-next, below-stop, below-end}
 use lib.ListN.{length-take, length-drop}
 use Rattle.fields.proofs.Lent.{lent-read}
 use Rattle.validity.proofs.parts.directory_valid.Statement.{statement}
 use Rattle.validity.proofs.parts.directory_valid.Tie as tie
 
 abbrev Inv-loop : tie.InvT-loop
-Inv-loop directory boards pages page₀ page = (page ≤ pages) × (everyBelow page (λ p. entryValid boards (decodeEntry (part directory (p * entrySize) entrySize))) ≡ true)
+Inv-loop directory boards pages page₀ page =
+    (page ≤ pages) × (everyBelow page (λ p. entryValid boards (decodeEntry (part directory (p * entrySize) entrySize))) ≡ true)
 
 abbrev μ-loop : tie.MeasureT-loop
 μ-loop directory boards pages page₀ page = pages - page
@@ -40,13 +41,19 @@ part-entry-valid-end c = omega arith
 entry-valid-requires : tie.Need-entry-valid-requires Inv-loop μ-loop
 entry-valid-requires c κs = (simp (length-take, length-drop) (omega arith), omega arith)
 
+-- what the callee says of the part that it was lent
+tested : (c : tie.After-entry-valid Inv-loop μ-loop)
+    → let start = c .before .before .before .before .before in
+    let page = c .before .before .before .loop .page in
+    c .entry-valid .result ≡ entryValid (start .args .boards) (decodeEntry (part (start .args .directory .now) (page * entrySize) entrySize))
+tested c =
+    let start = c .before .before .before .before .before in
+    let page = c .before .before .before .loop .page in
+    lent-read (start .args .directory .now) (page * entrySize) entrySize (λ l. entryValid (start .args .boards) (decodeEntry l)) _ (c .entry-valid .ensures)
+
 returns : tie.Need-returns Inv-loop μ-loop
-returns c =
-    let start = c .before .before .before .before .before .before in
-    let page = c .before .before .before .before .loop .page in
-    rw (read-below _ decodeEntry entrySize)
-    (below-stop _ (start .args .pages) page (omega arith)
-    (failed (lent-read (start .args .directory .now) (page * entrySize) entrySize (λ l. entryValid (start .args .boards) (decodeEntry l)) _ (c .before .entry-valid .ensures)) (c .if1 .taken)))
+unfolding directoryValid
+returns c = below-stop _ _ _ (omega arith) (failed (tested (c .before)) (c .if1 .taken))
 
 add-page : tie.Need-add-page Inv-loop μ-loop
 add-page c = omega arith
@@ -55,16 +62,11 @@ loop-less : tie.Need-loop-less Inv-loop μ-loop
 loop-less c = omega arith
 
 loop-again : tie.Need-loop-again Inv-loop μ-loop
-loop-again c =
-    let start = c .before .before .before .before .before .before in
-    let loop = c .before .before .before .before .loop in (
-      omega arith,
-      below-next _ _ (loop .inv .1)
-          (passed (lent-read (start .args .directory .now) (loop .page * entrySize) entrySize (λ l. entryValid (start .args .boards) (decodeEntry l)) _ (c .before .entry-valid .ensures)) (c .if1 .left)),
-    )
+loop-again c = (omega arith, below-next _ _ (c .before .before .before .before .loop .inv .1) (passed (tested (c .before)) (c .if1 .left)))
 
 returns-2 : tie.Need-returns-2 Inv-loop μ-loop
-returns-2 c = rw (read-below _ decodeEntry entrySize) (below-end _ _ _ (omega arith) (omega arith) (c .before .loop .inv .1))
+unfolding directoryValid
+returns-2 c = below-end _ _ _ (omega arith) (omega arith) (c .before .loop .inv .1)
 
 pub directory-valid-spec : {M : Type 1} → statement M
 directory-valid-spec =

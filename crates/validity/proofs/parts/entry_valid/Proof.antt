@@ -3,8 +3,8 @@ use borrow.Author.Needs.{needs}
 use borrow.Author.Tests.{lt-ltb, le-ltb}
 use Rattle.model.specs.Definitions.Parts.{byteAt}
 use Rattle.model.specs.Definitions.Codec.{decodeEntry}
-use Rattle.model.specs.Definitions.WellFormed.{entryValid}
-use Rattle.validity.specs.PartChecks.{below-power, past-power}
+use Rattle.model.specs.Definitions.Check.{entryValid}
+use Rattle.validity.specs.Words.{below-power, past-power}
 use Rattle.validity.proofs.parts.entry_valid.Statement.{statement}
 use Rattle.validity.proofs.parts.entry_valid.Tie as tie
 
@@ -41,7 +41,13 @@ unfolding entryValid decodeEntry byteAt
 returns-3 c =
     let few = c .before in
     let owned = few .before .before .before in
-    rw (c .holds .ensures, ← owned .before .wide .ensures .0, lt-ltb _ _ (owned .if1 .left), ← few .before .wide2 .ensures .0, lt-ltb _ _ (below-power _ _ (few .if2 .left)))
+    rw (
+      c .holds .ensures,
+      ← owned .before .wide .ensures .0,
+      lt-ltb _ _ (owned .if1 .left),
+      ← few .before .wide2 .ensures .0,
+      lt-ltb _ _ (below-power _ _ (few .if2 .left)),
+    )
 
 pub entry-valid-spec : {M : Type 1} → statement M
 entry-valid-spec =

@@ -2,8 +2,7 @@
 use borrow.Author.Needs.{needs}
 use borrow.Author.Tests.{le-leb, lt-leb, eq-eqb, ne-eqb}
 use Rattle.model.specs.Definitions.Parts.{byteAt}
-use Rattle.model.specs.Definitions.Codec.{decodeFrame}
-use Rattle.model.specs.Definitions.WellFormed.{frameValid}
+use Rattle.model.specs.Definitions.Check.{frameValid}
 use Rattle.validity.proofs.parts.frame_valid.Statement.{statement}
 use Rattle.validity.proofs.parts.frame_valid.Tie as tie
 
@@ -30,7 +29,7 @@ zero-page-requires : tie.Need-zero-page-requires
 zero-page-requires c κs = search needs
 
 returns-3 : tie.Need-returns-3
-unfolding frameValid decodeFrame byteAt
+unfolding frameValid byteAt
 returns-3 c =
     let empty = c .before in
     let known = empty .before .before in

@@ -1,7 +1,7 @@
 -- `validity::parts::got_mark` meets its contract: the law by numbers. Assumes nothing.
 use borrow.Author.Needs.{needs}
 use borrow.Author.Tests.{eq-eqb, ne-eqb}
-use Rattle.validity.specs.PartChecks.{got-number}
+use Rattle.validity.specs.Words.{got-number}
 use Rattle.validity.proofs.parts.got_mark.Statement.{statement}
 use Rattle.validity.proofs.parts.got_mark.Tie as tie
 

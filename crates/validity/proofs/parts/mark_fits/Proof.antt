@@ -2,8 +2,8 @@
 use mathlib.Core.Path.{_≡_, refl, sym, _∙_}
 use mathlib.Core.Bool.{true, false}
 use borrow.Author.Needs.{needs}
+use Rattle.model.specs.Definitions.Check.{markFits}
 use Rattle.validity.specs.Search.{failed, passed}
-use Rattle.validity.specs.PartChecks.{markFits}
 use Rattle.validity.proofs.parts.mark_fits.Statement.{statement}
 use Rattle.validity.proofs.parts.mark_fits.Tie as tie
 

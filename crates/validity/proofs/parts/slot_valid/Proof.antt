@@ -4,9 +4,8 @@ use borrow.Author.Needs.{needs}
 use borrow.Author.Tests.{lt-ltb, le-ltb}
 use Rattle.model.specs.Definitions.Layout.{pageSize, mark0At, mark1At, slotBytesAt}
 use Rattle.model.specs.Definitions.Parts.{part, byteAt}
-use Rattle.model.specs.Definitions.WellFormed.{isZero}
+use Rattle.model.specs.Definitions.Check.{isZero, markFits, slotValid}
 use Rattle.validity.specs.Search.{failed, passed}
-use Rattle.validity.specs.PartChecks.{markFits, slot-test}
 use Rattle.validity.proofs.parts.slot_valid.Statement.{statement}
 use Rattle.validity.proofs.parts.slot_valid.Tie as tie
 
@@ -33,7 +32,8 @@ mark-fits-requires : tie.Need-mark-fits-requires
 mark-fits-requires c κs = search needs
 
 returns : tie.Need-returns
-returns c = rw (slot-test, failed (fits (c .before)) (c .if1 .taken))
+unfolding slotValid
+returns c = rw (failed (fits (c .before)) (c .if1 .taken))
 
 shared-slice-read-wide : tie.Need-shared-slice-read-wide
 shared-slice-read-wide c = search needs
@@ -42,20 +42,20 @@ wide-requires : tie.Need-wide-requires
 wide-requires c κs = search needs
 
 returns-2 : tie.Need-returns-2
-unfolding byteAt
+unfolding slotValid byteAt
 returns-2 c =
     let marked = c .before .before .before in
-    rw (slot-test, passed (fits (marked .before)) (marked .if1 .left), ← c .before .wide .ensures .0, le-ltb _ _ (c .if2 .taken))
+    rw (passed (fits (marked .before)) (marked .if1 .left), ← c .before .wide .ensures .0, le-ltb _ _ (c .if2 .taken))
 
 shared-slice-read-result : tie.Need-shared-slice-read-result
 shared-slice-read-result c = search needs
 
 returns-3 : tie.Need-returns-3
-unfolding byteAt
+unfolding slotValid byteAt
 returns-3 c =
     let ranged = c .before in
     let marked = ranged .before .before .before in
-    rw (slot-test, passed (fits (marked .before)) (marked .if1 .left), ← ranged .before .wide .ensures .0, lt-ltb _ _ (ranged .if2 .left))
+    rw (passed (fits (marked .before)) (marked .if1 .left), ← ranged .before .wide .ensures .0, lt-ltb _ _ (ranged .if2 .left))
 
 pub slot-valid-spec : {M : Type 1} → statement M
 slot-valid-spec =

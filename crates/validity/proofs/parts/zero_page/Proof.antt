@@ -1,6 +1,6 @@
 -- `validity::parts::zero_page` meets its contract: its sum is the law's. Assumes nothing.
 use borrow.Author.Needs.{needs}
-use Rattle.validity.specs.Search.{zero-words}
+use Rattle.validity.specs.Words.{zero-words}
 use Rattle.validity.proofs.parts.zero_page.Statement.{statement}
 use Rattle.validity.proofs.parts.zero_page.Tie as tie
 

@@ -3,20 +3,21 @@ use mathlib.Core.Path.{_≡_, sym}
 use Prim.Native.Nat.{_≤_, _-_, _+_, _*_}
 use native.Mathlib.Omega.{arith}
 use lib.Dec.{eqb}
-use Rattle.model.specs.Definitions.Parts.{byteAt, everyBelow}
-use Rattle.validity.specs.Search.{below-none, below-last, sum-zero, zero-below}
+use Rattle.model.specs.Definitions.Parts.{part, byteAt}
+use Rattle.model.specs.Definitions.Check.{isZero}
+use Rattle.validity.specs.Words.{zero-none, zero-next}
 use Rattle.validity.proofs.parts.zero_run.Statement.{statement}
 use Rattle.validity.proofs.parts.zero_run.Tie as tie
 
 abbrev Inv-loop : tie.InvT-loop
 Inv-loop s at n sum₀ i₀ sum i =
-    (i ≤ n) × (sum ≤ 255 * i) × (eqb sum 0 ≡ everyBelow i (λ j. eqb (byteAt s (at + j)) 0))
+    (i ≤ n) × (sum ≤ 255 * i) × (eqb sum 0 ≡ isZero (part s at i))
 
 abbrev μ-loop : tie.MeasureT-loop
 μ-loop s at n sum₀ i₀ sum i = n - i
 
 loop-holds : tie.Need-loop-holds Inv-loop μ-loop
-loop-holds c = (omega arith, omega arith, sym (below-none _))
+loop-holds c = (omega arith, omega arith, sym (zero-none _ _))
 
 add-sum : tie.Need-add-sum Inv-loop μ-loop
 add-sum c = omega arith
@@ -42,14 +43,14 @@ loop-again c =
     let loop = c .before .before .loop in (
       omega arith,
       omega (arith, c .shared-slice-known .given (c .before .before .before .args .at + loop .i)),
-      rw (sum-zero, loop .inv .2) (sym (below-last _ (loop .i))),
+      zero-next (c .before .before .before .args .s .now) (c .before .before .before .args .at) (loop .i) (loop .sum) (omega arith) (loop .inv .2),
     )
 
 returns : tie.Need-returns Inv-loop μ-loop
 returns c =
     let start = c .before .before in
     let e : c .before .loop .i ≡ start .args .n = omega arith in
-    rw (zero-below (start .args .s .now) (start .args .at) (start .args .n) (start .pre .0), ← e) (c .before .loop .inv .2)
+    rw (← e) (c .before .loop .inv .2)
 
 pub zero-run-spec : {M : Type 1} → statement M
 zero-run-spec =

@@ -1,0 +1,69 @@
+-- `accesses::replaying::replay_at` meets its contract: the access is repeated on the board's block, which is lent. Assumes nothing.
+use Rattle.accesses.specs.BlockReplay.{replayedBoard, replayedTo, replayed-fields}
+use Rattle.accesses.specs.Asks.{asked}
+use Rattle.exchange.specs.Banks.{lent-of, lent-holds}
+use Rattle.steps.specs.BankBlocks.{LentBlock, lent-in, lent-fields, lent-block, lent-board}
+use Rattle.model.specs.Definitions.Codec.{decode}
+use native.Mathlib.Omega.{arith}
+use mathlib.Core.Path.{ap, _∙_}
+use borrow.Author.Needs.{needs}
+use Rattle.accesses.proofs.replaying.replay_at.Statement.{statement}
+use Rattle.accesses.proofs.replaying.replay_at.Tie as tie
+
+-- the board's block in the bank
+lent : (c : tie.After-block-size)
+    → LentBlock (decode (c .before .before .before .args .bank .now)) (c .before .before .before .args .bank .now) (c .before .before .before .args .pages)
+    (c .before .before .before .args .ask .board) (c .before .block-at .result) (c .block-size .result)
+lent c = lent-of (c .before .before .before .pre .0) _ _ (c .before .block-at .ensures) (c .block-size .ensures)
+
+block-at-requires : tie.Need-block-at-requires
+block-at-requires c κs = search needs
+
+block-size-requires : tie.Need-block-size-requires
+block-size-requires c κs = search needs
+
+add-replay : tie.Need-add-replay
+add-replay c = omega (arith, lent-in (lent c))
+
+sub-replay : tie.Need-sub-replay
+sub-replay c = search needs
+
+part-replay-start : tie.Need-part-replay-start
+part-replay-start c = search needs
+
+part-replay-end : tie.Need-part-replay-end
+part-replay-end c = lent-in (lent c)
+
+replay-requires : tie.Need-replay-requires
+replay-requires c κs =
+    let start = c .before .before .before .before in
+    let block = lent (c .before) in
+    (lent-block block, rw (lent-board block) (start .pre .1), start .pre .2, start .pre .3)
+
+same-length : tie.Need-same-length
+same-length c = search needs
+
+returns : tie.Need-returns
+returns c =
+    let start = c .before .before .before .before .before .before .before in
+    let q = start .args .ask in
+    let block = lent (c .before .before .before .before) in
+    let did = c .before .before .replay in (
+      did .ensures .0 ∙ ap (replayedTo (asked q)) (lent-board block),
+      lent-holds (start .pre .0) block (replayedBoard (asked q)) (did .last .0)
+          (replayed-fields (lent-fields block) (q .writes) (q .page) (q .offset) (q .value) (omega arith) (start .pre .1)) (did .kept .0) (did .ensures .1),
+    )
+
+pub replay-at-spec : {M : Type 1} → statement M
+replay-at-spec =
+    tie.close
+    (tie.spec
+    block-at-requires
+    block-size-requires
+    add-replay
+    sub-replay
+    part-replay-start
+    part-replay-end
+    replay-requires
+    same-length
+    returns)

@@ -1,0 +1,60 @@
+// The calls for C: a bank is a pointer and a length, an answer one number (`pack`). Nothing is asked of the bytes.
+use answers::pack::pack;
+use engine::access::read;
+use engine::access::write;
+use engine::checkpoint::checkpoint;
+use engine::make::make;
+use engine::power::cut;
+use engine::power::fuse;
+use engine::restart::restart;
+ghost use Rattle.model.specs.Definitions.Calls.{make as making, call, Reading, Writing, Checkpointing, Cutting, Fusing, Restarting};
+ghost use Rattle.bank.specs.Contracts.{RepliedPacked};
+
+#[no_mangle]
+pub extern "C" fn bank_make(bank: &mut [u8], boards: u32, pages: u32) -> u64
+    ensures { λ r. ⌜ RepliedPacked (making boards pages (now (bank .entry))) r (now (bank .exit)) ⌝ }
+{
+    pack(make(bank, boards, pages))
+}
+
+#[no_mangle]
+pub extern "C" fn bank_read(bank: &mut [u8], board: u32, page: u32, offset: u32) -> u64
+    ensures { λ r. ⌜ RepliedPacked (call (Reading board page offset) (now (bank .entry))) r (now (bank .exit)) ⌝ }
+{
+    pack(read(bank, board, page, offset))
+}
+
+#[no_mangle]
+pub extern "C" fn bank_write(bank: &mut [u8], board: u32, page: u32, offset: u32, value: u32) -> u64
+    ensures { λ r. ⌜ RepliedPacked (call (Writing board page offset value) (now (bank .entry))) r (now (bank .exit)) ⌝ }
+{
+    pack(write(bank, board, page, offset, value))
+}
+
+#[no_mangle]
+pub extern "C" fn bank_checkpoint(bank: &mut [u8], board: u32) -> u64
+    ensures { λ r. ⌜ RepliedPacked (call (Checkpointing board) (now (bank .entry))) r (now (bank .exit)) ⌝ }
+{
+    pack(checkpoint(bank, board))
+}
+
+#[no_mangle]
+pub extern "C" fn bank_cut(bank: &mut [u8], board: u32) -> u64
+    ensures { λ r. ⌜ RepliedPacked (call (Cutting board) (now (bank .entry))) r (now (bank .exit)) ⌝ }
+{
+    pack(cut(bank, board))
+}
+
+#[no_mangle]
+pub extern "C" fn bank_fuse(bank: &mut [u8], board: u32, stores: u32) -> u64
+    ensures { λ r. ⌜ RepliedPacked (call (Fusing board stores) (now (bank .entry))) r (now (bank .exit)) ⌝ }
+{
+    pack(fuse(bank, board, stores))
+}
+
+#[no_mangle]
+pub extern "C" fn bank_restart(bank: &mut [u8], board: u32) -> u64
+    ensures { λ r. ⌜ RepliedPacked (call (Restarting board) (now (bank .entry))) r (now (bank .exit)) ⌝ }
+{
+    pack(restart(bank, board))
+}

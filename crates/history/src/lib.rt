@@ -1,0 +1,1 @@
+// The proofs about a bank's history: specs/ holds them, and there is no code here.

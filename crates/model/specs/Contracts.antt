@@ -1,0 +1,129 @@
+-- The words of contracts inside the engine: what a function asks of a bank, a board or an access, because the tests before it have shown it. Needed to read
+-- those contracts. Of what a reader believes only the counts of records are here (Laws/Codes/Statement says code 7 with them). No law stands here.
+-- Assumes nothing.
+use mathlib.Core.Path.{_≡_}
+use mathlib.Core.Logic.{_≢_}
+use Prim.Native.Nat.{ℕ, _+_, _*_, _≤_, _<_}
+use mathlib.Core.Bool.{false}
+use mathlib.Core.List.{List}
+use lib.ListN.{length}
+use Rattle.words.specs.Bytes.{Each}
+use Rattle.types.specs.declared.CopyOrOwn.{CopyOrOwn}
+use Rattle.types.specs.declared.Kind.{Kind}
+use Rattle.types.specs.declared.State.the-variants.{Up, Down, Replaying}
+use Rattle.model.specs.Definitions.Parts.{member}
+use Rattle.model.specs.Definitions.Layout.{byteValues, mostPages, slotCount, lastSince, lastNumber}
+use Rattle.model.specs.Definitions.Bank.{Entry, Board, Bank, boardAt, entryIn, frameAt}
+use Rattle.model.specs.Definitions.Codec.{encode, decode}
+use Rattle.model.specs.Definitions.WellFormed.{RecordOk, FieldsOk, FuseOk, RoomOk, PlaceOk, ReplayingOk, DownOk, rightIn, EntryOk, SizesOk}
+use Rattle.model.specs.Definitions.Steps.{Access, pageNamed, cellsWritten, giver}
+use Rattle.model.specs.Definitions.Replay.{lacking}
+use Rattle.model.specs.Definitions.Calls.{fetchNeed}
+
+-- ---- records
+
+-- the records of a board's selected area, and of its volatile log
+abbrev pub storedCount : Board → ℕ
+storedCount x = length (x .stable .selected .log .records)
+
+abbrev pub volatileCount : Board → ℕ
+volatileCount x = length (x .working .log .records)
+
+-- a slot is left for one volatile record more
+abbrev pub Space : Board → Type 0
+Space x = volatileCount x < slotCount
+
+-- "stored plus volatile at most 32": room for n records more
+abbrev pub RoomFor : ℕ → Board → Type 0
+RoomFor n x = storedCount x + volatileCount x + n ≤ slotCount
+
+-- a record of this kind with these bytes is valid, whatever its count
+abbrev pub Recordable : ℕ → Kind → List ℕ → Type 0
+Recordable pages kind bytes = (n : ℕ) → n ≤ lastSince → RecordOk pages (record { count = n; kind = kind; bytes = bytes })
+
+-- ---- stores
+
+-- the most that a call makes: two flushes of 32 records and a checkpoint of P + 2 stores (Laws/FewStores)
+abbrev pub mostStores : ℕ
+mostStores = 2 * slotCount + mostPages + 2
+
+-- ---- the bytes of a bank
+
+-- every field of every board in range
+abbrev pub Fields : Bank → Type 0
+Fields k = Each (FieldsOk (length (k .directory))) (k .boards)
+
+-- bytes that are those of what they are read as, with every field in range and as many boards and pages as may be
+pub record IsBank (s : List ℕ) : Type 0 where
+  pub back : encode (decode s) ≡ s
+  pub fields : Fields (decode s)
+  pub sizes : SizesOk (length (decode s .boards)) (length (decode s .directory))
+
+-- ---- the clauses of a well-formed bank sorted by what they speak of: a board alone, its replay place, a board and the directory
+
+-- what is asked of a board by itself, but for its place
+pub record Alone (pages : ℕ) (x : Board) : Type 0 where
+  pub fields : FieldsOk pages x
+  pub fuse : FuseOk x
+  pub room : RoomOk x
+  pub replaying : ReplayingOk x
+  pub down : DownOk x
+
+-- what a board and the directory say of each other
+pub record Agreed (d : List Entry) (b : ℕ) (x : Board) : Type 0 where
+  pub rights : x .state ≡ Up → (p : ℕ) → p < length d → frameAt (x .working .frames) p .right ≡ rightIn (entryIn d p) b
+  pub copies : x .state ≢ Up → (p : ℕ) → p < length d → member b (entryIn d p .copies) ≡ false
+
+-- all clauses of board b
+pub record Fits (d : List Entry) (b : ℕ) (x : Board) : Type 0 where
+  pub alone : Alone (length d) x
+  pub place : PlaceOk (x .state) x
+  pub agreed : Agreed d b x
+
+-- a replaying board, which may have used the last of its records
+pub record InReplay (d : List Entry) (b : ℕ) (x : Board) : Type 0 where
+  pub alone : Alone (length d) x
+  pub state : x .state ≡ Replaying
+  pub place : x .working .place ≤ length (x .stable .selected .log .records)
+  pub agreed : Agreed d b x
+
+-- a well-formed bank but for board b, of which `Kept` holds instead
+pub record WellFormedBut (b : ℕ) (Kept : List Entry → ℕ → Board → Type 0) (k : Bank) : Type 0 where
+  pub sizes : SizesOk (length (k .boards)) (length (k .directory))
+  pub directory : Each (EntryOk (length (k .boards))) (k .directory)
+  pub others : (c : ℕ) → c < length (k .boards) → c ≢ b → Fits (k .directory) c (boardAt k c)
+  pub this : b < length (k .boards) → Kept (k .directory) b (boardAt k b)
+
+-- ---- an access, as far as its tests have passed
+
+-- what the tests on entry leave
+pub record Entered (b : ℕ) (a : Access) (k : Bank) : Type 0 where
+  pub board : b < length (k .boards)
+  pub page : pageNamed a < length (k .directory)
+  pub values : Each (λ v. v .1 < byteValues) (cellsWritten a)
+  pub power : boardAt k b .state ≢ Down
+  pub since : boardAt k b .working .since < lastSince
+  pub number : boardAt k b .working .number < lastNumber
+
+-- an access of an up board, as far as the codes up to 5 go
+pub record CanAccess (b : ℕ) (a : Access) (k : Bank) : Type 0 where
+  pub page : pageNamed a < length (k .directory)
+  pub values : Each (λ w. w .1 < byteValues) (cellsWritten a)
+  pub up : boardAt k b .state ≡ Up
+  pub since : boardAt k b .working .since < lastSince
+  pub number : boardAt k b .working .number < lastNumber
+
+-- page p is fetched by board b: taker and owner are two up boards, and each board has the room that code 7 asks for
+pub record CanFetch (g : CopyOrOwn) (b p : ℕ) (k : Bank) : Type 0 where
+  pub page : p < length (k .directory)
+  pub taker : boardAt k b .state ≡ Up
+  pub owner : boardAt k (giver k p) .state ≡ Up
+  pub other : giver k p ≢ b
+  pub room : (c : ℕ) → c < length (k .boards) → RoomFor (fetchNeed g k b (giver k p) p c) (boardAt k c)
+
+-- what an access needs of its board
+pub record Ready (a : Access) (x : Board) : Type 0 where
+  pub power : x .state ≢ Down
+  pub since : x .working .since < lastSince
+  pub number : x .working .number < lastNumber
+  pub right : lacking a (x .working .frames) ≡ false

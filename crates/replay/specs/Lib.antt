@@ -1,0 +1,7 @@
+pub mod Contracts
+pub mod Next
+pub mod Used
+pub mod Got
+pub mod Replaced
+pub mod Restart
+pub mod Settle
