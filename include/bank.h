@@ -6,7 +6,7 @@
  * The caller promises two things. The pointer is valid for `len` bytes, to read and to write. Nobody else touches these bytes
  * until the call is back: no second thread, no interrupt, no DMA.
  *
- * Link with libengine.a. It allocates nothing and keeps nothing between calls. */
+ * Link with libbank.a. It allocates nothing and keeps nothing between calls. */
 #ifndef BANK_H
 #define BANK_H
 

@@ -1,8 +1,11 @@
-//! A bank's bytes as fields, each read where the second engine's layout has it (docs/FORMAT.md draws it).
+//! A bank's bytes as fields, each read where the second engine's layout has it (docs/FORMAT.md draws it). Bytes that are no well-formed bank are
+//! read as far as they go: what isn't whole is left out, and a value out of range is kept as it is.
 
+use crate::names;
 use second::layout::*;
 
 pub struct Bank {
+    pub layout: Layout,
     pub pages: Vec<Entry>,
     pub boards: Vec<Board>,
 }
@@ -15,46 +18,59 @@ pub struct Entry {
 }
 
 pub struct Board {
-    pub state: &'static str,
+    pub state: String,
     /// 0 or 1: the area that counts.
-    pub selector: usize,
+    pub selector: u8,
     /// Stores left, if a fuse is set.
     pub fuse: Option<u16>,
     pub number: u32,
     pub since: u16,
-    /// Records used, if it replays.
-    pub place: Option<u8>,
-    /// A replay rebuilds the board as it was after so many accesses.
-    pub recovery_point: u64,
+    /// Records used; 0 unless it replays.
+    pub place: u8,
     pub frames: Vec<Frame>,
-    pub volatile: Vec<Record>,
-    pub areas: [Area; 2],
+    pub volatile: Log,
+    pub areas: Vec<Area>,
 }
 
 pub struct Area {
     pub number: u32,
+    pub log: Log,
+}
+
+pub struct Log {
+    /// How many records it is said to have.
+    pub count: u8,
     pub records: Vec<Record>,
 }
 
 pub struct Frame {
-    pub right: &'static str,
+    pub right: String,
     pub bytes: [u8; PAGE],
 }
 
 pub struct Record {
-    pub kind: &'static str,
+    pub kind: String,
     pub page: u8,
     pub count: u16,
     pub bytes: [u8; PAGE],
 }
 
 impl Board {
-    pub fn selected(&self) -> &Area {
-        &self.areas[self.selector]
+    pub fn selected(&self) -> Option<&Area> {
+        self.areas.get(self.selector as usize)
     }
 
-    pub fn spare(&self) -> &Area {
-        &self.areas[1 - self.selector]
+    pub fn spare(&self) -> Option<&Area> {
+        self.areas.get(1_usize.checked_sub(self.selector as usize)?)
+    }
+}
+
+impl Area {
+    /// A replay brings the board back as it was after so many accesses; none if not all records could be read.
+    pub fn recovery_point(&self) -> Option<u64> {
+        let Log { count, records } = &self.log;
+        let counts = records.iter().map(|record| record.count as u64);
+        (records.len() == *count as usize).then(|| self.number as u64 + counts.sum::<u64>())
     }
 }
 
@@ -65,84 +81,90 @@ struct Reader<'a> {
 }
 
 impl Reader<'_> {
-    fn entry(&self, page: usize) -> Entry {
-        let set = self.bank[self.layout.copies(page)];
-        Entry {
+    /// Something, if the bytes go on up to the offset.
+    fn reach(&self, end: usize) -> Option<()> {
+        (end <= self.bank.len()).then_some(())
+    }
+
+    fn entry(&self, page: usize) -> Option<Entry> {
+        let at = self.layout.copies(page);
+        self.reach(at + 1)?;
+        Some(Entry {
             owner: self.bank[self.layout.owner(page)],
             copies: (0..MAX_BOARDS)
-                .filter(|board| set >> board & 1 == 1)
+                .filter(|board| self.bank[at] >> board & 1 == 1)
                 .collect(),
-        }
+        })
     }
 
-    fn frame(&self, at: usize) -> Frame {
-        Frame {
-            right: match self.bank[at] {
-                NONE => "none",
-                COPY => "copy",
-                _ => "own",
-            },
+    fn frame(&self, at: usize) -> Option<Frame> {
+        self.reach(at + FRAME)?;
+        Some(Frame {
+            right: names::right(self.bank[at]),
             bytes: page_at(self.bank, at + 1),
-        }
+        })
     }
 
-    fn record(&self, at: usize) -> Record {
-        Record {
-            kind: match kind_at(self.bank, at) {
-                GOT_COPY => "got copy",
-                GOT_OWN => "got own",
-                SHOWN => "shown",
-                _ => "dropped",
-            },
+    fn record(&self, at: usize) -> Option<Record> {
+        self.reach(at + SLOT)?;
+        Some(Record {
+            kind: names::kind(kind_at(self.bank, at)),
             page: self.bank[at + SLOT_PAGE],
             count: get16(self.bank, at + SLOT_COUNT),
             bytes: page_at(self.bank, at + SLOT_BYTES),
+        })
+    }
+
+    /// The log with its count and its first slot at these places.
+    fn log(&self, count: usize, first: usize) -> Log {
+        let count = self.bank[count];
+        let slots = 0..SLOTS.min(count as usize);
+        let records = slots.map_while(|slot| self.record(first + SLOT * slot));
+        Log {
+            count,
+            records: records.collect(),
         }
     }
 
-    fn area(&self, at: usize) -> Area {
-        let stored = self.bank[self.layout.stored(at)] as usize;
-        let record = |slot| self.record(self.layout.area_slot(at, slot));
-        Area {
+    fn area(&self, at: usize) -> Option<Area> {
+        self.reach(self.layout.area_frame(at, 0))?;
+        Some(Area {
             number: get32(self.bank, at),
-            records: (0..stored).map(record).collect(),
-        }
+            log: self.log(self.layout.stored(at), self.layout.area_slot(at, 0)),
+        })
     }
 
-    fn board(&self, board: usize) -> Board {
+    fn board(&self, board: usize) -> Option<Board> {
         let Reader { bank, layout } = *self;
-        let state = match bank[layout.state(board)] {
-            UP => "up",
-            DOWN => "down",
-            _ => "replaying",
-        };
+        self.reach(layout.frame(board, 0))?;
         let fuse = get16(bank, layout.fuse(board));
         let frame = |page| self.frame(layout.frame(board, page));
-        let volatile = bank[layout.volatile(board)] as usize;
-        let record = |slot| self.record(layout.volatile_slot(board, slot));
-        Board {
-            state,
-            selector: bank[layout.selector(board)] as usize,
+        Some(Board {
+            state: names::state(bank[layout.state(board)]),
+            selector: bank[layout.selector(board)],
             fuse: (fuse != NO_FUSE).then_some(fuse),
             number: get32(bank, layout.number(board)),
             since: get16(bank, layout.since(board)),
-            place: (state == "replaying").then_some(bank[layout.place(board)]),
-            recovery_point: recovery_point(bank, board),
-            frames: (0..layout.pages).map(frame).collect(),
-            volatile: (0..volatile).map(record).collect(),
-            areas: [0, 1].map(|which| self.area(layout.area(board, which))),
-        }
+            place: bank[layout.place(board)],
+            frames: (0..layout.pages).map_while(frame).collect(),
+            volatile: self.log(layout.volatile(board), layout.volatile_slot(board, 0)),
+            areas: (0..2)
+                .map_while(|which| self.area(layout.area(board, which)))
+                .collect(),
+        })
     }
 }
 
-/// Reads the bytes of a well-formed bank.
-pub fn read(bank: &[u8]) -> Bank {
-    let layout = Layout::of(bank);
+/// Reads bytes that lie as the layout says.
+pub fn read(bank: &[u8], layout: Layout) -> Bank {
     let reader = Reader { bank, layout };
     Bank {
-        pages: (0..layout.pages).map(|page| reader.entry(page)).collect(),
+        layout,
+        pages: (0..layout.pages)
+            .map_while(|page| reader.entry(page))
+            .collect(),
         boards: (0..layout.boards)
-            .map(|board| reader.board(board))
+            .map_while(|board| reader.board(board))
             .collect(),
     }
 }

@@ -1,10 +1,16 @@
 //! Runs a script on the proved engine and prints, after its last line or a named one, the bank in tables.
-//! A file that begins as a bank does is taken as the bytes of one and printed as it is.
+//! The bytes of a bank are printed as they are; if they are not well formed, behind the first rule that they break.
 
 mod bank;
+mod diagnosis;
 #[allow(dead_code)]
 #[path = "../../../tests/compare/src/engines.rs"]
 mod engines;
+mod fault;
+mod names;
+#[path = "../../../tests/compare/src/place.rs"]
+mod place;
+mod rules;
 mod table;
 mod words;
 
@@ -17,7 +23,14 @@ use std::io::{self, Read, Write};
 use std::process::ExitCode;
 
 const USAGE: &str =
-    "usage: show FILE [LINE]    FILE is a script or the bytes of a bank, - for standard input";
+    "usage: show FILE [LINE]    FILE is a script or the bytes of a bank, - for standard input.
+       status 1: the bytes are no well-formed bank; 2: nothing could be shown";
+
+/// What is printed, and whether it is of a well-formed bank.
+struct Shown {
+    text: String,
+    well_formed: bool,
+}
 
 /// Where a run stands: the bank if there is one, and the latest line with what it answered.
 #[derive(Default)]
@@ -81,36 +94,62 @@ fn run(script: &[u8], last: Option<u32>) -> Result<Run, String> {
     }
 }
 
-/// The tables of a bank; the engine looks first whether the bytes are one.
-fn tables(bytes: &mut [u8]) -> Result<String, String> {
+/// Every bank has a byte that no text has, such as 0; erased memory has no other.
+fn is_bank(bytes: &[u8]) -> bool {
+    let text = |byte: &u8| matches!(byte, b'\t' | b'\n' | b'\r' | b' '..=b'~');
+    bytes.starts_with(&HEAD) || !bytes.iter().all(text)
+}
+
+/// Whether the engine finds the bytes to be a well-formed bank.
+fn well_formed(bytes: &mut [u8]) -> bool {
     let refused_by_any_bank = Line::Call(Call::Cut { board: u32::MAX });
-    match unpacked(archive(bytes, &refused_by_any_bank)).code {
-        1 => Err("these bytes begin as a bank does, but they are no well-formed bank".into()),
-        _ => Ok(table::print(&bank::read(bytes))),
+    unpacked(archive(bytes, &refused_by_any_bank)).code != 1
+}
+
+/// The tables of all that can be read.
+fn tables(bytes: &[u8]) -> String {
+    match diagnosis::layout(bytes) {
+        Some(layout) => table::print(&bank::read(bytes, layout)),
+        None => "\nNo table can be printed: where the fields are follows from the numbers of boards and pages in the head.\n".into(),
     }
 }
 
-fn show(file: &str, last: Option<u32>) -> Result<String, String> {
-    let mut bytes = input(file)?;
-    if bytes.starts_with(&HEAD) {
-        return match last {
-            None => Ok(format!("The bytes of a bank\n{}", tables(&mut bytes)?)),
-            Some(_) => Err("these are the bytes of a bank, and they have no lines".into()),
-        };
+fn show_bytes(bytes: &mut [u8]) -> Shown {
+    let well_formed = well_formed(bytes);
+    let title = match diagnosis::fault(bytes) {
+        _ if well_formed => "The bytes of a bank\n".into(),
+        Some(fault) => format!("These bytes are no well-formed bank\n{fault}"),
+        None => "The engine finds no well-formed bank in these bytes, and this program no broken rule: one of the two is wrong\n".into(),
+    };
+    Shown {
+        text: title + &tables(bytes),
+        well_formed,
     }
+}
+
+fn show_script(script: &[u8], last: Option<u32>) -> Result<Shown, String> {
     let Run {
         bank,
         lines,
         text,
         answer,
-    } = run(&bytes, last)?;
-    let Some(mut bank) = bank else {
+    } = run(script, last)?;
+    let Some(bank) = bank else {
         return Err(format!("there is no bank after line {lines}, {text} ({answer}): line 1 must make one, as N 2 1 does"));
     };
-    Ok(format!(
-        "After line {lines}, {text}: {answer}\n{}",
-        tables(&mut bank)?
-    ))
+    Ok(Shown {
+        text: format!("After line {lines}, {text}: {answer}\n{}", tables(&bank)),
+        well_formed: true,
+    })
+}
+
+fn show(file: &str, last: Option<u32>) -> Result<Shown, String> {
+    let mut bytes = input(file)?;
+    match (is_bank(&bytes), last) {
+        (true, Some(_)) => Err("these are the bytes of a bank, and they have no lines".into()),
+        (true, None) => Ok(show_bytes(&mut bytes)),
+        (false, _) => show_script(&bytes, last),
+    }
 }
 
 /// A line's number, from 1 on.
@@ -132,14 +171,14 @@ fn main() -> ExitCode {
         }
     };
     match shown {
-        // A reader that closes early has seen enough.
-        Ok(text) => {
+        Ok(Shown { text, well_formed }) => {
+            // A reader that closes early has seen enough.
             let _ = io::stdout().write_all(text.as_bytes());
-            ExitCode::SUCCESS
+            ExitCode::from(!well_formed as u8)
         }
         Err(sentence) => {
             eprintln!("show: {sentence}.");
-            ExitCode::FAILURE
+            ExitCode::from(2)
         }
     }
 }

@@ -1,6 +1,8 @@
 //! A bank as tables for people: short headings, aligned columns.
 
-use crate::bank::{Bank, Board, Frame, Record};
+use crate::bank::{Area, Bank, Board, Frame, Log, Record};
+use crate::names::doubted;
+use second::layout::SLOTS;
 use std::fmt::Write;
 
 enum Column {
@@ -46,6 +48,11 @@ fn or_none<T: ToString>(value: Option<T>) -> String {
     value.map_or("none".into(), |value| value.to_string())
 }
 
+/// A question mark for what can't be read.
+fn or_unknown<T: ToString>(value: Option<T>) -> String {
+    value.map_or("?".into(), |value| value.to_string())
+}
+
 /// In hex, in groups of four; "zero" if they all are.
 fn hex(bytes: &[u8]) -> String {
     if bytes.iter().all(|byte| *byte == 0) {
@@ -63,7 +70,8 @@ fn directory(out: &mut String, bank: &Bank) {
     let rows = bank.pages.iter().enumerate().map(|(page, entry)| {
         let copies: Row = entry.copies.iter().map(usize::to_string).collect();
         let copies = (!copies.is_empty()).then(|| copies.join(" "));
-        [page.to_string(), entry.owner.to_string(), or_none(copies)]
+        let owner = doubted(entry.owner, (entry.owner as usize) < bank.layout.boards);
+        [page.to_string(), owner, or_none(copies)]
     });
     *out += "\nDirectory\n";
     let columns = [Right("page"), Right("owner"), Left("copies")];
@@ -74,11 +82,11 @@ fn boards(out: &mut String, bank: &Bank) {
     let rows = bank.boards.iter().enumerate().map(|(at, board)| {
         [
             at.to_string(),
-            board.state.into(),
+            board.state.clone(),
             or_none(board.fuse),
             board.number.to_string(),
             board.since.to_string(),
-            board.place.unwrap_or(0).to_string(),
+            board.place.to_string(),
         ]
     });
     *out += "\nBoards\n";
@@ -93,16 +101,23 @@ fn boards(out: &mut String, bank: &Bank) {
     table(out, "", columns, rows.collect());
 }
 
+fn stored_count(area: &Area) -> String {
+    doubted(area.log.count, area.log.count as usize <= SLOTS)
+}
+
 fn stable(out: &mut String, bank: &Bank) {
+    let number = |area: Option<&Area>| or_unknown(area.map(|area| area.number));
+    let records = |area: Option<&Area>| or_unknown(area.map(stored_count));
     let rows = bank.boards.iter().enumerate().map(|(at, board)| {
+        let (selected, spare) = (board.selected(), board.spare());
         [
             at.to_string(),
-            board.selector.to_string(),
-            board.selected().number.to_string(),
-            board.selected().records.len().to_string(),
-            board.recovery_point.to_string(),
-            board.spare().number.to_string(),
-            board.spare().records.len().to_string(),
+            doubted(board.selector, board.selector <= 1),
+            number(selected),
+            records(selected),
+            or_unknown(selected.and_then(Area::recovery_point)),
+            number(spare),
+            records(spare),
         ]
     });
     *out += "\nStable memory\n";
@@ -118,14 +133,15 @@ fn stable(out: &mut String, bank: &Bank) {
     table(out, "", columns, rows.collect());
 }
 
-/// A row for each page with a right, and one for all others.
+/// A row for each page with a right, or with bytes that there shouldn't be, and one for all others.
 fn frames(out: &mut String, frames: &[Frame]) {
-    let held = |(_, frame): &(usize, &Frame)| frame.right != "none";
+    let held =
+        |(_, frame): &(usize, &Frame)| frame.right != "none" || frame.bytes.iter().any(|b| *b != 0);
     let mut rows: Vec<[String; 3]> = frames
         .iter()
         .enumerate()
         .filter(held)
-        .map(|(page, frame)| [page.to_string(), frame.right.into(), hex(&frame.bytes)])
+        .map(|(page, frame)| [page.to_string(), frame.right.clone(), hex(&frame.bytes)])
         .collect();
     if rows.len() < frames.len() {
         let others = if rows.is_empty() { "all" } else { "others" };
@@ -139,36 +155,69 @@ fn frames(out: &mut String, frames: &[Frame]) {
     );
 }
 
-/// The stored log of the selected area, then the volatile log, which goes on where that ends.
-fn log(out: &mut String, board: &Board) {
-    let used = board.place.unwrap_or(0) as usize;
-    let stored = board
-        .selected()
-        .records
-        .iter()
-        .enumerate()
-        .map(|(at, record)| {
-            let place = if at < used { "stored, used" } else { "stored" };
-            (place, record)
+type LogRow = [String; 6];
+
+/// A row for each record of a log that goes on after some access.
+fn records(
+    log: &Log,
+    pages: usize,
+    mut access: Option<u64>,
+    place: impl Fn(usize) -> String,
+) -> Vec<LogRow> {
+    let row = |(at, record): (usize, &Record)| {
+        access = access.map(|access| access + record.count as u64);
+        [
+            place(at),
+            record.kind.clone(),
+            doubted(record.page, (record.page as usize) < pages),
+            record.count.to_string(),
+            or_unknown(access),
+            record_bytes(record),
+        ]
+    };
+    log.records.iter().enumerate().map(row).collect()
+}
+
+/// The selected area's log; those of both areas if none is selected.
+fn stored(board: &Board, pages: usize) -> Vec<LogRow> {
+    if let Some(area) = board.selected() {
+        return records(&area.log, pages, Some(area.number as u64), |at| {
+            let used = at < board.place as usize;
+            if used { "stored, used" } else { "stored" }.into()
         });
-    let volatile = board.volatile.iter().map(|record| ("volatile", record));
-    let mut access = board.selected().number as u64;
-    let rows: Vec<[String; 6]> = stored
-        .chain(volatile)
-        .map(|(place, record)| {
-            access += record.count as u64;
-            [
-                place.into(),
-                record.kind.into(),
-                record.page.to_string(),
-                record.count.to_string(),
-                access.to_string(),
-                record_bytes(record),
-            ]
-        })
-        .collect();
+    }
+    let of = |(which, area): (usize, &Area)| {
+        let place = |_| format!("area {which}");
+        records(&area.log, pages, Some(area.number as u64), place)
+    };
+    board.areas.iter().enumerate().flat_map(of).collect()
+}
+
+/// Both areas, for a board that has selected none.
+fn areas(out: &mut String, board: &Board) {
+    for (which, area) in board.areas.iter().enumerate() {
+        let (number, count) = (area.number, stored_count(area));
+        let _ = writeln!(out, "  area {which}: number {number}, records {count}");
+    }
+}
+
+/// The stored log, then the volatile one, which goes on where that ends.
+fn log(out: &mut String, board: &Board, pages: usize) {
+    let mut rows = stored(board, pages);
+    let access = board.selected().and_then(Area::recovery_point);
+    let volatile = records(&board.volatile, pages, access, |_| "volatile".into());
+    rows.extend(volatile);
     if rows.is_empty() {
-        *out += "  log: empty\n";
+        let counts = [
+            Some(board.volatile.count),
+            board.selected().map(|area| area.log.count),
+        ];
+        let empty = counts == [Some(0); 2];
+        *out += if empty {
+            "  log: empty\n"
+        } else {
+            "  log: missing\n"
+        };
         return;
     }
     let columns = [
@@ -182,9 +231,10 @@ fn log(out: &mut String, board: &Board) {
     table(out, "  ", columns, rows);
 }
 
+/// Those of a shown or dropped record are zero, and then not worth a word.
 fn record_bytes(record: &Record) -> String {
-    match record.kind {
-        "shown" | "dropped" => String::new(),
+    match record.kind.as_str() {
+        "shown" | "dropped" if record.bytes.iter().all(|byte| *byte == 0) => String::new(),
         _ => hex(&record.bytes),
     }
 }
@@ -197,7 +247,10 @@ pub fn print(bank: &Bank) -> String {
     for (at, board) in bank.boards.iter().enumerate() {
         let _ = writeln!(out, "\nBoard {at}");
         frames(&mut out, &board.frames);
-        log(&mut out, board);
+        if board.selected().is_none() {
+            areas(&mut out, board);
+        }
+        log(&mut out, board, bank.layout.pages);
     }
     out
 }
