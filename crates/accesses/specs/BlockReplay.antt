@@ -54,7 +54,7 @@ module _ {pages : ℕ} {x : Board} (ok : FieldsOk pages x) (a : Access) (h : Rep
   taken-since = omega (arith, tookDue-took a x .since, h .since)
 
   pub taken-right : lacking a (y .working .frames) ≡ false
-  taken-right = tookDue-took a x .right (h .fits) (rw (ok .frames .count) (h .page))
+  taken-right = tookDue-took a x .right (h .fits) (rw (ok .working .frames .count) (h .page))
 
 module _ {pages : ℕ} {x : Board} (ok : FieldsOk pages x) (writes : Bool) (p o v : ℕ) (small : v < byteValues)
     (h : Repeats pages (readOrWrite writes p o v) x) where

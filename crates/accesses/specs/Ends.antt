@@ -12,10 +12,10 @@ use Rattle.model.specs.Definitions.Layout.{mostPages}
 use Rattle.model.specs.Definitions.Parts.{update, eachFrom, each, member}
 use Rattle.model.specs.Definitions.Bank.{Board, Bank, boardAt, entryAt, onBoard}
 use Rattle.model.specs.Definitions.Steps.{step}
-use Rattle.model.specs.Definitions.Replay.{settledFrame, settled, endReplay}
+use Rattle.model.specs.Definitions.BoardRuns.{BoardRun, checkpointOn}
+use Rattle.model.specs.Definitions.Replay.{settledFrame, settled, settle, endReplay}
 use Rattle.model.specs.Laws.Logic.{byBool}
 use Rattle.model.specs.Laws.Boards.{update-update, boards-onBoard, boardAt-same}
-use Rattle.stores.specs.BoardRuns.{BoardRun, checkpointOn}
 use Rattle.stores.specs.Lifted.{lifted, lifted-lost, lifted-going, checkpoint-lifted}
 use Rattle.exchange.specs.Progress.{running}
 
@@ -131,7 +131,7 @@ module _ (b n : ℕ) (k : Bank) (h : b < length (k .boards)) where
       (λ t. rw (lifted-going b n (onBoard b f k) r t, lifted-going b n k r t, u))
 
   pub endReplay-lifted : endReplay b (running n k) ≡ lifted b n k (checkpointOn (length (k .directory)) (settled owns (boardAt k b)))
-  unfolding endReplay step onBoard
+  unfolding endReplay step onBoard settle
   endReplay-lifted =
       let f : Board → Board = settled owns in
       let j : Bank = onBoard b f k in

@@ -20,10 +20,9 @@ use Rattle.model.specs.Definitions.Calls.{firstOf, unless, finished, copiesOut,
 use Rattle.model.specs.Definitions.Calls.{live}
 use Rattle.model.specs.Laws.Logic.{byBool, byEq, clash}
 use Rattle.model.specs.Laws.Runs.{SameSizes}
-use Rattle.model.specs.Laws.Runs.Calls.{follows-prepared}
 use Rattle.model.specs.Laws.Keeps.Clauses.{up-below}
 use Rattle.model.specs.Contracts.{Space, Ready, CanAccess}
-use Rattle.model.specs.Laws.Keeps.Live.{can-drop, prepared-keeps, prepared-ready}
+use Rattle.model.specs.Laws.Keeps.Live.{can-drop, prepared-ready}
 use Rattle.steps.specs.Blocks.{readOrWrite}
 use Rattle.exchange.specs.declared.progress.Loss.{Loss}
 use Rattle.exchange.specs.declared.progress.Loss.the-variants.{Nobody, Board}
@@ -31,6 +30,7 @@ use Rattle.exchange.specs.Progress.{running, got, lossOf, Came}
 use Rattle.exchange.specs.Banks.{Holds, OfBank, holds-wellFormed, holds-decode, holds-of}
 use Rattle.accesses.specs.Needs.{member-zero, foundIn}
 use Rattle.accesses.specs.Results.{Answered}
+use Rattle.model.specs.Laws.Moves.Calls.{prepared-keeps, prepared-sizes}
 
 -- a page without the copies that were out, if any were
 unfoldable pub withoutOut : ℕ → Bank → Bank
@@ -162,7 +162,7 @@ module _ (b : ℕ) (a : Access) (n : ℕ) (k : Bank) (w : WellFormed k) (can : C
 
   pub ahead-of : {s : List ℕ} → s ≡ encode (ahead .bank) → (pages : ℕ) → pages ≡ length (k .directory) → OfBank pages b s
   ahead-of e pages p =
-      let z : SameSizes k (ahead .bank) = follows-prepared {By = λ c. c ≡ c} b a refl (running n k) refl .sizes in
+      let z : SameSizes k (ahead .bank) = prepared-sizes b a (running n k) in
       holds-of (ahead-holds e) pages b (p ∙ sym (z .pages)) (rw (z .boards) (up-below k b (can .up)))
 
   pub ahead-ready : {s : List ℕ} → s ≡ encode (ahead .bank) → none ≡ ahead .lost → Ready a (boardAt (decode s) b)

@@ -22,12 +22,12 @@ use Rattle.model.specs.Laws.Lists.{update-set}
 use Rattle.model.specs.Laws.Boards.{boards-onBoard, boardAt-same, onBoard-onBoard}
 use Rattle.model.specs.Laws.Runs.{SameSizes, follows-endReplay}
 use Rattle.model.specs.Contracts.{InReplay, WellFormedBut}
-use Rattle.model.specs.Laws.Keeps.Replay.{endReplay-keeps}
 use Rattle.exchange.specs.Banks.{Holds, holds-wellFormed, holds-decode, holds-of}
 use Rattle.exchange.specs.Progress.{running, lostBy, Came}
 use Rattle.accesses.specs.Asks.{Asks}
 use Rattle.accesses.specs.Results.{Answered, endedAs}
 use Rattle.accesses.specs.BlockReplay.{replayedBoard, replayedTo}
+use Rattle.model.specs.Laws.Moves.Stores.{endReplay-keeps}
 
 -- steps that do the same to a board do the same to the bank
 onBoard-at : (b : ℕ) (f g : Board → Board) (k : Bank) → b < length (k .boards) → f (boardAt k b) ≡ g (boardAt k b) → onBoard b f k ≡ onBoard b g k
@@ -176,7 +176,7 @@ module _ (q : Ask) (k : Bank) (h : q .board < length (k .boards)) (w : WellForme
       → q .page < pages → q .offset < pageSize → Asks boards pages q s
   ended-asks {s} boards pages e m p l o =
       let y : Holds s (ended .bank) = holds-wellFormed e ended-formed in
-      let z : SameSizes k (ended .bank) = follows-endReplay {By = λ c. c ≡ c} (q .board) (running 0 k) refl .sizes in
+      let z : SameSizes k (ended .bank) = follows-endReplay (q .board) (running 0 k) .sizes in
       record {
         bank = holds-of y pages (q .board) (p ∙ sym (z .pages)) (rw (z .boards) h);
         count = m ∙ sym (rw (holds-decode y) (z .boards));

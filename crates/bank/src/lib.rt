@@ -7,7 +7,8 @@ use engine::make::make;
 use engine::power::cut;
 use engine::power::fuse;
 use engine::restart::restart;
-ghost use Rattle.model.specs.Definitions.Calls.{make as making, call, Reading, Writing, Checkpointing, Cutting, Fusing, Restarting};
+ghost use Rattle.model.specs.Definitions.Steps.{Read, Write};
+ghost use Rattle.model.specs.Definitions.Calls.{make as making, call, Accessing, Checkpointing, Cutting, Fusing, Restarting};
 ghost use Rattle.bank.specs.Contracts.{RepliedPacked};
 
 #[no_mangle]
@@ -19,14 +20,14 @@ pub extern "C" fn bank_make(bank: &mut [u8], boards: u32, pages: u32) -> u64
 
 #[no_mangle]
 pub extern "C" fn bank_read(bank: &mut [u8], board: u32, page: u32, offset: u32) -> u64
-    ensures { λ r. ⌜ RepliedPacked (call (Reading board page offset) (now (bank .entry))) r (now (bank .exit)) ⌝ }
+    ensures { λ r. ⌜ RepliedPacked (call (Accessing board (Read page offset)) (now (bank .entry))) r (now (bank .exit)) ⌝ }
 {
     pack(read(bank, board, page, offset))
 }
 
 #[no_mangle]
 pub extern "C" fn bank_write(bank: &mut [u8], board: u32, page: u32, offset: u32, value: u32) -> u64
-    ensures { λ r. ⌜ RepliedPacked (call (Writing board page offset value) (now (bank .entry))) r (now (bank .exit)) ⌝ }
+    ensures { λ r. ⌜ RepliedPacked (call (Accessing board (Write page offset value)) (now (bank .entry))) r (now (bank .exit)) ⌝ }
 {
     pack(write(bank, board, page, offset, value))
 }

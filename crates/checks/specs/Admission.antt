@@ -4,7 +4,7 @@ use Prim.Native.Nat.{ℕ, _<_}
 use mathlib.Core.Bool.{Bool, true, false, _&&_}
 use lib.Dec.{ltb}
 use borrow.Author.Tests.{ltb-true}
-use Rattle.model.specs.Definitions.Layout.{byteValues, pageSize}
+use Rattle.model.specs.Definitions.Layout.{byteValues, pageSize, lastSince}
 use Rattle.model.specs.Definitions.Bank.{Board}
 use Rattle.model.specs.Definitions.Steps.{Access}
 use Rattle.model.specs.Definitions.Replay.{differs}
@@ -25,19 +25,19 @@ value-fits pages p o v h = ltb-true v byteValues (and-right (ltb o pageSize) _ (
 -- ---- codes 4 and 5
 
 unfoldable pub admissionOf : Bool → Access → Board → Admission
-admissionOf rep a x = elim (countersFull x) [ true ↦ Full | false ↦ elim (rep && differs a x) [ true ↦ Differs | false ↦ Pass ] ]
+admissionOf rep a x = elim (countersFull lastSince x) [ true ↦ Full | false ↦ elim (rep && differs a x) [ true ↦ Differs | false ↦ Pass ] ]
 
 -- the tests in the code's order
 module _ (a : Access) (x : Board) where
-  pub admits-full : (rep : Bool) → countersFull x ≡ true → Full ≡ admissionOf rep a x
+  pub admits-full : (rep : Bool) → countersFull lastSince x ≡ true → Full ≡ admissionOf rep a x
   unfolding admissionOf
   admits-full rep t = cc
 
-  pub admits-live : (rep : Bool) → countersFull x ≡ false → rep ≡ false → Pass ≡ admissionOf rep a x
+  pub admits-live : (rep : Bool) → countersFull lastSince x ≡ false → rep ≡ false → Pass ≡ admissionOf rep a x
   unfolding admissionOf
   admits-live rep t u = cc
 
-  module _ (rep : Bool) (t : countersFull x ≡ false) (u : rep ≡ true) where
+  module _ (rep : Bool) (t : countersFull lastSince x ≡ false) (u : rep ≡ true) where
     pub admits-different : differs a x ≡ true → Differs ≡ admissionOf rep a x
     unfolding admissionOf
     admits-different v = cc

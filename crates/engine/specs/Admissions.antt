@@ -13,19 +13,18 @@ use Rattle.types.specs.declared.State.the-variants.{Replaying}
 use Rattle.types.specs.declared.Answer.{Answer}
 use Rattle.types.specs.declared.Answer.the-variants.{OutOfRange, WrongState, CountersFull, ReplayDiffers}
 use Rattle.types.specs.declared.Outcome.{Outcome}
-use Rattle.model.specs.Definitions.Layout.{byteValues, pageSize}
+use Rattle.model.specs.Definitions.Layout.{byteValues, pageSize, lastSince}
 use Rattle.model.specs.Definitions.Bank.{Board, Bank, boardAt}
 use Rattle.model.specs.Definitions.Codec.{decode}
 use Rattle.model.specs.Definitions.WellFormed.{isDown, isReplaying}
 use Rattle.model.specs.Definitions.Steps.{start, Access}
 use Rattle.model.specs.Definitions.Replay.{differs}
-use Rattle.model.specs.Definitions.Calls.{Result, firstOf, unless, live, replaying, accessInRange, countersFull, accessRefusals, accessBank, callOf, refused}
-use Rattle.model.specs.Definitions.Calls.{call}
+use Rattle.model.specs.Definitions.Calls.{Result, firstOf, unless, live, replaying, accessInRange, countersFull, refusalsWithin, accessRefusals, accessWithin}
+use Rattle.model.specs.Definitions.Calls.{accessBank, refused, Accessing, callBank, call}
 use Rattle.model.specs.Laws.Logic.{byBool, and-left, and-right}
-use Rattle.model.specs.Laws.Calls.{callOf-bank}
 use Rattle.model.specs.Laws.Keeps.Live.{isReplaying-replaying}
 use Rattle.model.specs.Contracts.{CanAccess, Entered, IsBank}
-use Rattle.model.specs.Laws.Keeps.Calls.{entered-live, entered, fitting}
+use Rattle.model.specs.Laws.Keeps.Entered.{entered-live, entered, fitting}
 use Rattle.steps.specs.Blocks.{readOrWrite}
 use Rattle.exchange.specs.Progress.{running}
 use Rattle.accesses.specs.declared.ask.Ask.{Ask}
@@ -53,19 +52,19 @@ module _ (b : ℕ) (a : Access) (k : Bank) where
   x = boardAt k b
 
   pub access-out : accessInRange b a k ≡ false → accessBank b a k ≡ record { answer = OutOfRange; run = start k }
-  unfolding accessBank accessRefusals unless firstOf
+  unfolding accessWithin refusalsWithin unless firstOf
   access-out r = cc
 
   module _ (r : accessInRange b a k ≡ true) where
     pub access-down : isDown (x .state) ≡ true → accessBank b a k ≡ record { answer = WrongState b; run = start k }
-    unfolding accessBank accessRefusals unless firstOf
+    unfolding accessWithin refusalsWithin unless firstOf
     access-down d = cc
 
     module _ (d : isDown (x .state) ≡ false) {m : Admission} (told : m ≡ admissionOf (isReplaying (x .state)) a x) where
       pub access-full : m ≡ Full → accessBank b a k ≡ record { answer = CountersFull b; run = start k }
-      unfolding accessBank accessRefusals unless firstOf admissionOf
+      unfolding accessWithin refusalsWithin unless firstOf admissionOf
       access-full e =
-          byBool (countersFull x)
+          byBool (countersFull lastSince x)
           (λ t. cc)
           (λ t.
           byBool (isReplaying (x .state) && differs a x)
@@ -73,26 +72,26 @@ module _ (b : ℕ) (a : Access) (k : Bank) where
           (λ u. let z : _≡_ {A = ℕ} 0 1 = cc in absurd (omega arith)))
 
       pub access-differs : m ≡ Differs → accessBank b a k ≡ record { answer = ReplayDiffers b; run = start k }
-      unfolding accessBank accessRefusals unless firstOf admissionOf
+      unfolding accessWithin refusalsWithin unless firstOf admissionOf
       access-differs e =
-          byBool (countersFull x)
+          byBool (countersFull lastSince x)
           (λ t. let z : _≡_ {A = ℕ} 0 1 = cc in absurd (omega arith))
           (λ t. byBool (isReplaying (x .state) && differs a x) (λ u. cc) (λ u. let z : _≡_ {A = ℕ} 0 1 = cc in absurd (omega arith)))
 
       pub access-passes : m ≡ Pass → firstOf (accessRefusals b a k) ≡ none
-      unfolding accessRefusals firstOf admissionOf
+      unfolding refusalsWithin firstOf admissionOf
       access-passes e =
-          byBool (countersFull x)
+          byBool (countersFull lastSince x)
           (λ t. let z : _≡_ {A = ℕ} 0 1 = cc in absurd (omega arith))
           (λ t. byBool (isReplaying (x .state) && differs a x) (λ u. let z : _≡_ {A = ℕ} 0 1 = cc in absurd (omega arith)) (λ u. cc))
 
   module _ (e : firstOf (accessRefusals b a k) ≡ none) where
     pub access-repeats : isReplaying (x .state) ≡ true → accessBank b a k ≡ replaying b a k
-    unfolding accessBank unless
+    unfolding accessWithin unless
     access-repeats t = cc
 
     pub access-live : isReplaying (x .state) ≡ false → accessBank b a k ≡ live b a (start k)
-    unfolding accessBank unless
+    unfolding accessWithin unless
     access-live t = cc
 
 -- ---- a board that has power, and numbers that fit: what the code knows when it has made the tests of its block
@@ -160,16 +159,18 @@ module _ {b : ℕ} {s : List ℕ} {st : State} (on : OnBoard b s st) (writes : B
   numbers : accessInRange b (readOrWrite writes p o v) (decode s) ≡ numbersFit pages p o v
   numbers = in-range writes b p o v (decode s) small (listed on) ∙ rw e
 
-  pub numbers-refused : numbersFit pages p o v ≡ false → call (callOf b (readOrWrite writes p o v)) s ≡ refused OutOfRange s
+  pub numbers-refused : numbersFit pages p o v ≡ false → call (Accessing b (readOrWrite writes p o v)) s ≡ refused OutOfRange s
+  unfolding callBank
   numbers-refused h =
-      call-refused s (on .formed) (callOf b (readOrWrite writes p o v)) OutOfRange
-      (callOf-bank b (readOrWrite writes p o v) (decode s) ∙ access-out b (readOrWrite writes p o v) (decode s) (numbers ∙ h))
+      call-refused s (on .formed) (Accessing b (readOrWrite writes p o v)) OutOfRange
+      (access-out b (readOrWrite writes p o v) (decode s) (numbers ∙ h))
 
   module _ (h : numbersFit pages p o v ≡ true) where
-    pub access-refused : isDown st ≡ true → call (callOf b (readOrWrite writes p o v)) s ≡ refused (WrongState b) s
+    pub access-refused : isDown st ≡ true → call (Accessing b (readOrWrite writes p o v)) s ≡ refused (WrongState b) s
+    unfolding callBank
     access-refused d =
-        call-refused s (on .formed) (callOf b (readOrWrite writes p o v)) (WrongState b)
-        (callOf-bank b (readOrWrite writes p o v) (decode s) ∙ access-down b (readOrWrite writes p o v) (decode s) (numbers ∙ h) (rw (on .state) d))
+        call-refused s (on .formed) (Accessing b (readOrWrite writes p o v)) (WrongState b)
+        (access-down b (readOrWrite writes p o v) (decode s) (numbers ∙ h) (rw (on .state) d))
 
     pub asks-of : Asks (length (decode s .boards)) pages (record { board = b; writes = writes; page = p; offset = o; value = v }) s
     asks-of =

@@ -16,10 +16,9 @@ use Rattle.model.specs.Definitions.Bank.{Bank, boardAt, onBoard}
 use Rattle.model.specs.Definitions.Codec.{encode, decode}
 use Rattle.model.specs.Definitions.WellFormed.{isUp, isDown}
 use Rattle.model.specs.Definitions.Check.{wellFormed}
-use Rattle.model.specs.Definitions.Steps.{Run, start, step, powerOff, withFuse, checkpoint}
-use Rattle.model.specs.Definitions.Calls.{Result, firstOf, unless, finished, accessInRange, accessRefusals, accessBank, checkpointBank, cutBank, fuseBank}
-use Rattle.model.specs.Definitions.Calls.{restartBank, Call, Reading, Writing, Checkpointing, Cutting, Fusing, Restarting, callBank, Reply, refused, replyOf}
-use Rattle.model.specs.Definitions.Calls.{call}
+use Rattle.model.specs.Definitions.Steps.{Run, start, step, powerOff, withFuse, checkpoint, Read, Write}
+use Rattle.model.specs.Definitions.Calls.{Result, firstOf, unless, finished, accessInRange, refusalsWithin, accessWithin, checkpointBank, cutBank, fuseBank}
+use Rattle.model.specs.Definitions.Calls.{restartBank, Call, Accessing, Checkpointing, Cutting, Fusing, Restarting, callBank, Reply, refused, replyOf, call}
 use Rattle.model.specs.Laws.CodecBankBack.{encode-decode}
 use Rattle.model.specs.Laws.Codes.Statement.{boardNamed}
 use Rattle.model.specs.Laws.FewStores.{call-few}
@@ -129,9 +128,9 @@ module _ (s : List ℕ) (v : wellFormed s ≡ true) where
 
 -- "2: board ≥ N", of any call
 out-of-bank : (c : Call) (k : Bank) → ltb (boardNamed c) (length (k .boards)) ≡ false → callBank c k ≡ record { answer = OutOfRange; run = start k }
-unfolding boardNamed callBank accessInRange accessRefusals accessBank checkpointBank cutBank fuseBank restartBank unless firstOf
-out-of-bank (Reading b p o) k h = cc
-out-of-bank (Writing b p o v) k h = cc
+unfolding boardNamed callBank accessInRange refusalsWithin accessWithin checkpointBank cutBank fuseBank restartBank unless firstOf
+out-of-bank (Accessing b (Read p o)) k h = cc
+out-of-bank (Accessing b (Write p o v)) k h = cc
 out-of-bank (Checkpointing b) k h = cc
 out-of-bank (Cutting b) k h = cc
 out-of-bank (Fusing b n) k h = cc

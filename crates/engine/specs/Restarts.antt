@@ -16,11 +16,11 @@ use Rattle.model.specs.Definitions.Steps.{start}
 use Rattle.model.specs.Definitions.Replay.{loaded, usedUp, replayOver, endReplay, endIfOver}
 use Rattle.model.specs.Definitions.Calls.{firstOf, unless, finished, restartBank, Restarting, callBank, refused, call}
 use Rattle.model.specs.Laws.Boards.{boardAt-same}
-use Rattle.model.specs.Laws.BlockReplay.{loaded-fields}
 use Rattle.model.specs.Laws.Keeps.Clauses.{but, onBoard-but}
 use Rattle.model.specs.Contracts.{Fits, InReplay, WellFormedBut, mostStores}
 use Rattle.model.specs.Laws.Keeps.Replay.{loaded-inReplay, usedUp-inReplay}
 use Rattle.model.specs.Laws.Runs.{sizes-onBoard}
+use Rattle.model.specs.Laws.BoardFields.{loaded-fields}
 use Rattle.replay.specs.Used.{usedUp-fields}
 use Rattle.exchange.specs.Banks.{Holds, OfBank, holds-decode, holds-of}
 use Rattle.exchange.specs.Progress.{running, lostBy, Came}

@@ -24,7 +24,8 @@ ghost use Rattle.model.specs.Definitions.Layout.{byteValues};
 ghost use Rattle.model.specs.Definitions.Bank.{boardAt};
 ghost use Rattle.model.specs.Definitions.Codec.{decode};
 ghost use Rattle.model.specs.Definitions.WellFormed.{isDown, isReplaying};
-ghost use Rattle.model.specs.Definitions.Calls.{accessBank, call, callOf, Reading, Writing};
+ghost use Rattle.model.specs.Definitions.Steps.{Read, Write};
+ghost use Rattle.model.specs.Definitions.Calls.{accessBank, call, Accessing};
 ghost use Rattle.steps.specs.Blocks.{readOrWrite};
 ghost use Rattle.accesses.specs.Asks.{asked, Asks};
 ghost use Rattle.accesses.specs.Results.{Answered};
@@ -54,7 +55,7 @@ fn access_board(bank: &mut [u8], pages: usize, ask: Ask, replaying: bool) -> Out
 // A read or a write, by its flag; a read's value is one that fits.
 fn access(bank: &mut [u8], board: u32, writes: bool, page: u32, offset: u32, value: u32) -> Outcome
     requires { ⌜ (writes ≡ false → value < byteValues) ⌝ }
-    ensures reply { λ r. ⌜ Replied (call (callOf board (readOrWrite writes page offset value)) (now (bank .entry))) r (now (bank .exit)) ⌝ }
+    ensures reply { λ r. ⌜ Replied (call (Accessing board (readOrWrite writes page offset value)) (now (bank .entry))) r (now (bank .exit)) ⌝ }
     ensures few { λ r. ⌜ r .stores ≤ mostStores ⌝ }
 {
     match enter(bank, board) {
@@ -80,14 +81,14 @@ fn access(bank: &mut [u8], board: u32, writes: bool, page: u32, offset: u32, val
 }
 
 pub fn read(bank: &mut [u8], board: u32, page: u32, offset: u32) -> Outcome
-    ensures reply { λ r. ⌜ Replied (call (Reading board page offset) (now (bank .entry))) r (now (bank .exit)) ⌝ }
+    ensures reply { λ r. ⌜ Replied (call (Accessing board (Read page offset)) (now (bank .entry))) r (now (bank .exit)) ⌝ }
     ensures few { λ r. ⌜ r .stores ≤ mostStores ⌝ }
 {
     access(bank, board, false, page, offset, 0)
 }
 
 pub fn write(bank: &mut [u8], board: u32, page: u32, offset: u32, value: u32) -> Outcome
-    ensures reply { λ r. ⌜ Replied (call (Writing board page offset value) (now (bank .entry))) r (now (bank .exit)) ⌝ }
+    ensures reply { λ r. ⌜ Replied (call (Accessing board (Write page offset value)) (now (bank .entry))) r (now (bank .exit)) ⌝ }
     ensures few { λ r. ⌜ r .stores ≤ mostStores ⌝ }
 {
     access(bank, board, true, page, offset, value)

@@ -24,9 +24,11 @@ use Rattle.model.specs.Laws.Runs.Stores.{FlushedWith, show-changed, note-flush-
 use Rattle.model.specs.Laws.Keeps.Clauses.{up-below}
 use Rattle.model.specs.Contracts.{RoomFor, Space, CanFetch}
 use Rattle.model.specs.Laws.Keeps.Rights.{entry-at}
-use Rattle.model.specs.Laws.Keeps.Fetches.{show-keeps, room-taker, room-shower, room-owner, got-keeps, room-got}
+use Rattle.model.specs.Laws.Keeps.Fetches.{room-taker, room-shower, room-owner, room-got}
 use Rattle.exchange.specs.Banks.{Holds, OfBank, holds-bank, holds-decode, holds-wellFormed}
 use Rattle.exchange.specs.Progress.{running, Came, CanShow, getOwn}
+use Rattle.model.specs.Laws.Moves.Stores.{show-keeps}
+use Rattle.model.specs.Laws.Moves.Fetches.{got-keeps}
 
 -- ---- a run and its bytes
 
@@ -43,7 +45,7 @@ module _ {s : List ℕ} {n : ℕ} {o : Option ℕ} {r : Run} (c : Came s n o r) 
   came-step e w f ys h = rw (← came-on e w) (record { bytes = h .bytes; stores = refl; lost = refl })
 
   -- a run that lost it is passed on
-  pub came-lost : {By : ℕ → Type 0} {t : Run} (b : ℕ) → o ≡ some b → Follows By r t → Came s n o t
+  pub came-lost : {t : Run} (b : ℕ) → o ≡ some b → Follows r t → Came s n o t
   came-lost b e f = rw (f .lost b (sym (c .lost) ∙ e)) c
 
 -- ---- before the first stage
@@ -114,7 +116,7 @@ module _ {s : List ℕ} {pages b p o : ℕ} (ready : Ready GotCopy pages b p o s
   unfolding readFetch
   read-lost d e =
       let t : Run = show o p (running n (decode s)) in
-      rw (← ready .3) (came-lost ran {By = λ h. h ≡ o} d e (follows-step (giveCopy o b p) t (sizes-giveCopy o b p (t .bank))))
+      rw (← ready .3) (came-lost ran d e (follows-step (giveCopy o b p) t (sizes-giveCopy o b p (t .bank))))
 
   pub read-given : q ≡ none → (ys : List ℕ) → Holds ys (giveCopy o b p (decode l)) → Came ys m none (readFetch b p (running n (decode s)))
   unfolding readFetch
@@ -134,9 +136,9 @@ module _ {s : List ℕ} {pages b p o : ℕ} (ready : Ready GotOwn pages b p o s)
   write-lost d e =
       let r : Run = show o p (running n (decode s)) in
       rw (← ready .3)
-      (came-lost ran {By = λ h. h ≡ b} d e
+      (came-lost ran d e
       (follows-trans
-      (follows-note-flush b (Got GotOwn p) (λ k. frameOf k o p .bytes) r refl)
+      (follows-note-flush b (Got GotOwn p) (λ k. frameOf k o p .bytes) r)
       (follows-step (passOwnership o b p) (getOwn o b p r) (sizes-passOwnership o b p (getOwn o b p r .bank)))))
 
   -- after the writer's part
@@ -152,7 +154,7 @@ module _ {s : List ℕ} {pages b p o : ℕ} (ready : Ready GotOwn pages b p o s)
     unfolding writeFetch
     got-lost d e =
         let r : Run = getOwn o b p (running m (decode l)) in
-        rw (← ready .3, ← gave) (came-lost took {By = λ h. h ≡ b} d e (follows-step (passOwnership o b p) r (sizes-passOwnership o b p (r .bank))))
+        rw (← ready .3, ← gave) (came-lost took d e (follows-step (passOwnership o b p) r (sizes-passOwnership o b p (r .bank))))
 
     module _ (still : y ≡ none) where
       pub got-passed : (ys : List ℕ) → Holds ys (passOwnership o b p (decode j)) → Came ys t none (writeFetch b p (running n (decode s)))

@@ -9,10 +9,10 @@ use Rattle.model.specs.Definitions.Bank.{Board, boardAt, onBoard}
 use Rattle.model.specs.Definitions.Codec.{encodeBoard, encode, decode}
 use Rattle.model.specs.Definitions.WellFormed.{FieldsOk}
 use Rattle.model.specs.Definitions.Steps.{forgotten}
+use Rattle.model.specs.Definitions.BoardRuns.{BoardRun}
 use Rattle.model.specs.Laws.Boards.{boards-onBoard}
 use Rattle.steps.specs.Blocks.{boardOf}
 use Rattle.steps.specs.BankBlocks.{LentBlock, lent-board}
-use Rattle.stores.specs.BoardRuns.{BoardRun}
 use Rattle.stores.specs.Lifted.{lifted, lifted-lost, lifted-going}
 use Rattle.exchange.specs.Banks.{Holds, OfBank, holds-decode, holds-of, lent-holds}
 use Rattle.exchange.specs.Progress.{lostBy, Came}

@@ -141,7 +141,8 @@ module _ {d : List Entry} {h : History} {g : Option Rebuilt} {b : ℕ} {x : Boar
   frame-after p j f =
       rw (
         memoryAfter-snoc zeroMemory (h .entries) (entryOf b a (x .working .frames)),
-        frameAt-withBytes (cellsWritten a) (x .working .frames) (memoryAfter zeroMemory (h .entries)) p (rw (w .alone .fields .frames .count) j) (sym f),
+        frameAt-withBytes (cellsWritten a) (x .working .frames) (memoryAfter zeroMemory (h .entries)) p
+            (rw (w .alone .fields .working .frames .count) j) (sym f),
       )
 
   shown-after : next (Made (entryOf b a (x .working .frames))) (settledAs g x) ≡ settledAs none (onWorking (accessed a) x)

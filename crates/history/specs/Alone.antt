@@ -16,19 +16,17 @@ use Rattle.types.specs.declared.State.the-variants.{Down}
 use Rattle.types.specs.declared.Answer.{Answer}
 use Rattle.model.specs.Definitions.Bank.{Board, Bank, boardAt}
 use Rattle.model.specs.Definitions.WellFormed.{IsEmpty, Blank, PlaceOk, isReplaying, WellFormed}
-use Rattle.model.specs.Definitions.Steps.{Run, start, Read, Write}
-use Rattle.model.specs.Definitions.Calls.{Call, Reading, Writing, Checkpointing, Cutting, Fusing, Restarting, callBank}
+use Rattle.model.specs.Definitions.Steps.{Run, start, Access}
+use Rattle.model.specs.Definitions.Calls.{Call, Accessing, Checkpointing, Cutting, Fusing, Restarting, callBank}
 use Rattle.model.specs.Laws.Logic.{byBool}
 use Rattle.model.specs.Laws.Lists.{each-head, each-tail}
-use Rattle.model.specs.Laws.Boards.{boardAt-out}
+use Rattle.model.specs.Laws.Boards.{boardAt-out, byBoard}
 use Rattle.model.specs.Laws.Runs.{lost-not, SameSizes, sizes-same}
-use Rattle.model.specs.Laws.Runs.Calls.{call-follows}
+use Rattle.model.specs.Laws.Moves.{moves-follow}
 use Rattle.model.specs.Laws.Codes.Statement.{boardNamed}
-use Rattle.model.specs.Laws.Codes.Power.{byBoard}
 use Rattle.model.specs.Laws.Keeps.Clauses.{up-not-replaying, fits}
 use Rattle.model.specs.Contracts.{Fits}
 use Rattle.model.specs.Laws.Keeps.Live.{isReplaying-replaying}
-use Rattle.model.specs.Laws.Keeps.Calls.{call-keeps}
 use Rattle.model.specs.History.Statement.{accessOf}
 use Rattle.history.specs.Bystanders.{call-leaves}
 use Rattle.model.specs.History.AloneStatement.{Heard, heardOf, liveIn, heard, heardFrom, isAccess, endBank, endFrom, callsOf, SameOwned, SameStart, SameReplay}
@@ -36,6 +34,7 @@ use Rattle.history.specs.AloneBoards.{Same, same, same-seen}
 use Rattle.history.specs.AloneRuns.{sizes-both, SameAt, SameRun}
 use Rattle.history.specs.AloneCalls.{SameResult, SameAccess, answered, goesOn, access-same, checkpoint-refused, restart-refused, cut-same, fuse-same}
 use Rattle.history.specs.AloneCalls.{restart-same}
+use Rattle.model.specs.Laws.Moves.Calls.{call-moves, call-keeps}
 
 -- ==== one call of the board
 
@@ -44,23 +43,17 @@ data SameCall (b : ℕ) (c : Call) (k j : Bank) : Type 0 where
   gives : liveIn (accessOf c) k ≡ none → liveIn (accessOf c) j ≡ none → SameResult b (callBank c k) (callBank c j) → SameCall b c k j
   goes : (r s : Run) → liveIn (accessOf c) k ≡ some r → liveIn (accessOf c) j ≡ some s → SameRun b r s → SameCall b c k j
 
-reading-same : (b p o : ℕ) (k j : Bank) → SameAccess b (Read p o) k j → SameCall b (Reading b p o) k j
+accessing-same : (b : ℕ) (a : Access) (k j : Bank) → SameAccess b a k j → SameCall b (Accessing b a) k j
 unfolding liveIn accessOf callBank
-reading-same b p o k j (answered m n t) = gives m n t
-reading-same b p o k j (goesOn r s m n t) = goes r s m n t
-
-writing-same : (b p o v : ℕ) (k j : Bank) → SameAccess b (Write p o v) k j → SameCall b (Writing b p o v) k j
-unfolding liveIn accessOf callBank
-writing-same b p o v k j (answered m n t) = gives m n t
-writing-same b p o v k j (goesOn r s m n t) = goes r s m n t
+accessing-same b a k j (answered m n t) = gives m n t
+accessing-same b a k j (goesOn r s m n t) = goes r s m n t
 
 own-same : (c : Call) (k j : Bank) → SameAt (boardNamed c) k j → WellFormed k → WellFormed j → isReplaying (boardAt k (boardNamed c) .state) ≡ true
     → (isAccess (accessOf c) ≡ true → isReplaying (boardAt (callBank c k .run .bank) (boardNamed c) .state) ≡ false
     → isReplaying (boardAt (callBank c j .run .bank) (boardNamed c) .state) ≡ false → SameOwned (boardNamed c) k j)
     → SameCall (boardNamed c) c k j
 unfolding boardNamed liveIn accessOf isAccess callBank
-own-same (Reading b p o) k j s w v t h = reading-same b p o k j (access-same b (Read p o) k j s w v t (h refl))
-own-same (Writing b p o x) k j s w v t h = writing-same b p o x k j (access-same b (Write p o x) k j s w v t (h refl))
+own-same (Accessing b a) k j s w v t h = accessing-same b a k j (access-same b a k j s w v t (h refl))
 own-same (Checkpointing b) k j s w v t h = gives refl refl (checkpoint-refused b k j s t)
 own-same (Cutting b) k j s w v t h = gives refl refl (cut-same b k j s)
 own-same (Fusing b n) k j s w v t h = gives refl refl (fuse-same b k j s n)
@@ -147,7 +140,7 @@ module _ (b : ℕ) where
   passed c k w t m =
       record {
         formed = call-keeps c k;
-        sizes = call-follows c k .sizes;
+        sizes = moves-follow (call-moves c k w) .sizes;
         board = call-leaves c b k w (eqb-false (boardNamed c) b m) (λ u. up-not-replaying u (isReplaying-replaying (boardAt k b .state) t));
       }
 
@@ -292,7 +285,7 @@ module _ (b : ℕ) (k j : Bank) (h : SameStart b k j) where
         place = down-place x (h .down .0) (f .place) ∙ sym (down-place y (h .down .1) (g .place));
         frames =
             empty-same (x .working .frames) (y .working .frames) (p .frames) (q .frames)
-            (f .alone .fields .frames .count ∙ sym (h .pages) ∙ sym (g .alone .fields .frames .count));
+            (f .alone .fields .working .frames .count ∙ sym (h .pages) ∙ sym (g .alone .fields .working .frames .count));
         volatile = p .volatile ∙ sym (q .volatile);
         checkpointNumber = h .area .number;
         checkpointFrames = h .area .frames;

@@ -7,13 +7,13 @@ use lib.ListN.{set}
 use lib.Dec.{eqb}
 use Rattle.types.specs.declared.Record.{Record}
 use Rattle.model.specs.Definitions.Layout.{noFuse}
-use Rattle.model.specs.Definitions.Bank.{Log, Area, Working, Board, emptyFrame, onWorking, onSpare}
+use Rattle.model.specs.Definitions.Bank.{Log, Area, Working, Board, emptyFrame, withLog, onWorking, onSpare}
 use Rattle.model.specs.Definitions.Steps.{poweredOff, withFuse, burnt, storedSelector, restedWorking, Access, accessed}
 use Rattle.model.specs.Definitions.Replay.{loaded, recordsLeft, used, useUp, usedUp, due, differs, tookGot, tookDue, replayOver, settled, replayed}
 use Rattle.model.specs.Laws.Logic.{byBool, byOption}
 use Rattle.history.specs.Repeating.{tookDue-none, tookDue-some}
 use Rattle.history.specs.Replaying.{usedUp-log}
-use Rattle.history.specs.Checkpoints.{Saved}
+use Rattle.model.specs.Moves.{Saved}
 use Rattle.model.specs.History.AloneStatement.{Seen, seen}
 use Rattle.model.specs.Laws.Codes.Tests.{byKind}
 
@@ -55,11 +55,8 @@ same-seen s = cc
 -- ==== the steps of a replay
 
 -- useUp hands the volatile log on
-unfoldable withLog : Log → Working → Working
-withLog l w = record { number = w .number; since = w .since; place = w .place; frames = w .frames; log = l }
-
 useUp-withLog : (l : Log) (rs : List Record) (w : Working) → useUp rs (withLog l w) ≡ withLog l (useUp rs w)
-unfolding useUp withLog used
+unfolding useUp used
 useUp-withLog l [] w = refl
 useUp-withLog l (r ∷ rs) w =
     byBool (eqb (r .count) (w .since))
@@ -88,7 +85,7 @@ module _ {x y : Board} (s : Same x y) where
   over-same = cc
 
   usedUp-same : Same (usedUp x) (usedUp y)
-  unfolding usedUp onWorking withLog
+  unfolding usedUp onWorking
   usedUp-same =
       let e : withLog (y .working .log) (x .working) ≡ withLog (y .working .log) (y .working) = cc in
       let u : withLog (y .working .log) (useUp (recordsLeft x) (x .working)) ≡ useUp (recordsLeft y) (y .working) =

@@ -15,8 +15,8 @@ use Rattle.model.specs.Definitions.Bank.{Board, Bank, boardAt, entryAt, onBoard
 use Rattle.model.specs.Definitions.WellFormed.{isUp, isDown, isReplaying, WellFormed}
 use Rattle.model.specs.Definitions.Steps.{Run, start, powerOff, withFuse, Access, Read, Write, valueOf}
 use Rattle.model.specs.Definitions.Replay.{loaded, usedUp, tookDue, replayOver, endIfOver, replayed}
-use Rattle.model.specs.Definitions.Calls.{Result, firstOf, unless, finished, accessInRange, countersFull, accessRefusals, accessBank, checkpointBank, cutBank}
-use Rattle.model.specs.Definitions.Calls.{fuseBank, restartBank}
+use Rattle.model.specs.Definitions.Calls.{Result, firstOf, unless, finished, accessInRange, countersFull, refusalsWithin, accessRefusals, accessWithin}
+use Rattle.model.specs.Definitions.Calls.{accessBank, checkpointBank, cutBank, fuseBank, restartBank}
 use Rattle.model.specs.Laws.Logic.{byBool, byOption, clash, and-left}
 use Rattle.model.specs.Laws.Boards.{boards-onBoard, boardAt-same}
 use Rattle.model.specs.Laws.Runs.{lost-not, SameSizes}
@@ -26,7 +26,7 @@ use Rattle.model.specs.Laws.Codes.Order.{fails}
 use Rattle.model.specs.Laws.Codes.Tests.{replay-other, LastDue, last-due}
 use Rattle.model.specs.Laws.Keeps.Clauses.{replaying-place, fits, up-not-replaying, down-not-replaying}
 use Rattle.model.specs.Laws.Keeps.Live.{NoneOf, isUp-up, isDown-down, isReplaying-replaying, firstOf-none}
-use Rattle.model.specs.Laws.Keeps.Calls.{taken-inReplay, replayed-keeps}
+use Rattle.model.specs.Laws.Keeps.Entered.{taken-inReplay, replayed-keeps}
 use Rattle.history.specs.ReplayAccess.{unless-refused, unless-goes, finished-lost, finished-done, tookIn, repeatedIn, access-lost, access-repeated}
 use Rattle.history.specs.ReplayAccess.{ended-idle, over-idle, enteredAt, replayingAt, fittingAt, restartedIn, restarted-inReplay, restart-idle}
 use Rattle.model.specs.History.AloneStatement.{goesOnLive, SameOwned}
@@ -61,7 +61,7 @@ inRange-same b (Write p o v) k j s = cc
 
 -- the tests on entry look at the sizes and at what is seen of the board
 refusals-same : (b : ℕ) (a : Access) (k j : Bank) → SameAt b k j → accessRefusals b a k ≡ accessRefusals b a j
-unfolding accessRefusals countersFull
+unfolding refusalsWithin countersFull
 refusals-same b a k j s =
     cc (inRange-same b a k j (s .sizes), differs-same (s .board) a, s .board .state, s .board .since, s .board .number)
 
@@ -132,7 +132,7 @@ module _ (b : ℕ) (a : Access) (k j : Bank) (s : SameAt b k j) (w : WellFormed 
   also = ap isReplaying (sym (s .board .state)) ∙ t
 
   refused-same : {x : Answer} → firstOf (accessRefusals b a k) ≡ some x → SameAccess b a k j
-  unfolding accessBank
+  unfolding accessWithin
   refused-same e =
       let f : firstOf (accessRefusals b a j) ≡ some _ = ap firstOf (sym (refusals-same b a k j s)) ∙ e in
       answered (live-refused b a k e) (live-refused b a j f)
@@ -261,4 +261,4 @@ module _ (b : ℕ) (k j : Bank) (s : SameAt b k j) where
       (restarted-inReplay b j l' down' v)
       (λ o.
       owned-onBoard b awake awake k j
-      (owned (restart-idle b k l down o) (restart-idle b j l' down' (sym (over-same (m .board)) ∙ o)))))))
+      (owned (restart-idle b k l down w o) (restart-idle b j l' down' v (sym (over-same (m .board)) ∙ o)))))))

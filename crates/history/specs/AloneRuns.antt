@@ -2,7 +2,7 @@
 -- same one, and leave it looking the same. Assumes nothing.
 use mathlib.Core.Path.{_≡_, refl, sym, ap, _∙_, fun-ext}
 use mathlib.Core.Logic.{_↔_}
-use Prim.Native.Nat.{ℕ, zero, suc, _+_, _≤_, _<_}
+use Prim.Native.Nat.{ℕ, _+_, _≤_, _<_}
 use native.Mathlib.Omega.{arith}
 use mathlib.Core.Bool.{true, false}
 use mathlib.Core.Option.{none, some}
@@ -11,15 +11,16 @@ use lib.Dec.{eqb, ltb}
 use borrow.Author.Tests.{ltb-true, ltb-false, eqb-true, eqb-false, eq-eqb, ne-eqb}
 use Rattle.model.specs.Definitions.Bank.{Entry, Board, Bank, boardAt, entryAt, onBoard, onWorking, noEntry}
 use Rattle.model.specs.Definitions.WellFormed.{WellFormed}
-use Rattle.model.specs.Definitions.Steps.{Run, start, step, powerOff, burnt, store, storedFrame, storedHead, storedSelector, restedWorking, storeFrames}
-use Rattle.model.specs.Definitions.Steps.{checkpoint}
-use Rattle.model.specs.Definitions.Replay.{replayOver, settled, endReplay, endIfOver}
+use Rattle.model.specs.Definitions.Steps.{Run, start, step, powerOff, burnt, store, storeAll, storedFrame, storedHead, storedSelector, spareStores}
+use Rattle.model.specs.Definitions.Steps.{restedWorking, checkpoint}
+use Rattle.model.specs.Definitions.Replay.{replayOver, settled, endReplay, endIfOver, settle}
 use Rattle.model.specs.Laws.Logic.{byBool, byOption}
-use Rattle.model.specs.Laws.Boards.{boardAt-same, boardAt-powerOff-same, boards-onBoard, settle}
-use Rattle.model.specs.Laws.Runs.{SameSizes, sizes-onBoard, sizes-powerOff, follows-store, follows-storeFrames}
+use Rattle.model.specs.Laws.Lists.{foldl-both}
+use Rattle.model.specs.Laws.Boards.{boardAt-same, boardAt-powerOff-same, boards-onBoard}
+use Rattle.model.specs.Laws.Runs.{step-lost, store-lost, SameSizes, sizes-onBoard, sizes-powerOff, follows-store, each-spareStores, checkpoint-selector}
 use Rattle.model.specs.Contracts.{WellFormedBut, InReplay}
 use Rattle.model.specs.Laws.Keeps.Replay.{settle-restores}
-use Rattle.history.specs.Checkpoints.{head-saves}
+use Rattle.model.specs.Laws.Moves.Stores.{head-saves}
 use Rattle.history.specs.ReplayAccess.{if-over, if-going}
 use Rattle.model.specs.History.AloneStatement.{SameOwned}
 use Rattle.history.specs.AloneBoards.{Same, burnt-same, poweredOff-same, rested-same, settled-same, onSpare-same, selector-same, over-same}
@@ -64,20 +65,12 @@ unfolding start
 start-same s = record { lost = refl; stores = refl; bank = s }
 
 -- the cases of a step and of a store, as equations
-step-lost : (f : Bank → Bank) (r : Run) {c : ℕ} → r .lost ≡ some c → step f r ≡ r
-unfolding step
-step-lost f r e = cc
-
 step-on : (f : Bank → Bank) (r : Run) → r .lost ≡ none → step f r ≡ record { bank = f (r .bank); stores = r .stores; lost = none }
 unfolding step
 step-on f r e = cc
 
 abbrev storedBank : ℕ → (Board → Board) → Bank → Bank
 storedBank b f k = onBoard b burnt (onBoard b f k)
-
-store-lost : (b : ℕ) (f : Board → Board) (r : Run) {c : ℕ} → r .lost ≡ some c → store b f r ≡ r
-unfolding store
-store-lost b f r e = cc
 
 store-cut : (b : ℕ) (f : Board → Board) (r : Run) → r .lost ≡ none → eqb (boardAt (storedBank b f (r .bank)) b .fuse) 0 ≡ true
     → store b f r ≡ record { bank = powerOff b (storedBank b f (r .bank)); stores = r .stores + 1; lost = some b }
@@ -122,41 +115,43 @@ module _ {b : ℕ} (r s : Run) (h : SameRun b r s) where
 -- ==== a checkpoint
 
 module _ (b : ℕ) where
-  storeFrames-same : (p n : ℕ) (r s : Run) → SameRun b r s → b < length (r .bank .boards) → SameRun b (storeFrames p n b r) (storeFrames p n b s)
-  unfolding storeFrames storedFrame
-  storeFrames-same p zero r s h l = h
-  storeFrames-same p (suc n) r s h l =
-      storeFrames-same (suc p) n (store b (storedFrame p) r) (store b (storedFrame p) s)
-      (store-same r s h l (storedFrame p) (λ m. onSpare-same (h .bank .board) _ _))
-      (rw (follows-store {By = λ c. c ≡ b} b (storedFrame p) r refl .sizes .boards) l)
+  -- the board is there, too
+  abbrev SameThere : Run → Run → Type 0
+  SameThere r s = SameRun b r s × (b < length (r .bank .boards))
+
+  spare-same : (f : Board → Board) → ((x y : Board) → Same x y → Same (f x) (f y)) → (r s : Run) → SameThere r s → SameThere (store b f r) (store b f s)
+  spare-same f g r s h = (
+    store-same r s (h .0) (h .1) f (λ m. g (boardAt (r .bank) b) (boardAt (s .bank) b) (h .0 .bank .board)),
+    rw (follows-store b f r .sizes .boards) (h .1),
+  )
 
   -- the spare area that is selected holds the working memory of the board that stored
   checkpoint-same : (r s : Run) → SameRun b r s → b < length (r .bank .boards) → WellFormed (r .bank) → WellFormed (s .bank)
       → SameRun b (checkpoint b r) (checkpoint b s)
-  unfolding checkpoint storedHead
+  unfolding storeAll storedFrame storedHead
   checkpoint-same r s h l w v =
       let n : ℕ = length (r .bank .directory) in
-      let r₁ : Run = storeFrames 0 n b r in
-      let s₁ : Run = storeFrames 0 n b s in
-      let r₂ : Run = store b storedHead r₁ in
-      let s₂ : Run = store b storedHead s₁ in
-      let r₃ : Run = store b storedSelector r₂ in
-      let s₃ : Run = store b storedSelector s₂ in
+      let f : Board → Board = onWorking restedWorking in
+      let r₁ : Run = storeAll b (spareStores n) r in
+      let s₁ : Run = storeAll b (spareStores n) s in
+      let r₂ : Run = store b storedSelector r₁ in
+      let s₂ : Run = store b storedSelector s₁ in
       let m : length (s .bank .directory) ≡ n = h .bank .sizes .pages in
-      let l₁ : b < length (r₁ .bank .boards) = rw (follows-storeFrames {By = λ c. c ≡ b} 0 n b r refl .sizes .boards) l in
-      let l₂ : b < length (r₂ .bank .boards) = rw (follows-store {By = λ c. c ≡ b} b storedHead r₁ refl .sizes .boards) l₁ in
-      let l₃ : b < length (r₃ .bank .boards) = rw (follows-store {By = λ c. c ≡ b} b storedSelector r₂ refl .sizes .boards) l₂ in
-      let h₁ : SameRun b r₁ s₁ = storeFrames-same 0 n r s h l in
-      let h₂ : SameRun b r₂ s₂ = store-same r₁ s₁ h₁ l₁ storedHead (λ e. onSpare-same (h₁ .bank .board) _ _) in
-      let h₃ : SameRun b r₃ s₃ =
-      store-same r₂ s₂ h₂ l₂ storedSelector
+      let spare : SameThere r₁ s₁ =
+      foldl-both SameThere _ (spareStores n)
+      (each-spareStores (λ p. spare-same (storedFrame p) (λ x y q. onSpare-same q _ _)) (spare-same storedHead (λ x y q. onSpare-same q _ _)) n)
+      r s (h, l) in
+      let h₁ : SameRun b r₁ s₁ = spare .0 in
+      let l₁ : b < length (r₁ .bank .boards) = spare .1 in
+      let l₂ : b < length (r₂ .bank .boards) = rw (follows-store b storedSelector r₁ .sizes .boards) l₁ in
+      let h₂ : SameRun b r₂ s₂ =
+      store-same r₁ s₁ h₁ l₁ storedSelector
       (λ e.
-      selector-same (h₂ .bank .board)
+      selector-same (h₁ .bank .board)
       (head-saves b r w l e)
-      (rw m at (head-saves b s v (below-same b (r .bank) (s .bank) l (h .bank)) (rw m (sym (h₂ .lost) ∙ e))))) in
-      rw m
-      (step-same r₃ s₃ h₃ (onBoard b (onWorking restedWorking)) (onBoard b (onWorking restedWorking))
-      (λ e. onBoard-same b (r₃ .bank) (s₃ .bank) l₃ (h₃ .bank) (onWorking restedWorking) (onWorking restedWorking) (rested-same (h₃ .bank .board))))
+      (rw m at (head-saves b s v (below-same b (r .bank) (s .bank) l (h .bank)) (rw m (sym (h₁ .lost) ∙ e))))) in
+      rw (checkpoint-selector b r, checkpoint-selector b s, m)
+      (step-same r₂ s₂ h₂ (onBoard b f) (onBoard b f) (λ e. onBoard-same b (r₂ .bank) (s₂ .bank) l₂ (h₂ .bank) f f (rested-same (h₂ .bank .board))))
 
 -- ==== the end of replay
 

@@ -1,144 +1,216 @@
--- A board that is not up is left alone by every call of another board; and a board whose replay ended is not replaying when the call is over.
--- Assumes nothing.
+-- A board that is not up is left alone by every call of another board; and a board that is up doesn't replay when the call is over. Assumes nothing.
 use mathlib.Core.Path.{_≡_, refl, sym, ap, _∙_}
 use mathlib.Core.Logic.{_≢_}
 use Prim.Native.Nat.{ℕ, _<_}
-use mathlib.Core.Bool.{Bool, false}
+use mathlib.Core.Bool.{false}
 use mathlib.Core.Option.{none}
-use mathlib.Core.List.{List}
 use lib.ListN.{length}
 use lib.Dec.{eqb}
-use Rattle.types.specs.declared.State.the-variants.{Up, Replaying}
-use Rattle.types.specs.declared.Answer.{Answer}
+use borrow.Author.Tests.{ne-eqb}
+use Rattle.types.specs.declared.State.{State}
+use Rattle.types.specs.declared.State.the-variants.{Up}
+use Rattle.model.specs.Definitions.Parts.{member}
 use Rattle.model.specs.Definitions.Bank.{Board, Bank, boardAt, entryAt, onBoard, onWorking, onSpare}
-use Rattle.model.specs.Definitions.WellFormed.{isReplaying, WellFormed}
-use Rattle.model.specs.Definitions.Steps.{Run, start, step, poweredOff, powerOff, withFuse, movedRecord, storedSelector, checkpoint, Access, Read, Write}
-use Rattle.model.specs.Definitions.Steps.{pageNamed}
-use Rattle.model.specs.Definitions.Replay.{loaded, usedUp, differs, tookDue, replayOver, settled, endReplay, endIfOver, replayed}
-use Rattle.model.specs.Definitions.Calls.{Result, firstOf, unless, live, liveAfterEnd, replaying, accessRefusals, accessBank, checkpointBank, cutBank, fuseBank}
-use Rattle.model.specs.Definitions.Calls.{restartBank, Call, Reading, Writing, Checkpointing, Cutting, Fusing, Restarting, callBank}
-use Rattle.model.specs.Laws.Logic.{cases, casesOption}
-use Rattle.model.specs.Laws.Boards.{storedRecord-cases, boardAt-same, settle}
-use Rattle.model.specs.Laws.Runs.Stores.{burnt-state}
+use Rattle.model.specs.Definitions.WellFormed.{WellFormed, isReplaying}
+use Rattle.model.specs.Definitions.Steps.{Run, start, step, poweredOff, powerOff, burnt, withFuse, store, note, Access, access, storedFrame, storedHead}
+use Rattle.model.specs.Definitions.Steps.{storedSelector}
+use Rattle.model.specs.Definitions.Replay.{tookDue, replayed, settled, endReplay, settle}
+use Rattle.model.specs.Definitions.Calls.{Call, callBank, live}
+use Rattle.model.specs.Contracts.{InReplay, WellFormedBut, CanAccess}
+use Rattle.model.specs.Moves.{Move, does, Phase, Begun, Noted, Fetched, Replays, Settled, Finished, MayStore, anyone, taker, ender, checkpoints, resumes}
+use Rattle.model.specs.Moves.{closes, Guard, notesShown, notesGot, storesRecord, storesFrame, storesHead, storesSelector, givesCopy, passesOwnership}
+use Rattle.model.specs.Moves.{dropsCopies, performs, losesPower, setsFuse, loads, repeatsAccess, takesLast, settles, Moves, still}
+use Rattle.model.specs.Laws.Logic.{byEq, byOption}
+use Rattle.model.specs.Laws.Boards.{droppedIf, boardAt-same, boardAt-other, boardAt-out, boardAt-powerOff-other, boardAt-powerOff-same, boardAt-giveCopy-other}
+use Rattle.model.specs.Laws.Boards.{boardAt-dropCopies, boardAt-passOwnership-other, byBoard}
+use Rattle.model.specs.Laws.Runs.{lost-not, step-lost, step-cases, store-cases, step-going, SameSizes, sizes-dropCopies, sizes-passOwnership}
+use Rattle.model.specs.Laws.Keeps.Clauses.{fits, up-below, up-not-down, up-not-replaying}
+use Rattle.model.specs.Laws.Keeps.Replay.{settle-restores}
+use Rattle.model.specs.Laws.Moves.{induct}
+use Rattle.model.specs.Laws.Moves.Formed.{FormedIn, FormedRun, formed-begun, induct-formed}
+use Rattle.model.specs.Laws.Moves.Stores.{checkpoint-moves}
+use Rattle.model.specs.Laws.Moves.Calls.{makes-now, live-moves, call-moves}
+use Rattle.model.specs.Laws.Moves.Down.{SameStates, states-onBoard, states-giveCopy, states-dropCopies, states-passOwnership}
+use Rattle.model.specs.Laws.Runs.Stores.{burnt-state, flushed-storedRecord}
+use Rattle.model.specs.History.Statement.{Event}
 use Rattle.model.specs.Laws.Codes.Statement.{boardNamed}
-use Rattle.model.specs.Laws.Keeps.Live.{isReplaying-replaying}
-use Rattle.model.specs.Laws.Keeps.Calls.{entered, fitting, live-can}
-use Rattle.model.specs.Contracts.{Entered}
-use Rattle.history.specs.Counters.Calls.{ended-formed}
-use Rattle.history.specs.OneBoard.{Closed, kept-onBoard, kept-powerOff, kept-step, kept-checkpoint, kept-live}
-use Rattle.model.specs.Laws.Codes.Losses.{finished-run}
 
 -- ==== a call of another board
 
-module _ (d b : ℕ) (other : d ≢ b) where
-  -- board b stays what it was
-  abbrev Stays : Board → Board → Type 0
-  Stays x y = y ≡ x
+-- a board that isn't there stays so
+leaves-in : (b : ℕ) {k j : Bank} → SameSizes k j → (b < length (k .boards) → boardAt j b ≡ boardAt k b) → boardAt j b ≡ boardAt k b
+leaves-in b {k} {j} s f = byBoard k b f (λ l. boardAt-out j b (rw (s .boards) l) ∙ sym (boardAt-out k b l))
 
-  abbrev none-own : {X : Type 0} → d ≡ b → X
-  none-own e = absurd (other e)
+step-leaves : (b : ℕ) (f : Bank → Bank) (s : Run) → boardAt (f (s .bank)) b ≡ boardAt (s .bank) b → boardAt (step f s .bank) b ≡ boardAt (s .bank) b
+step-leaves b f s h = step-cases (λ u. boardAt (u .bank) b ≡ boardAt (s .bank) b) f s (λ c e. refl) (λ e. h)
 
-  stays-onBoard : (f : Board → Board) (k : Bank) → boardAt (onBoard d f k) b ≡ boardAt k b
-  stays-onBoard f k = kept-onBoard (Stays (boardAt k b)) b d f k (λ e. none-own e) refl
+store-leaves : (b c : ℕ) (f : Board → Board) (s : Run) → b ≢ c → boardAt (store c f s .bank) b ≡ boardAt (s .bank) b
+store-leaves b c f s n =
+    let k : Bank = onBoard c burnt (onBoard c f (s .bank)) in
+    let e : boardAt k b ≡ boardAt (s .bank) b = boardAt-other c burnt (onBoard c f (s .bank)) b n ∙ boardAt-other c f (s .bank) b n in
+    store-cases (λ u. boardAt (u .bank) b ≡ boardAt (s .bank) b) c f s (λ d z. refl) (λ z y. boardAt-powerOff-other c k b n ∙ e) (λ z y. e)
 
-  stays-checkpoint : (r : Run) → boardAt (checkpoint d r .bank) b ≡ boardAt (r .bank) b
-  stays-checkpoint r = kept-checkpoint (Stays (boardAt (r .bank) b)) b d (λ e. none-own e) r refl
-
-  stays-endReplay : (r : Run) → boardAt (endReplay d r .bank) b ≡ boardAt (r .bank) b
-  unfolding endReplay settle
-  stays-endReplay r =
-      stays-checkpoint (step (settle d) r)
-      ∙ kept-step (Stays (boardAt (r .bank) b)) b (settle d) r (λ n e. stays-onBoard (settled (λ p. eqb (entryAt (r .bank) p .owner) d)) (r .bank) ∙ e) refl
-
-  stays-endIfOver : (r : Run) → boardAt (endIfOver d r .bank) b ≡ boardAt (r .bank) b
-  unfolding endIfOver
-  stays-endIfOver r =
-      cases (λ (s : Run). boardAt (s .bank) b ≡ boardAt (r .bank) b) (replayOver (boardAt (r .bank) d)) (λ t. stays-endReplay r) (λ t. refl)
-
-  -- a refusal leaves the bank
-  stays-unless : (tests : List (Bool × Answer)) (k : Bank) (go : Result) → (firstOf tests ≡ none → boardAt (go .run .bank) b ≡ boardAt k b)
-      → boardAt (unless tests (start k) go .run .bank) b ≡ boardAt k b
-  unfolding unless start
-  stays-unless tests k go h = casesOption (λ (t : Result). boardAt (t .run .bank) b ≡ boardAt k b) (firstOf tests) h (λ a e. refl)
-
-  module _ (k : Bank) (w : WellFormed k) (idle : boardAt k b .state ≢ Up) where
-    stays-live : (a : Access) (r : Run) → WellFormed (r .bank) → pageNamed a < length (r .bank .directory) → boardAt (r .bank) b ≡ boardAt k b
-        → boardAt (live d a r .run .bank) b ≡ boardAt k b
-    stays-live a r v l e =
-        kept-live (Stays (boardAt k b)) b d a r v l (λ i. none-own i) (λ u. absurd (idle (ap (λ (x : Board). x .state) (sym e) ∙ u))) e
-
-    stays-replaying : (a : Access) → Entered d a k → boardAt k d .state ≡ Replaying → differs a (boardAt k d) ≡ false
-        → boardAt (replaying d a k .run .bank) b ≡ boardAt k b
-    unfolding replaying liveAfterEnd start
-    stays-replaying a i rep same =
-        let taken : Bank = onBoard d (tookDue a) k in
-        let r : Run = endReplay d (start taken) in
-        let next : Bank = onBoard d (replayed a) taken in
-        let e : boardAt (r .bank) b ≡ boardAt k b = stays-endReplay (start taken) ∙ stays-onBoard (tookDue a) k in
-        cases (λ (t : Result). boardAt (t .run .bank) b ≡ boardAt k b) (replayOver (boardAt taken d))
-        (λ t.
-        casesOption (λ (t : Result). boardAt (t .run .bank) b ≡ boardAt k b) (r .lost)
-        (λ n. stays-live a r (ended-formed d a k w i rep same) (live-can d a k w i rep same n .page) e)
-        (λ c l. e))
-        (λ t. rw (finished-run _ (endIfOver d (start next))) (stays-endIfOver (start next) ∙ stays-onBoard (replayed a) taken ∙ stays-onBoard (tookDue a) k))
-
-    stays-access : (a : Access) → boardAt (accessBank d a k .run .bank) b ≡ boardAt k b
-    unfolding accessBank start
-    stays-access a =
-        stays-unless (accessRefusals d a k) k _
-        (λ e.
-        let i : Entered d a k = entered d a k w e in
-        cases (λ (t : Result). boardAt (t .run .bank) b ≡ boardAt k b) (isReplaying (boardAt k d .state))
-        (λ t. stays-replaying a i (isReplaying-replaying (boardAt k d .state) t) (fitting d a k w e t))
-        (λ t. stays-live a (start k) w (i .page) refl))
+module _ (b : ℕ) {d : ℕ} {Again : Access → Type 0} (other : b ≢ d) where
+  -- whoever else acts is up
+  move-leaves : {χ ψ : Phase} (s : Run) (m : Move) → s .lost ≡ none → Guard d Again (s .bank) m χ ψ → FormedRun d χ s → boardAt (s .bank) b .state ≢ Up
+      → boardAt (does m s .bank) b ≡ boardAt (s .bank) b
+  unfolding does note access settle FormedIn droppedIf entryAt
+  move-leaves s _ n (notesShown c p u m l) w i = step-leaves b _ s (boardAt-other c _ (s .bank) b (λ e. i (rw e u)))
+  move-leaves s _ n (notesGot o p u m l r) w i = step-leaves b _ s (boardAt-other d _ (s .bank) b other)
+  move-leaves s _ n (storesRecord c o u) w i = store-leaves b c _ s (λ e. i (rw e u))
+  move-leaves s _ n (storesFrame c p o u) w i = store-leaves b c _ s (λ e. i (rw e u))
+  move-leaves s _ n (storesHead c o u) w i = store-leaves b c _ s (λ e. i (rw e u))
+  move-leaves s _ n (storesSelector c o u v) w i =
+      let m : b ≢ c = λ e. i (rw e u) in
+      step-leaves b _ (store c storedSelector s) (boardAt-other c _ (store c storedSelector s .bank) b m) ∙ store-leaves b c storedSelector s m
+  move-leaves s _ n (givesCopy o p g u m r) w i = step-leaves b _ s (boardAt-giveCopy-other o d p (s .bank) b other)
+  move-leaves s _ n (passesOwnership o p g v m) w i =
+      step-leaves b _ s
+      (leaves-in b (sizes-passOwnership o d p (s .bank))
+      (λ l.
+      let holds : member b (entryAt (s .bank) p .copies) ≡ false = fits (w .going n) b l .agreed .copies i p (g .page) in
+      cc (boardAt-passOwnership-other o d p (s .bank) b l other, ne-eqb b o (λ e. i (rw e (g .secure .up))), holds)))
+  move-leaves s _ n (dropsCopies p l m) w i =
+      step-leaves b _ s
+      (leaves-in b (sizes-dropCopies p (s .bank))
+      (λ j.
+      let holds : member b (entryAt (s .bank) p .copies) ≡ false = fits (w .going n) b j .agreed .copies i p l in
+      cc (boardAt-dropCopies p (s .bank) b j, holds)))
+  move-leaves s _ n (performs a z can has out) w i = step-leaves b _ s (boardAt-other d _ (s .bank) b other)
+  move-leaves s _ n (losesPower l) w i = step-leaves b _ s (boardAt-powerOff-other d (s .bank) b other)
+  move-leaves s _ n (setsFuse m p low high) w i = step-leaves b _ s (boardAt-other d _ (s .bank) b other)
+  move-leaves s _ n (loads l down) w i = step-leaves b _ s (boardAt-other d _ (s .bank) b other)
+  move-leaves s _ n (repeatsAccess a z e rep same over) w i =
+      step-leaves b _ s (boardAt-other d (replayed a) (onBoard d (tookDue a) (s .bank)) b other ∙ boardAt-other d (tookDue a) (s .bank) b other)
+  move-leaves s _ n (takesLast a e rep same over) w i = step-leaves b _ s (boardAt-other d _ (s .bank) b other)
+  move-leaves s _ n (settles l rep over) w i = step-leaves b _ s (boardAt-other d _ (s .bank) b other)
 
 -- whatever its numbers and its answer
 pub call-leaves : (c : Call) (b : ℕ) (k : Bank) → WellFormed k → boardNamed c ≢ b → boardAt k b .state ≢ Up → boardAt (callBank c k .run .bank) b ≡ boardAt k b
-unfolding callBank boardNamed checkpointBank cutBank fuseBank restartBank start
-call-leaves (Reading d p o) b k w n idle = stays-access d b n k w idle (Read p o)
-call-leaves (Writing d p o v) b k w n idle = stays-access d b n k w idle (Write p o v)
-call-leaves (Checkpointing d) b k w n idle =
-    stays-unless d b n _ k _ (λ e. rw (finished-run 0 (checkpoint d (start k))) (stays-checkpoint d b n (start k)))
-call-leaves (Cutting d) b k w n idle =
-    stays-unless d b n _ k _
-    (λ e.
-    rw (finished-run 0 (step (powerOff d) (start k)))
-    (kept-step (λ y. y ≡ boardAt k b) b (powerOff d) (start k) (λ m. kept-powerOff (λ y. y ≡ boardAt k b) b d k (λ i. absurd (n i))) refl))
-call-leaves (Fusing d m) b k w n idle =
-    stays-unless d b n _ k _
-    (λ e.
-    rw (finished-run 0 (step (onBoard d (withFuse m)) (start k)))
-    (kept-step (λ y. y ≡ boardAt k b) b (onBoard d (withFuse m)) (start k) (λ i h. stays-onBoard d b n (withFuse m) k ∙ h) refl))
-call-leaves (Restarting d) b k w n idle =
-    stays-unless d b n _ k _
-    (λ e.
-    let j : Bank = onBoard d (λ x. usedUp (loaded x)) k in
-    rw (finished-run _ (endIfOver d (start j))) (stays-endIfOver d b n (start j) ∙ stays-onBoard d b n (λ x. usedUp (loaded x)) k))
+unfolding start
+call-leaves c b k w n idle =
+    induct-formed (λ χ s. boardAt (s .bank) b ≡ boardAt k b)
+    (λ χ ψ s m e a f g i. move-leaves b (λ z. n (sym z)) s m e a f (λ u. idle (ap (λ (x : Board). x .state) (sym i) ∙ u)) ∙ i)
+    (λ e s m o f i. i)
+    (λ s i. i)
+    (λ χ ψ s d e i. i)
+    (call-moves c k w)
+    (formed-begun (boardNamed c) (start k) w)
+    refl
 
--- ==== a board whose replay ended
+-- ==== the call of an up board
 
-abbrev Idle : Board → Type 0
-Idle x = isReplaying (x .state) ≡ false
+-- it stays up, so no phase of a replay is reached
+unfoldable UpIn : Phase → State → Type 0
+UpIn Begun x = x ≡ Up
+UpIn (Noted o p) x = x ≡ Up
+UpIn (Fetched o g p) x = x ≡ Up
+UpIn (Replays e) x = ⊥
+UpIn (Settled e) x = ⊥
+UpIn (Finished e o) x = Unit
 
--- no step of a call but the loading of a restart makes it replay
-idle-closed : Closed Idle
-unfolding poweredOff onWorking onSpare storedSelector movedRecord isReplaying
-idle-closed =
+record Awake (d : ℕ) (χ : Phase) (s : Run) : Type 0 where
+  idle : isReplaying (boardAt (s .bank) d .state) ≡ false
+  going : s .lost ≡ none → UpIn χ (boardAt (s .bank) d .state)
+
+idle-up : {x : State} → x ≡ Up → isReplaying x ≡ false
+unfolding isReplaying
+idle-up e = rw e
+
+step-awake : {d : ℕ} {ψ : Phase} (f : Bank → Bank) (s : Run) → SameStates (s .bank) (f (s .bank)) → boardAt (s .bank) d .state ≡ Up
+    → ((x : State) → x ≡ Up → UpIn ψ x) → Awake d ψ (step f s)
+step-awake {d} {ψ} f s same u h =
+    let v : boardAt (step f s .bank) d .state ≡ Up = step-cases (λ r. boardAt (r .bank) d .state ≡ Up) f s (λ c e. u) (λ e. same d ∙ u) in
+    record { idle = idle-up v; going = λ n. h (boardAt (step f s .bank) d .state) v }
+
+store-awake : {d : ℕ} {ψ : Phase} (b : ℕ) (f : Board → Board) (s : Run) → s .lost ≡ none → ((x : Board) → f x .state ≡ x .state)
+    → boardAt (s .bank) d .state ≡ Up
+    → ((x : State) → x ≡ Up → UpIn ψ x) → Awake d ψ (store b f s)
+unfolding poweredOff isReplaying
+store-awake {d} {ψ} b f s n keeps u h =
+    let k : Bank = onBoard b burnt (onBoard b f (s .bank)) in
+    let v : boardAt k d .state ≡ Up = states-onBoard b burnt (onBoard b f (s .bank)) (burnt-state _) d ∙ states-onBoard b f (s .bank) (keeps _) d ∙ u in
+    store-cases (Awake d ψ) b f s
+    (λ c e. lost-not n e)
+    (λ e z.
     record {
-      burnt = λ x h. rw (burnt-state x) h;
-      off = λ x h. refl;
-      working = λ f x h. h;
-      spare = λ f x h. h;
-      records = λ x h. storedRecord-cases Idle x (λ e. h) (λ r rs e. h);
-      selector = λ x h. h;
-    }
+      idle =
+          byEq d b
+          (λ i. rw (i, boardAt-powerOff-same b k (up-below k b (rw i at v))))
+          (λ m. idle-up (ap (λ (x : Board). x .state) (boardAt-powerOff-other b k d m) ∙ v));
+      going = λ e. lost-not e refl;
+    })
+    (λ e z. record { idle = idle-up v; going = λ e. h (boardAt k d .state) v })
 
-pub endReplay-idle : (b : ℕ) (k : Bank) → b < length (k .boards) → isReplaying (boardAt (endReplay b (start k) .bank) b .state) ≡ false
-unfolding endReplay start step settle settled isReplaying
-endReplay-idle b k l =
-    kept-checkpoint Idle b b (λ e. idle-closed) (start (settle b k))
-    (ap (λ (x : Board). isReplaying (x .state)) (boardAt-same b (settled (λ p. eqb (entryAt k p .owner) b)) k l))
+off-awake : {d : ℕ} {e : Event} (s : Run) → s .lost ≡ none → d < length (s .bank .boards) → Awake d (Finished e none) (step (powerOff d) s)
+unfolding UpIn poweredOff isReplaying
+off-awake {d} s n l =
+    let e : boardAt (step (powerOff d) s .bank) d ≡ poweredOff (boardAt (s .bank) d) =
+    ap (λ (k : Bank). boardAt k d) (step-going (powerOff d) s n) ∙ boardAt-powerOff-same d (s .bank) l in
+    record { idle = ap (λ (x : Board). isReplaying (x .state)) e; going = λ m. tt }
 
-pub live-idle : (b : ℕ) (a : Access) (r : Run) → WellFormed (r .bank) → pageNamed a < length (r .bank .directory)
-    → isReplaying (boardAt (r .bank) b .state) ≡ false → isReplaying (boardAt (live b a r .run .bank) b .state) ≡ false
-live-idle b a r w l h = kept-live Idle b b a r w l (λ e. idle-closed) (λ u. idle-closed) h
+stays-up : {d b : ℕ} {φ : Phase} {x : State} → MayStore d b φ → UpIn φ x → x ≡ Up
+unfolding UpIn
+stays-up anyone u = u
+stays-up taker u = u
+stays-up ender u = absurd u
+
+up-stays : {d b : ℕ} {φ : Phase} → MayStore d b φ → (x y : State) → UpIn φ y → x ≡ Up → UpIn φ x
+unfolding UpIn
+up-stays anyone x y u e = e
+up-stays taker x y u e = e
+up-stays ender x y u e = u
+
+move-awake : {d : ℕ} {Again : Access → Type 0} {χ ψ : Phase} (s : Run) (m : Move) → s .lost ≡ none → Guard d Again (s .bank) m χ ψ → Awake d χ s
+    → Awake d ψ (does m s)
+unfolding does UpIn note access onWorking storedFrame storedHead onSpare storedSelector withFuse
+move-awake s _ n (notesShown b p u m l) i = step-awake _ s (states-onBoard b _ (s .bank) refl) (i .going n) (λ x e. e)
+move-awake {d} s _ n (notesGot o p u m l r) i = step-awake _ s (states-onBoard d _ (s .bank) refl) u (λ x e. e)
+move-awake s _ n (storesRecord b o u) i = store-awake b _ s n (λ x. flushed-storedRecord x .state) (stays-up o (i .going n)) (λ x. up-stays o x _ (i .going n))
+move-awake s _ n (storesFrame b p o u) i = store-awake b _ s n (λ x. refl) (stays-up o (i .going n)) (λ x. up-stays o x _ (i .going n))
+move-awake s _ n (storesHead b o u) i = store-awake b _ s n (λ x. refl) (stays-up o (i .going n)) (λ x. up-stays o x _ (i .going n))
+move-awake s _ n (storesSelector b checkpoints u v) i =
+    let t : Awake _ Begun (store b storedSelector s) = store-awake b storedSelector s n (λ x. refl) (i .going n) (λ x e. e) in
+    byOption (store b storedSelector s .lost)
+    (λ m. step-awake _ (store b storedSelector s) (states-onBoard b _ (store b storedSelector s .bank) refl) (t .going m) (λ x e. e))
+    (λ c e. rw (step-lost _ (store b storedSelector s) e) t)
+move-awake s _ n (storesSelector b resumes u v) i = absurd (i .going n)
+move-awake s _ n (storesSelector b closes u v) i = absurd (i .going n)
+move-awake {d} s _ n (givesCopy o p g u m r) i = step-awake _ s (states-giveCopy o d p (s .bank)) u (λ x e. e)
+move-awake {d} s _ n (passesOwnership o p g v m) i = step-awake _ s (states-passOwnership o d p (s .bank)) (v .up) (λ x e. e)
+move-awake s _ n (dropsCopies p l m) i = step-awake _ s (states-dropCopies p (s .bank)) (i .going n) (λ x e. e)
+move-awake {d} s _ n (performs a z can has out) i = step-awake _ s (states-onBoard d _ (s .bank) refl) (can .up) (λ x e. tt)
+move-awake {d} s _ n (losesPower l) i = off-awake s n l
+move-awake {d} s _ n (setsFuse m p low high) i = step-awake _ s (states-onBoard d _ (s .bank) refl) (i .going n) (λ x e. e)
+move-awake s _ n (loads l down) i = up-not-down (i .going n) down
+move-awake s _ n (repeatsAccess a z e rep same over) i = up-not-replaying (i .going n) rep
+move-awake s _ n (takesLast a e rep same over) i = up-not-replaying (i .going n) rep
+move-awake s _ n (settles l rep over) i = absurd (i .going n)
+
+-- a call of an up board leaves it up or down
+up-moves : {d : ℕ} {Again : Access → Type 0} {χ : Phase} {r s : Run} → Moves d Again Begun r χ s → boardAt (r .bank) d .state ≡ Up
+    → isReplaying (boardAt (s .bank) d .state) ≡ false
+unfolding UpIn
+up-moves {d} t u =
+    induct (Awake d)
+    (λ χ ψ. move-awake)
+    (λ e s n o i. absurd (i .going n))
+    (λ s i. record { idle = i .idle; going = λ n. tt })
+    (λ χ ψ s c e i. record { idle = i .idle; going = λ n. lost-not n e })
+    t
+    (record { idle = idle-up u; going = λ n. u })
+    .idle
+
+pub endReplay-idle : (b : ℕ) (k : Bank) → b < length (k .boards) → WellFormedBut b InReplay k
+    → isReplaying (boardAt (endReplay b (start k) .bank) b .state) ≡ false
+unfolding endReplay start step settle settled
+endReplay-idle b k l w =
+    let j : Bank = settle b k in
+    let up : boardAt j b .state ≡ Up = ap (λ (x : Board). x .state) (boardAt-same b (settled (λ p. eqb (entryAt k p .owner) b)) k l) in
+    up-moves (checkpoint-moves {Again = λ a. ⊥} b (formed-begun b (start j) (settle-restores b k w)) checkpoints still (λ n. up)) up
+
+pub live-idle : (b : ℕ) (a : Access) (r : Run) → WellFormed (r .bank) → r .lost ≡ none → CanAccess b a (r .bank)
+    → isReplaying (boardAt (live b a r .run .bank) b .state) ≡ false
+live-idle b a r w n can =
+    let t : Moves b (λ a. ⊥) Begun r _ (live b a r .run) = live-moves b (formed-begun b r w) still n a (makes-now b a (r .bank) (idle-up (can .up))) can in
+    up-moves t (can .up)

@@ -108,7 +108,7 @@ module _ (o b p : ℕ) (k : Bank) where
       byEq c b
       (λ e.
       rw (e, onlyOf-same b readerAhead, reader-ahead i, boardAt-giveCopy-same o b p k i)
-      (reader-holds (q .boards b i) u p bytesGiven (refl, lacks) l (t .alone .fields .frames .count) (out .0) (out .1) memory))
+      (reader-holds (q .boards b i) u p bytesGiven (refl, lacks) l (t .alone .fields .working .frames .count) (out .0) (out .1) memory))
       (λ n. rw (boardAt-giveCopy-other o b p k c n, onlyOf-other b readerAhead c n) (quiet-holds b p r l n (quiet c j))))
 
 -- ---- the copies of a page dropped
@@ -139,6 +139,6 @@ module _ (p : ℕ) (k : Bank) where
       (λ t.
       let n : BoardInvariant (k .directory) h none c (boardAt k c) = rw (settled c t) at r in
       rw (settled c t)
-      (lost-holds p withoutCopies n (holder-up (q .formed) c p j l t) l (fits (q .formed) c j .alone .fields .frames .count)
+      (lost-holds p withoutCopies n (holder-up (q .formed) c p j l t) l (fits (q .formed) c j .alone .fields .working .frames .count)
       (λ e. clash (rw e t) (entry-at (q .formed) p l .ownerBit)) (member-none c) (quiet-held n p l c t)))
       (λ t. kept-holds p r l)))

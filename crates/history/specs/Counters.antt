@@ -3,7 +3,7 @@
 pub mod Spacing
 pub mod BoardsInProgress
 pub mod Steps
-pub mod Calls
+pub mod Moves
 use mathlib.Core.Path.{_≡_, refl, sym, ap, subst, _∙_}
 use mathlib.Core.Logic.{_≢_, _⊎_, inl, inr}
 use Prim.Native.Nat.{ℕ, _+_}

@@ -1,4 +1,4 @@
--- Demand 3 and document 01's other claims, proved of the definitions: the invariant, one file for each kind of step, the theorems.
+-- Demand 3 and document 01's other claims, proved of the definitions: the invariant, the lemmas of each move, the moves of a call, the theorems.
 pub mod Rerun
 pub mod Invariant
 pub mod View
@@ -23,13 +23,10 @@ pub mod Recovery
 pub mod Grants
 pub mod CallsInProgress
 pub mod Checkpoints
-pub mod Live
-pub mod Fetching
 pub mod Endings
-pub mod Kept
+pub mod Moves
 pub mod Begins
 pub mod Theorem
-pub mod OneBoard
 pub mod Bystanders
 pub mod ReplayAccess
 pub mod ReplayCounts

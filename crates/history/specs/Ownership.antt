@@ -128,7 +128,7 @@ module _ (o w p : ℕ) (k : Bank) where
       byEq c w
       (λ e.
       rw (e, boardAt-passOwnership-same o w p k i, onlyOf-same w t)
-      (taker-holds x u p (frameOf k o p .bytes) l (fits (q .formed) w i .alone .fields .frames .count) (λ s. two (sym own ∙ s))
+      (taker-holds x u p (frameOf k o p .bytes) l (fits (q .formed) w i .alone .fields .working .frames .count) (λ s. two (sym own ∙ s))
       (ap (λ (a : Frame). a .bytes) f) explained
       (rw (all-rebuilt x u empty since) explained) (rw empty each-nil)))
       (λ n.
@@ -138,7 +138,7 @@ module _ (o w p : ℕ) (k : Bank) where
       (λ s.
       lost-holds p (ownedBy w) z
       (byBool (eqb c o) (λ a. rw (eqb-true c o a) up) (λ a. holder-up (q .formed) c p m l (rw a at s)))
-      l (fits (q .formed) c m .alone .fields .frames .count) (λ a. n (sym a)) (member-none c) (still c m))
+      l (fits (q .formed) c m .alone .fields .working .frames .count) (λ a. n (sym a)) (member-none c) (still c m))
       (λ s.
       entry-holds z p l (ownedBy w)
       (kept-on z p l (ownedBy w (entryIn (k .directory) p)) (λ a. absurd (n (sym a))) (λ a. clash a (member-none c)) (λ a. clash a (still c m)))))))

@@ -7,15 +7,15 @@ use Rattle.model.specs.Definitions.Bank.{Bank, fresh}
 use Rattle.model.specs.Definitions.Codec.{encode, decode}
 use Rattle.model.specs.Definitions.WellFormed.{SizesOk}
 use Rattle.model.specs.Definitions.Calls.{Call, callBank, Reply, call, replyOf}
-use Rattle.model.specs.Laws.Keeps.Calls.{call-keeps}
 use Rattle.model.specs.History.Statement.{noHistory, System, begin, after, Premise, Premises, afterSeen, PremiseSeen, PremisesSeen, runOf, made}
 use Rattle.history.specs.Invariant.{Invariant, nobody}
-use Rattle.history.specs.Kept.{PremiseOn, call-invariant}
+use Rattle.history.specs.Moves.{PremiseOn, call-invariant}
 use Rattle.history.specs.Begins.{fresh-invariant}
 use Rattle.history.specs.Recovery.{Counted, fresh-counted, call-counted}
 use Rattle.model.specs.History.Banks.{historyAfter}
 use Rattle.model.specs.History.OnBytes.{decoded, call-encode}
 use Rattle.model.specs.History.ReplayEndsStatement.{answerIn, afterAll, Reached}
+use Rattle.model.specs.Laws.Moves.Calls.{call-keeps}
 
 -- the bytes stand for a bank of which the invariant holds
 pub record Stands (t : System) : Type 0 where

@@ -18,7 +18,6 @@ use Rattle.model.specs.Definitions.Calls.{Call, callBank}
 use Rattle.model.specs.Laws.Boards.{storedRecord-cases}
 use Rattle.model.specs.Laws.Fresh.{fresh-boards, fresh-board, fresh-wellFormed}
 use Rattle.model.specs.Laws.Runs.Stores.{recordsOf}
-use Rattle.model.specs.Laws.Keeps.Calls.{call-keeps}
 use Rattle.model.specs.Laws.Keeps.Clauses.{up-not-replaying}
 use Rattle.model.specs.History.RecoveryStatement.{Change, Made, Stored, Selected, Lost, Accessed, Loaded, Took, Replayed, Settled, Quiet, Changes, unchanged}
 use Rattle.model.specs.History.RecoveryStatement.{next, Demand, noDemand, firstStored, demandAfter, demanded, reached}
@@ -29,7 +28,8 @@ use Rattle.history.specs.Repeating.{took-stable, took-log}
 use Rattle.history.specs.Counters.{Balanced, change-balanced}
 use Rattle.history.specs.Counters.Spacing.{Spaced, Orderly}
 use Rattle.history.specs.Counters.BoardsInProgress.{changes-trans, Advance, Advances, Nobody}
-use Rattle.history.specs.Counters.Calls.{call-advances}
+use Rattle.history.specs.Counters.Moves.{call-advances}
+use Rattle.model.specs.Laws.Moves.Calls.{call-keeps}
 
 -- ==== the counters of every board, between calls
 

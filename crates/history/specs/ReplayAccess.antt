@@ -14,7 +14,8 @@ use Rattle.model.specs.Definitions.Bank.{Bank, boardAt, onBoard}
 use Rattle.model.specs.Definitions.WellFormed.{isDown, isReplaying, WellFormed}
 use Rattle.model.specs.Definitions.Steps.{Run, start, Access, valueOf}
 use Rattle.model.specs.Definitions.Replay.{loaded, usedUp, differs, tookDue, replayOver, endReplay, endIfOver, replayed}
-use Rattle.model.specs.Definitions.Calls.{Result, firstOf, unless, finished, live, liveAfterEnd, replaying, accessRefusals, accessBank, restartBank}
+use Rattle.model.specs.Definitions.Calls.{Result, firstOf, unless, finished, live, liveAfterEnd, replaying, accessRefusals, accessWithin, accessBank}
+use Rattle.model.specs.Definitions.Calls.{restartBank}
 use Rattle.model.specs.Laws.Logic.{byOption}
 use Rattle.model.specs.Laws.Boards.{boards-onBoard}
 use Rattle.model.specs.Laws.Codes.Statement.{afterReplay}
@@ -22,10 +23,10 @@ use Rattle.model.specs.Laws.Keeps.Clauses.{but, onBoard-but}
 use Rattle.model.specs.Contracts.{Fits, InReplay, WellFormedBut, Entered}
 use Rattle.model.specs.Laws.Keeps.Live.{isReplaying-replaying}
 use Rattle.model.specs.Laws.Keeps.Replay.{loaded-inReplay, usedUp-inReplay}
-use Rattle.model.specs.Laws.Keeps.Calls.{entered, fitting, below-taken, live-can}
-use Rattle.history.specs.Counters.Calls.{ended-formed}
+use Rattle.model.specs.Laws.Keeps.Entered.{entered, fitting, below-taken, taken-inReplay, replayed-keeps, live-can}
+use Rattle.model.specs.Laws.Moves.Calls.{ended-formed}
 use Rattle.history.specs.Bystanders.{endReplay-idle, live-idle}
-use Rattle.model.specs.Laws.Codes.Losses.{finished-run}
+use Rattle.model.specs.Laws.Runs.{finished-run}
 
 -- ==== when no record is left
 
@@ -69,18 +70,18 @@ module _ (b : ℕ) (a : Access) (k : Bank) (e : firstOf (accessRefusals b a k) �
   -- the due got was the last record, and the end of replay blew the fuse
   pub access-lost : replayOver (boardAt (tookIn b a k) b) ≡ true → {c : ℕ} → afterReplay b a k .lost ≡ some c
       → accessBank b a k ≡ record { answer = PowerLost c; run = afterReplay b a k }
-  unfolding accessBank unless replaying liveAfterEnd afterReplay
+  unfolding accessWithin unless replaying liveAfterEnd afterReplay
   access-lost o l = cc
 
   -- or it goes on live
   access-live : replayOver (boardAt (tookIn b a k) b) ≡ true → afterReplay b a k .lost ≡ none → accessBank b a k ≡ live b a (afterReplay b a k)
-  unfolding accessBank unless replaying liveAfterEnd afterReplay
+  unfolding accessWithin unless replaying liveAfterEnd afterReplay
   access-live o l = cc
 
   -- the access is repeated
   pub access-repeated : replayOver (boardAt (tookIn b a k) b) ≡ false
       → accessBank b a k ≡ finished (valueOf a (boardAt (tookIn b a k) b .working .frames)) (endIfOver b (start (repeatedIn b a k)))
-  unfolding accessBank unless replaying
+  unfolding accessWithin unless replaying
   access-repeated o = cc
 
   -- ---- the board after it
@@ -97,7 +98,7 @@ module _ (b : ℕ) (a : Access) (k : Bank) (e : firstOf (accessRefusals b a k) �
 
     after-idle : isReplaying (boardAt (afterReplay b a k .bank) b .state) ≡ false
     unfolding afterReplay
-    after-idle = endReplay-idle b (tookIn b a k) (below-taken b a k w enteredAt replayingAt fittingAt)
+    after-idle = endReplay-idle b (tookIn b a k) (below-taken b a k w enteredAt replayingAt fittingAt) (taken-inReplay b a k w enteredAt replayingAt fittingAt)
 
     -- the end of replay came before the access
     pub ended-idle : replayOver (boardAt (tookIn b a k) b) ≡ true → isReplaying (boardAt (accessBank b a k .run .bank) b .state) ≡ false
@@ -106,8 +107,7 @@ module _ (b : ℕ) (a : Access) (k : Bank) (e : firstOf (accessRefusals b a k) �
         byOption (afterReplay b a k .lost)
         (λ n.
         rw (access-live o n)
-        (live-idle b a (afterReplay b a k) (ended-formed b a k w enteredAt replayingAt fittingAt)
-        (live-can b a k w enteredAt replayingAt fittingAt n .page) after-idle))
+        (live-idle b a (afterReplay b a k) (ended-formed b k w a enteredAt replayingAt fittingAt o) n (live-can b a k w enteredAt replayingAt fittingAt n)))
         (λ c l. rw (access-lost o l) after-idle)
 
     -- it came after the access
@@ -118,7 +118,7 @@ module _ (b : ℕ) (a : Access) (k : Bank) (e : firstOf (accessRefusals b a k) �
         let l : b < length (repeatedIn b a k .boards) = rw (boards-onBoard b (replayed a) (tookIn b a k)) (below-taken b a k w enteredAt replayingAt fittingAt)
         in
         rw (access-repeated o, finished-run _ (endIfOver b (start (repeatedIn b a k))), if-over b (start (repeatedIn b a k)) u)
-        (endReplay-idle b (repeatedIn b a k) l)
+        (endReplay-idle b (repeatedIn b a k) l (replayed-keeps b a k w enteredAt replayingAt fittingAt))
 
 -- ==== a restart
 
@@ -137,8 +137,8 @@ module _ (b : ℕ) (k : Bank) (l : b < length (k .boards)) (down : boardAt k b .
       (λ i f. usedUp-inReplay (k .directory) b (loaded (boardAt k b)) (loaded-inReplay (k .directory) b (boardAt k b) f down))
 
   -- it ended the replay at once
-  pub restart-idle : replayOver (boardAt (restartedIn b k) b) ≡ true → isReplaying (boardAt (restartBank b k .run .bank) b .state) ≡ false
+  pub restart-idle : WellFormed k → replayOver (boardAt (restartedIn b k) b) ≡ true → isReplaying (boardAt (restartBank b k .run .bank) b .state) ≡ false
   unfolding start
-  restart-idle o =
+  restart-idle w o =
       rw (restart-goes, finished-run _ (endIfOver b (start (restartedIn b k))), if-over b (start (restartedIn b k)) o)
-      (endReplay-idle b (restartedIn b k) (rw (boards-onBoard b (λ x. usedUp (loaded x)) k) l))
+      (endReplay-idle b (restartedIn b k) (rw (boards-onBoard b (λ x. usedUp (loaded x)) k) l) (restarted-inReplay w))

@@ -17,29 +17,26 @@ use Rattle.types.specs.declared.Answer.{Answer}
 use Rattle.types.specs.declared.Answer.the-variants.{Done, PowerLost}
 use Rattle.model.specs.Definitions.Bank.{Working, Stable, Board, Bank, boardAt, onBoard, onWorking}
 use Rattle.model.specs.Definitions.WellFormed.{isUp, isDown, isReplaying, WellFormed}
-use Rattle.model.specs.Definitions.Steps.{Run, start, step, poweredOff, powerOff, withFuse, checkpoint, Access, Read, Write, valueOf}
+use Rattle.model.specs.Definitions.Steps.{Run, start, step, poweredOff, powerOff, withFuse, checkpoint, Access, valueOf}
 use Rattle.model.specs.Definitions.Replay.{loaded, usedUp, tookDue, replayOver, settled, endReplay, endIfOver, replayed, recoveryPoint}
 use Rattle.model.specs.Definitions.Answers.{code}
-use Rattle.model.specs.Definitions.Calls.{Result, firstOf, unless, finished, accessRefusals, accessBank, checkpointBank, cutBank, fuseBank, restartBank, Call}
-use Rattle.model.specs.Definitions.Calls.{Reading, Writing, Checkpointing, Cutting, Fusing, Restarting, callBank}
+use Rattle.model.specs.Definitions.Calls.{Result, firstOf, unless, finished, refusalsWithin, accessRefusals, accessWithin, checkpointBank, cutBank, fuseBank}
+use Rattle.model.specs.Definitions.Calls.{restartBank, Call, Accessing, Checkpointing, Cutting, Fusing, Restarting, callBank}
 use Rattle.model.specs.Laws.Logic.{byBool, byOption, byEq, casesOption, clash, and-left}
 use Rattle.model.specs.Laws.Codes.Statement.{boardNamed, Due, NeedsGot}
-use Rattle.model.specs.Laws.Keeps.Clauses.{up-not-replaying, down-not-replaying}
-use Rattle.model.specs.Laws.Keeps.Clauses.{replaying-place, fits}
+use Rattle.model.specs.Laws.Keeps.Clauses.{up-not-replaying, down-not-replaying, replaying-place, fits}
 use Rattle.model.specs.Laws.Boards.{boards-onBoard, boardAt-same, boardAt-powerOff-same}
-use Rattle.model.specs.Laws.Keeps.Live.{NoneOf, isUp-up, isDown-down, firstOf-none}
+use Rattle.model.specs.Laws.Keeps.Live.{first-in, NoneOf, isUp-up, isDown-down, firstOf-none}
 use Rattle.model.specs.Definitions.Layout.{noFuse}
-use Rattle.model.specs.Laws.Runs.{follows-endIfOver}
+use Rattle.model.specs.Laws.Runs.{endReplay-self, finished-run}
 use Rattle.model.specs.Laws.Runs.Stores.{endReplay-changed}
 use Rattle.model.specs.Laws.Codes.Order.{never, fails}
 use Rattle.model.specs.Laws.Codes.Losses.{loses-power}
 use Rattle.model.specs.Laws.Codes.Tests.{replay-other, LastDue, last-due}
 use Rattle.model.specs.History.Statement.{accessOf}
-use Rattle.history.specs.Live.{first-in}
 use Rattle.history.specs.Replaying.{usedUp-number}
 use Rattle.history.specs.Repeating.{replayed-number, replayed-stable}
 use Rattle.history.specs.Counters.Steps.{took-state}
-use Rattle.model.specs.Laws.Codes.Losses.{finished-run}
 use Rattle.history.specs.Recovery.{CountedBoard, Counted}
 use Rattle.history.specs.Bystanders.{call-leaves}
 use Rattle.history.specs.ReplayAccess.{unless-refused, finished-lost, finished-done, if-over, if-going, tookIn, repeatedIn, access-repeated, ended-idle}
@@ -68,8 +65,7 @@ not-named b c a n e = clash (cc (eq-eqb b b refl)) n
 
 other-access : (b : ℕ) (c : Call) → boardNamed c ≢ b → isAccessOf b (accessOf c) ≡ false
 unfolding boardNamed accessOf isAccessOf
-other-access b (Reading d p o) n = ne-eqb d b n
-other-access b (Writing d p o v) n = ne-eqb d b n
+other-access b (Accessing d a) n = ne-eqb d b n
 other-access b (Checkpointing d) n = refl
 other-access b (Cutting d) n = refl
 other-access b (Fusing d m) n = refl
@@ -130,10 +126,12 @@ other-after b c k w rep n =
 
 -- ---- an access of the board
 
-module _ (b : ℕ) (a : Access) (c : Call) (k : Bank) (is : callBank c k ≡ accessBank b a k) (named : accessOf c ≡ some (b, a)) (w : WellFormed k)
-    (h : Counted k) (rep : boardAt k b .state ≡ Replaying) where
+module _ (b : ℕ) (a : Access) (k : Bank) (w : WellFormed k) (h : Counted k) (rep : boardAt k b .state ≡ Replaying) where
   abbrev x : Board
   x = boardAt k b
+
+  abbrev c : Call
+  c = Accessing b a
 
   replays : isReplaying (x .state) ≡ true
   unfolding isReplaying
@@ -141,7 +139,7 @@ module _ (b : ℕ) (a : Access) (c : Call) (k : Bank) (is : callBank c k ≡ acc
 
   -- refused on entry
   refused-code : (y : Answer) → firstOf (accessRefusals b a k) ≡ some y → RefusedOnEntry y
-  unfolding accessRefusals code
+  unfolding refusalsWithin code
   refused-code y e =
       first-in RefusedOnEntry (accessRefusals b a k) y
       (each-cons (omega arith, omega arith)
@@ -149,10 +147,9 @@ module _ (b : ℕ) (a : Access) (c : Call) (k : Bank) (is : callBank c k ≡ acc
       e
 
   refused-after : (y : Answer) → firstOf (accessRefusals b a k) ≡ some y → After b c k
-  unfolding accessBank start
+  unfolding callBank accessWithin start
   refused-after y e =
-      let r : accessBank b a k ≡ record { answer = y; run = start k } = unless-refused (accessRefusals b a k) (start k) _ e in
-      let q : callBank c k ≡ record { answer = y; run = start k } = is ∙ r in
+      let q : callBank c k ≡ record { answer = y; run = start k } = unless-refused (accessRefusals b a k) (start k) _ e in
       let z : RefusedOnEntry y = refused-code y e in
       same-after b c k rep (rw q (not-done b c y (ne-eqb (code y) 0 (λ n. absurd (omega arith))))) (λ d i. rw q z)
       (unmoved b k (callBank c k .run .bank) (ap (λ (t : Result). boardAt (t .run .bank) b) q))
@@ -173,13 +170,14 @@ module _ (b : ℕ) (a : Access) (c : Call) (k : Bank) (is : callBank c k ≡ acc
 
     -- the due got was the last record
     entered-after : replayOver (boardAt (tookIn b a k) b) ≡ true → After b c k
+    unfolding callBank accessOf
     entered-after o =
         let place : x .working .place < length (x .stable .selected .log .records) =
         replaying-place (x .state) x rep (fits w b below .place) in
         let d : LastDue a x =
         last-due a x place (fails (replay-other a x) (fittingAt b a k e replays w)) .0 (rw took-board at o) in
         let l : (x .working .number ≡ recoveryPoint x) × (endsInGot x ≡ true) = due-last x (d .0) counted rep (d .1) in
-        endsEntering a (d .0) named (d .1) (d .2) (l .0) (l .1) (rw is (ended-idle b a k e replays w o))
+        endsEntering a (d .0) refl (d .1) (d .2) (l .0) (l .1) (ended-idle b a k e replays w o)
 
     -- the access is repeated
     module _ (o : replayOver (boardAt (tookIn b a k) b) ≡ false) where
@@ -190,33 +188,35 @@ module _ (b : ℕ) (a : Access) (c : Call) (k : Bank) (is : callBank c k ≡ acc
       run = endIfOver b (start (repeatedIn b a k))
 
       gave : callBank c k ≡ finished value run
-      gave = is ∙ access-repeated b a k e replays o
+      unfolding callBank
+      gave = access-repeated b a k e replays o
 
       -- and its replay ends
       over-after : replayOver (boardAt (repeatedIn b a k) b) ≡ true → After b c k
-      unfolding start
+      unfolding callBank accessOf start
       over-after u =
           let o' : replayOver (tookDue a x) ≡ false = rw took-board at o in
           let u' : replayOver (replayed a (tookDue a x)) ≡ true = rw repeated-board at u in
           byOption (run .lost)
           (λ n.
-          endsExactly a value named (ap (λ (t : Result). t .answer) (gave ∙ finished-done value run n))
+          endsExactly a value refl (ap (λ (t : Result). t .answer) (gave ∙ finished-done value run n))
           (over-number a x counted rep o' u') (over-ends a x counted rep o' u')
-          (rw is (over-idle b a k e replays w o u)))
+          (over-idle b a k e replays w o u))
           (λ d l.
-          let self : d ≡ b = follows-endIfOver {By = λ d. d ≡ b} b (start (repeatedIn b a k)) refl .by d refl l in
+          let self : d ≡ b =
+          endReplay-self b (start (repeatedIn b a k)) d refl (ap (λ (t : Run). t .lost) (sym (if-over b (start (repeatedIn b a k)) u)) ∙ l) in
           let lost : callBank c k .answer ≡ PowerLost d = ap (λ (t : Result). t .answer) (gave ∙ finished-lost value run l) in
           isCut (subst (λ (d : ℕ). boardAt (callBank c k .run .bank) d .state ≡ Down) self (loses-power c k w d .0 lost .after)))
 
       -- or it goes on
       going-after : replayOver (boardAt (repeatedIn b a k) b) ≡ false → After b c k
-      unfolding start replayed usedUp onWorking
+      unfolding accessOf start replayed usedUp onWorking
       going-after u =
           let q : callBank c k ≡ record { answer = Done value; run = start (repeatedIn b a k) } =
           gave ∙ ap (finished value) (if-going b (start (repeatedIn b a k)) u) ∙ finished-done value (start (repeatedIn b a k)) refl in
           let y : boardAt (callBank c k .run .bank) b ≡ replayed a (tookDue a x) = ap (λ (t : Result). boardAt (t .run .bank) b) q ∙ repeated-board in
-          let d : doneBy b c (callBank c k .answer) ≡ 1 = ap (λ (t : Result). doneBy b c (t .answer)) q ∙ done-one b c a value named in
-          oneMore a value named (ap (λ (t : Result). t .answer) q)
+          let d : doneBy b c (callBank c k .answer) ≡ 1 = ap (λ (t : Result). doneBy b c (t .answer)) q ∙ done-one b c a value refl in
+          oneMore a value refl (ap (λ (t : Result). t .answer) q)
           (record {
             state = ap (λ (z : Board). z .state) y ∙ took-state a x ∙ rep;
             number = ap (λ (z : Board). z .working .number) y ∙ replayed-number a x ∙ ap (λ (m : ℕ). x .working .number + m) (sym d);
@@ -288,9 +288,8 @@ module _ (b : ℕ) (k : Bank) (rep : boardAt k b .state ≡ Replaying) where
 -- ---- any call
 
 own-after : (c : Call) (k : Bank) → WellFormed k → Counted k → boardAt k (boardNamed c) .state ≡ Replaying → After (boardNamed c) c k
-unfolding boardNamed callBank accessOf
-own-after (Reading b p o) k w h rep = access-after b (Read p o) (Reading b p o) k refl refl w h rep
-own-after (Writing b p o v) k w h rep = access-after b (Write p o v) (Writing b p o v) k refl refl w h rep
+unfolding boardNamed
+own-after (Accessing b a) k w h rep = access-after b a k w h rep
 own-after (Checkpointing b) k w h rep = checkpoint-after b k rep
 own-after (Cutting b) k w h rep = cut-after b k rep
 own-after (Fusing b n) k w h rep = fuse-after b k rep n

@@ -19,12 +19,10 @@ use Rattle.model.specs.Definitions.Steps.{Access}
 use Rattle.model.specs.Definitions.Replay.{recoveryPoint}
 use Rattle.model.specs.Definitions.Calls.{Call, Restarting, callBank}
 use Rattle.model.specs.Laws.Logic.{clash, byEq, byState}
-use Rattle.model.specs.Laws.Boards.{boardAt-out}
+use Rattle.model.specs.Laws.Boards.{boardAt-out, byBoard}
 use Rattle.model.specs.Laws.Runs.{lost-not}
-use Rattle.model.specs.Laws.Codes.Power.{byBoard}
 use Rattle.model.specs.Laws.Keeps.Clauses.{up-not-down, up-not-replaying, down-not-replaying}
-use Rattle.model.specs.History.Statement.{History, ofBoard, entryCount, repeats, System, accessOf, after, Premise, Premises, afterSeen, PremiseSeen}
-use Rattle.model.specs.History.Statement.{PremisesSeen, runOf}
+use Rattle.model.specs.History.Statement.{History, ofBoard, entryCount, repeats, System, accessOf, after, Premises, afterSeen, PremiseSeen, PremisesSeen, runOf}
 use Rattle.history.specs.Invariant.{CountsAgree, Invariant, nobody}
 use Rattle.history.specs.Logging.{recoveryPoint-same}
 use Rattle.history.specs.Recovery.{CountedBoard, call-counted}

@@ -1,5 +1,5 @@
 -- Demand 3: from a fresh bank of any size, for any list of calls that keeps the premise, the claim holds after every call. Assumes nothing.
-use mathlib.Core.Path.{_≡_, refl, sym, ap, subst}
+use mathlib.Core.Path.{_≡_, sym, ap, subst}
 use Prim.Native.Nat.{ℕ, _≤_, _<_}
 use native.Mathlib.Omega.{arith}
 use mathlib.Core.Option.{some}
@@ -8,40 +8,35 @@ use lib.ListN.{length}
 use Rattle.types.specs.declared.Answer.the-variants.{Done}
 use Rattle.model.specs.Definitions.Bank.{Bank, boardAt, fresh}
 use Rattle.model.specs.Definitions.WellFormed.{WellFormed, SizesOk}
-use Rattle.model.specs.Definitions.Steps.{Access, Read, Write}
+use Rattle.model.specs.Definitions.Steps.{Access}
 use Rattle.model.specs.Definitions.Replay.{recoveryPoint}
-use Rattle.model.specs.Definitions.Calls.{Call, Reading, Writing, Checkpointing, Cutting, Fusing, Restarting, callBank, replyOf}
-use Rattle.model.specs.Laws.Keeps.Calls.{call-keeps}
-use Rattle.model.specs.History.Statement.{HistoryEntry, History, noHistory, zeroMemory, OneMemory, begin, accessOf, bytesFrom, nextEntry, after, Premise}
-use Rattle.model.specs.History.Statement.{RepeatAgrees, GrantsStand, Claim, Premises, Claims, afterSeen, PremiseSeen, RepeatSeen, PremisesSeen, ClaimsSeen}
-use Rattle.model.specs.History.Statement.{runOf}
+use Rattle.model.specs.Definitions.Calls.{Call, Accessing, Checkpointing, Cutting, Fusing, Restarting, callBank, replyOf}
+use Rattle.model.specs.History.Statement.{HistoryEntry, History, noHistory, zeroMemory, OneMemory, begin, accessOf, doneEvent, eventOf, bytesFrom, nextEntry}
+use Rattle.model.specs.History.Statement.{after, Premise, RepeatAgrees, GrantsStand, Claim, Premises, Claims, afterSeen, PremiseSeen, RepeatSeen, PremisesSeen}
+use Rattle.model.specs.History.Statement.{ClaimsSeen, runOf}
 use Rattle.history.specs.Invariant.{Invariant, nobody}
-use Rattle.history.specs.Kept.{access-repeats, PremiseOn, call-invariant}
+use Rattle.history.specs.Moves.{Agrees, PremiseOn, call-invariant, call-repeats}
 use Rattle.history.specs.Begins.{fresh-invariant}
 use Rattle.history.specs.Recovery.{Counted, fresh-counted, call-counted}
 use Rattle.history.specs.Grants.{call-grants}
 use Rattle.model.specs.History.Banks.{systemOf, historyAfter, grantsAfter}
 use Rattle.model.specs.History.OnBytes.{decoded, call-encode, after-system, begin-system}
+use Rattle.model.specs.Laws.Moves.Calls.{call-keeps}
 
 -- ---- one call, on the bank
 
-call-repeats : (c : Call) (k : Bank) {h : History} → Invariant nobody k h → PremiseOn c k h → (b : ℕ) (a : Access) (v : ℕ) (e : HistoryEntry)
+repeats-agree : (c : Call) (k : Bank) {h : History} → Invariant nobody k h → PremiseOn c k h → (b : ℕ) (a : Access) (v : ℕ) (e : HistoryEntry)
     → accessOf c ≡ some (b, a) → callBank c k .answer ≡ Done v → nextEntry b h ≡ some e → e .bytesRead ≡ bytesFrom a v
-unfolding callBank accessOf
-call-repeats (Reading d p o) k q s b a v e z f n =
-    let y : _≡_ {A = ℕ × Access} (d, Read p o) (b, a) = cc in
+unfolding accessOf Agrees eventOf doneEvent
+repeats-agree (Accessing d x) k q s b a v e z f n =
+    let y : _≡_ {A = ℕ × Access} (d, x) (b, a) = cc in
     let yb : d ≡ b = ap (λ (w : ℕ × Access). w .0) y in
-    let ya : Read p o ≡ a = ap (λ (w : ℕ × Access). w .1) y in
-    rw ya at (access-repeats d (Read p o) k q (λ e i r n. s d (Read p o) e refl i r n) v e f (rw yb n))
-call-repeats (Writing d p o w) k q s b a v e z f n =
-    let y : _≡_ {A = ℕ × Access} (d, Write p o w) (b, a) = cc in
-    let yb : d ≡ b = ap (λ (w : ℕ × Access). w .0) y in
-    let ya : Write p o w ≡ a = ap (λ (w : ℕ × Access). w .1) y in
-    rw ya at (access-repeats d (Write p o w) k q (λ e i r n. s d (Write p o w) e refl i r n) v e f (rw yb n))
-call-repeats (Checkpointing d) k q s b a v e z f n = let y : _≡_ {A = ℕ} 0 1 = cc in absurd (omega arith)
-call-repeats (Cutting d) k q s b a v e z f n = let y : _≡_ {A = ℕ} 0 1 = cc in absurd (omega arith)
-call-repeats (Fusing d m) k q s b a v e z f n = let y : _≡_ {A = ℕ} 0 1 = cc in absurd (omega arith)
-call-repeats (Restarting d) k q s b a v e z f n = let y : _≡_ {A = ℕ} 0 1 = cc in absurd (omega arith)
+    let yx : x ≡ a = ap (λ (w : ℕ × Access). w .1) y in
+    rw yx at (call-repeats (Accessing d x) k q s v f e (rw yb n))
+repeats-agree (Checkpointing d) k q s b a v e z f n = let y : _≡_ {A = ℕ} 0 1 = cc in absurd (omega arith)
+repeats-agree (Cutting d) k q s b a v e z f n = let y : _≡_ {A = ℕ} 0 1 = cc in absurd (omega arith)
+repeats-agree (Fusing d m) k q s b a v e z f n = let y : _≡_ {A = ℕ} 0 1 = cc in absurd (omega arith)
+repeats-agree (Restarting d) k q s b a v e z f n = let y : _≡_ {A = ℕ} 0 1 = cc in absurd (omega arith)
 
 -- ---- one call, on bytes
 
@@ -77,7 +72,7 @@ module _ (c : Call) (k : Bank) (h : History) (granted : ℕ → ℕ) (q : Stands
 
   repeat-now : RepeatAgrees c (systemOf k h granted)
   unfolding RepeatSeen systemOf replyOf
-  repeat-now b a v e z d n = call-repeats c k (q .invariant) on-bank b a v e z (rw (call-encode c k formed) at d) n
+  repeat-now b a v e z d n = repeats-agree c k (q .invariant) on-bank b a v e z (rw (call-encode c k formed) at d) n
 
   grants-now : GrantsStand (systemOf (callBank c k .run .bank) (historyAfter c k h) (grantsAfter c k granted))
   unfolding GrantsStand systemOf

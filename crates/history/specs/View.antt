@@ -1,14 +1,13 @@
--- The invariant looks at a board's state, counters, frames, records and selected area, and at nothing else: not at its fuse, its spare area
--- or the bytes behind a log. What changes only those keeps it. Assumes nothing.
-use mathlib.Core.Path.{_≡_, refl, sym, ap, _∙_}
+-- The invariant looks at a board's state, working memory and selected area, and at nothing else: not at its fuse, its spare area or its selector. What changes
+-- only those keeps it. Assumes nothing.
+use mathlib.Core.Path.{_≡_, refl, ap, _∙_}
 use Prim.Native.Nat.{ℕ}
 use mathlib.Core.Option.{Option, none, some}
 use mathlib.Core.List.{List}
 use Rattle.types.specs.declared.State.{State}
 use Rattle.types.specs.declared.State.the-variants.{Up, Down, Replaying}
-use Rattle.model.specs.Definitions.Bank.{Board, Entry, frameAt}
+use Rattle.model.specs.Definitions.Bank.{Entry, Working, Board, frameAt}
 use Rattle.model.specs.Definitions.Replay.{recoveryPoint, recordsLeft}
-use Rattle.types.specs.declared.Frame.{Frame}
 use Rattle.model.specs.History.Statement.{HistoryEntry, History, ofBoard}
 use Rattle.history.specs.Rerun.{Rebuilt, checkpointed, stableEntries, unstableEntries, stableTrace, rebuilt, volatileTrace, traceLeft}
 use Rattle.history.specs.Invariant.{CountsAgree, StableExplains, settledAs, Explains, BoardInvariant}
@@ -16,14 +15,8 @@ use Rattle.history.specs.Invariant.{CountsAgree, StableExplains, settled
 -- what the invariant sees of a board is the same
 pub record SameView (x y : Board) : Type 0 where
   pub state : x .state ≡ y .state
-  pub number : x .working .number ≡ y .working .number
-  pub since : x .working .since ≡ y .working .since
-  pub place : x .working .place ≡ y .working .place
-  pub frames : x .working .frames ≡ y .working .frames
-  pub records : x .working .log .records ≡ y .working .log .records
-  pub checkpointNumber : x .stable .selected .number ≡ y .stable .selected .number
-  pub checkpointFrames : x .stable .selected .frames ≡ y .stable .selected .frames
-  pub stored : x .stable .selected .log .records ≡ y .stable .selected .log .records
+  pub working : x .working ≡ y .working
+  pub selected : x .stable .selected ≡ y .stable .selected
 
 module _ (x y : Board) (v : SameView x y) where
   view-recovery : recoveryPoint x ≡ recoveryPoint y
@@ -56,9 +49,9 @@ module _ (x y : Board) (v : SameView x y) where
 
   view-counts : (s : State) (es : List HistoryEntry) (c : ℕ) → CountsAgree s x es c → CountsAgree s y es c
   unfolding CountsAgree
-  view-counts Up es c q = (q .0, sym (v .number) ∙ q .1)
+  view-counts Up es c q = (q .0, cc (q .1))
   view-counts Down es c q = q ∙ view-recovery
-  view-counts Replaying es c q = (q .0 ∙ v .number, q .1 ∙ view-recovery)
+  view-counts Replaying es c q = (cc (q .0), q .1 ∙ view-recovery)
 
   view-stable : (es : List HistoryEntry) → StableExplains x es → StableExplains y es
   view-stable es q =
@@ -83,9 +76,9 @@ module _ (x y : Board) (v : SameView x y) where
   view-explains Down g es q = q
   view-explains Replaying g es q =
       record {
-        accepted = rw (view-traceLeft es, v .frames) at (q .accepted);
+        accepted = rw (view-traceLeft es, v .working) at (q .accepted);
         ends = cc (q .ends, view-traceLeft es, view-rebuilt es);
-        waits = rw (view-left, v .since) at (q .waits);
+        waits = rw (view-left, v .working) at (q .waits);
         rest = cc (q .rest, view-left, view-recovery);
       }
 
@@ -96,10 +89,10 @@ module _ (x y : Board) (v : SameView x y) where
         counts = rw (v .state) at (view-counts (x .state) (ofBoard b (h .entries)) (h .cursor b) (q .counts));
         stable = view-stable (ofBoard b (h .entries)) (q .stable);
         explained = rw (v .state) at (view-explains (x .state) g (ofBoard b (h .entries)) (q .explained));
-        ahead = λ p t j u e o. q .ahead p t j (v .state ∙ u) e o ∙ ap (λ (fs : List Frame). frameAt fs p) (v .frames);
-        copies = λ p j m. cc (q .copies p j m, v .frames);
+        ahead = λ p t j u e o. q .ahead p t j (v .state ∙ u) e o ∙ ap (λ (w : Working). frameAt (w .frames) p) (v .working);
+        copies = λ p j m. cc (q .copies p j m, v .working);
         owned = λ p j o. cc (q .owned p j o, view-recovery, view-rebuilt (ofBoard b (h .entries)));
         exclusive = λ p. rw view-recovery at (q .exclusive p);
         unstable = λ p j u. q .unstable p j (rw view-recovery u);
-        volatile = rw (v .records) at (q .volatile);
+        volatile = rw (v .working) at (q .volatile);
       }

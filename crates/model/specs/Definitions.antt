@@ -1,4 +1,4 @@
--- Document 01 as definitions, in its order. No proof stands here: what guards these definitions is under Laws and Cases.
+-- Document 01 as definitions, in its order, and its stores on one board by itself. No proof stands here: what guards these definitions is under Laws and Cases.
 pub mod Parts
 pub mod Layout
 pub mod Bank
@@ -6,6 +6,7 @@ pub mod Codec
 pub mod WellFormed
 pub mod Check
 pub mod Steps
+pub mod BoardRuns
 pub mod Replay
 pub mod Answers
 pub mod Calls

@@ -15,13 +15,15 @@ pub mod CodecBankBack
 pub mod WellFormedTest
 pub mod Fresh
 pub mod Boards
+pub mod Valid
+pub mod BoardFields
 pub mod Runs
 pub mod Keeps
+pub mod Moves
 pub mod Codes
 pub mod Refusals
 pub mod FewStores
-pub mod Calls
-pub mod BoardFields
+pub mod LargestSince
 pub mod BlockFields
 pub mod BlockWorking
 pub mod BlockReplay
@@ -31,3 +33,4 @@ pub mod BlockFlush
 pub mod EachFirst
 pub mod BankSteps
 pub mod BankLoops
+pub mod Likeness

@@ -1,5 +1,7 @@
 pub mod Definitions
 pub mod Contracts
+pub mod Moves
+pub mod Likeness
 pub mod Laws
 pub mod Cases
 pub mod History

@@ -18,10 +18,9 @@ use Rattle.model.specs.Definitions.WellFormed.{isGot, FrameOk, RecordOk, Fields
 use Rattle.model.specs.Definitions.Steps.{Access, pageNamed, takes}
 use Rattle.model.specs.Definitions.Replay.{recordsLeft, used, gotDue, due, sameGot, lacking, needsGot, differs, rightGot, tookGot, tookDue}
 use Rattle.model.specs.Laws.Logic.{byBool, byOption, casesOption, clash}
-use Rattle.model.specs.Laws.Keeps.Stores.{copy-some, own-some}
-use Rattle.model.specs.Laws.Keeps.Accesses.{framesOk-set}
-use Rattle.model.specs.Laws.BlockReplay.{used-fields}
 use Rattle.model.specs.Laws.Codes.Tests.{byKind}
+use Rattle.model.specs.Laws.Valid.{copy-some, own-some, framesOk-set}
+use Rattle.model.specs.Laws.BoardFields.{used-fields}
 use Rattle.steps.specs.Blocks.{readOrWrite}
 use Rattle.replay.specs.Contracts.{readyIn, ready}
 use Rattle.replay.specs.Next.{Ready, readyIn-some, ready-valid}
@@ -139,4 +138,4 @@ tookDue-fields {pages} a x ok =
     let d = due-is-ready x r e in
     let f : Frame = record { right = rightGot (r .kind); bytes = r .bytes } in
     used-fields ok (set (x .working .frames) (pageNamed a) f)
-    (framesOk-set (x .working .frames) (pageNamed a) f (ok .frames) (gotFrame-ok r (ready-valid x r ok (d .0) .1) (d .1))))
+    (framesOk-set (x .working .frames) (pageNamed a) f (ok .working .frames) (gotFrame-ok r (ready-valid x r ok (d .0) .1) (d .1))))

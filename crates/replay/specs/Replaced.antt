@@ -18,12 +18,12 @@ module _ {pages : ℕ} {l : List ℕ} (b : IsBlock pages l) (gs : List Frame) (n
   start = boardOf pages l
 
   pub replaced-none : l ≡ encodeBoard (replacing 0 gs (boardOf pages l))
-  replaced-none = sym (b .back) ∙ ap encodeBoard (sym (replacing-none pages start gs (b .fields .frames) new))
+  replaced-none = sym (b .back) ∙ ap encodeBoard (sym (replacing-none pages start gs (b .fields .working .frames) new))
 
   module _ (p : ℕ) (m : List ℕ) (e : m ≡ encodeBoard (replacing p gs (boardOf pages l))) where
     module _ (h : p ≤ pages) where
       abbrev ok : FieldsOk pages (replacing p gs start)
-      ok = replacing-fields pages start gs (b .fields .frames) new (b .fields) p h
+      ok = replacing-fields pages start gs (b .fields .working .frames) new (b .fields) p h
 
       pub replaced-block : IsBlock pages m
       replaced-block = block-written (replacing p gs start) (b .few) ok e
@@ -35,10 +35,10 @@ module _ {pages : ℕ} {l : List ℕ} (b : IsBlock pages l) (gs : List Frame) (n
       pub replaced-last : pages ≤ p → m ≡ encodeBoard (onWorking (onFrames (λ fs. gs)) (boardOf pages l))
       replaced-last k =
           let q : p ≡ pages = omega arith in
-          rw q at e ∙ ap encodeBoard (replacing-all pages start gs (b .fields .frames) new)
+          rw q at e ∙ ap encodeBoard (replacing-all pages start gs (b .fields .working .frames) new)
 
     -- one more
     pub replaced-more : (f : Frame) (n : List ℕ) → p < pages → n ≡ encodeBoard (withFrame p f (boardOf pages m)) → f ≡ frameAt gs p
         → n ≡ encodeBoard (replacing (p + 1) gs (boardOf pages l))
     replaced-more f n h g i =
-        rw (add-one p) (g ∙ rw (replaced-board (omega arith)) (ap encodeBoard (replacing-next pages start gs (b .fields .frames) new p h f i)))
+        rw (add-one p) (g ∙ rw (replaced-board (omega arith)) (ap encodeBoard (replacing-next pages start gs (b .fields .working .frames) new p h f i)))

@@ -7,13 +7,12 @@ use Rattle.types.specs.declared.Frame.{Frame}
 use Rattle.types.specs.declared.State.the-variants.{Replaying}
 use Rattle.model.specs.Definitions.Parts.{part, splice}
 use Rattle.model.specs.Definitions.Layout.{numberSize, sinceSize, frameSize, stateAt, numberAt, sinceAt, placeAt, framesAt, areaNumberAt, areaFramesAt}
-use Rattle.model.specs.Definitions.Bank.{onWorking, onFrames, frameAt}
+use Rattle.model.specs.Definitions.Bank.{frameAt, onWorking, onFrames}
 use Rattle.model.specs.Definitions.Codec.{encodeFrame, decodeFrame, stateByte, encodeBoard}
 use Rattle.model.specs.Definitions.Steps.{withFrame}
 use Rattle.model.specs.Definitions.Replay.{loaded}
-use Rattle.model.specs.Laws.Keeps.Accesses.{frameOk-at}
-use Rattle.model.specs.Laws.BlockFields.{withState, withNumber, withSince, withPlace}
 use Rattle.model.specs.Laws.BlockReplay.{restarting, restarting-loaded, restarting-bytes, restarting-fields}
+use Rattle.model.specs.Laws.Valid.{frameOk-at}
 use Rattle.format.specs.Areas.{selectedPart}
 use Rattle.steps.specs.Blocks.{IsBlock, boardOf}
 use Rattle.steps.specs.Access.{frame-written}
@@ -45,7 +44,7 @@ module _ {pages : ℕ} {l : List ℕ} (b : IsBlock pages l) where
     -- the frames of the selected area in the restarted board
     pub restart-loaded : encodeBoard (onWorking (onFrames (λ fs. boardOf pages m .stable .selected .frames)) (boardOf pages m))
         ≡ encodeBoard (loaded (boardOf pages l))
-    unfolding restarting withState withNumber withSince withPlace onWorking
+    unfolding restarting onWorking
     restart-loaded =
         rw (board-written (restarting (boardOf pages l)) (b .few) (restarting-fields pages (boardOf pages l) (b .fields)) e)
         (ap encodeBoard (restarting-loaded (boardOf pages l)))

@@ -9,16 +9,15 @@ use Rattle.types.specs.declared.Frame.{Frame}
 use Rattle.types.specs.declared.State.the-variants.{Up}
 use Rattle.model.specs.Definitions.Parts.{part, splice, each}
 use Rattle.model.specs.Definitions.Layout.{pageSize, frameSize, stateAt, placeAt, framesAt}
-use Rattle.model.specs.Definitions.Bank.{Board, onWorking, onFrames, frameAt}
+use Rattle.model.specs.Definitions.Bank.{Board, frameAt, withState, onWorking, onFrames}
 use Rattle.model.specs.Definitions.Codec.{encodeFrame, decodeFrame, stateByte, encodeBoard}
-use Rattle.model.specs.Definitions.WellFormed.{FramesOk, FieldsOk}
+use Rattle.model.specs.Definitions.WellFormed.{FramesOk}
 use Rattle.model.specs.Definitions.Steps.{withFrame}
 use Rattle.model.specs.Definitions.Replay.{settledFrame, settled}
 use Rattle.model.specs.Laws.Boards.{frameAt-each}
-use Rattle.model.specs.Laws.Keeps.Stores.{frameOk-empty}
-use Rattle.model.specs.Laws.Keeps.Accesses.{frameOk-at}
-use Rattle.model.specs.Laws.BlockFields.{withState, withPlace, write-state, write-place, read-frame}
-use Rattle.model.specs.Laws.BlockReplay.{replacing, replacing-here, settledFirst-fields, settled-all}
+use Rattle.model.specs.Laws.BlockFields.{write-state, write-place, read-frame}
+use Rattle.model.specs.Laws.BlockReplay.{replacing, replacing-here}
+use Rattle.model.specs.Laws.Valid.{frameOk-empty, frameOk-at, settledFrames-ok}
 use Rattle.steps.specs.Blocks.{IsBlock, boardOf}
 use Rattle.steps.specs.Access.{frame-written}
 use Rattle.replay.specs.Replaced.{replaced-board}
@@ -28,10 +27,6 @@ unfolding settledFrame
 settled-size true f e = e
 settled-size false f e = frameOk-empty .size
 
--- every field stays in range, whatever the directory says
-pub settled-fields : {pages : ℕ} {x : Board} → FieldsOk pages x → (owned : ℕ → Bool) → FieldsOk pages (settled owned x)
-settled-fields {pages} {x} ok owned = rw (settled-all pages owned x ok) at (settledFirst-fields pages owned x ok pages (omega arith))
-
 module _ {pages : ℕ} {l : List ℕ} (b : IsBlock pages l) where
   pub frame-settled : (p : ℕ) (own : Bool) (f g : Frame) → p < pages → f ≡ decodeFrame (part l (framesAt + p * frameSize) frameSize) → g ≡ settledFrame own f
       → splice l (framesAt + p * frameSize) (encodeFrame g)
@@ -40,7 +35,7 @@ module _ {pages : ℕ} {l : List ℕ} (b : IsBlock pages l) where
       let x : Board = boardOf pages l in
       let old : Frame = frameAt (x .working .frames) p in
       let i : f ≡ old = e ∙ (rw (b .back) at (read-frame pages x (b .fields) p h)) in
-      rw (s, i) (frame-written b p (settledFrame own old) h (settled-size own old (frameOk-at (x .working .frames) p (b .fields .frames) .size)))
+      rw (s, i) (frame-written b p (settledFrame own old) h (settled-size own old (frameOk-at (x .working .frames) p (b .fields .working .frames) .size)))
 
   module _ (owned : ℕ → Bool) where
     -- the frames as the end leaves them
@@ -48,8 +43,7 @@ module _ {pages : ℕ} {l : List ℕ} (b : IsBlock pages l) where
     settling = each (λ p f. settledFrame (owned p) f) (boardOf pages l .working .frames)
 
     pub settling-ok : FramesOk pages (each (λ p f. settledFrame (owned p) f) (boardOf pages l .working .frames))
-    unfolding settled
-    settling-ok = settled-fields (b .fields) owned .frames
+    settling-ok = settledFrames-ok owned (boardOf pages l .working .frames) (b .fields .working .frames)
 
     -- each page's frame waits for its turn
     pub settling-next : (p : ℕ) (m : List ℕ) (own : Bool) → p < pages → own ≡ owned p
@@ -58,13 +52,17 @@ module _ {pages : ℕ} {l : List ℕ} (b : IsBlock pages l) where
         (each (λ q f. settledFrame (owned q) f) (boardOf pages l .working .frames)) p
     settling-next p m own h t e =
         let fs : List Frame = boardOf pages l .working .frames in
-        rw (t, replaced-board b settling settling-ok p m e (omega arith), replacing-here pages (boardOf pages l) settling (b .fields .frames) settling-ok p h)
-        (sym (frameAt-each p (λ q f. settledFrame (owned q) f) fs (omega (arith, b .fields .frames .count))))
+        rw (
+          t,
+          replaced-board b settling settling-ok p m e (omega arith),
+          replacing-here pages (boardOf pages l) settling (b .fields .working .frames) settling-ok p h,
+        )
+        (sym (frameAt-each p (λ q f. settledFrame (owned q) f) fs (omega (arith, b .fields .working .frames .count))))
 
     pub settle-written : (m : List ℕ)
         → m ≡ encodeBoard (onWorking (onFrames (each (λ p f. settledFrame (owned p) f))) (boardOf pages l))
         → splice (splice m stateAt (stateByte Up ∷ [])) placeAt (0 ∷ []) ≡ encodeBoard (settled owned (boardOf pages l))
-    unfolding settled withState withPlace onWorking onFrames
+    unfolding settled onWorking onFrames
     settle-written m e =
         let y : Board = onWorking (onFrames (each (λ p f. settledFrame (owned p) f))) (boardOf pages l) in
         rw (e, write-state y Up) (write-place (withState Up y) 0)

@@ -20,12 +20,11 @@ use Rattle.model.specs.Definitions.Codec.{encodeFrame, encodeBoard, decodeBoard
 use Rattle.model.specs.Definitions.WellFormed.{isGot, FramesOk, FieldsOk}
 use Rattle.model.specs.Definitions.Replay.{recordsLeft, used, useUp, usedUp}
 use Rattle.model.specs.Laws.Logic.{byBool, byOption, clash}
-use Rattle.model.specs.Laws.Keeps.Stores.{frameOk-empty}
 use Rattle.model.specs.Laws.Keeps.Replay.{useUp-used}
-use Rattle.model.specs.Laws.Keeps.Accesses.{framesOk-set}
-use Rattle.model.specs.Laws.BlockFields.{onWorking-fields}
-use Rattle.model.specs.Laws.BlockReplay.{used-shown, used-frame, used-fields}
+use Rattle.model.specs.Laws.BlockReplay.{used-shown, used-frame}
 use Rattle.model.specs.Laws.Codes.Tests.{byKind}
+use Rattle.model.specs.Laws.Valid.{frameOk-empty, framesOk-set}
+use Rattle.model.specs.Laws.BoardFields.{onWorking-fields, used-fields}
 use Rattle.steps.specs.Blocks.{IsBlock, boardOf}
 use Rattle.replay.specs.Contracts.{readyIn, ready, framesAfter, usesNext, usedNext}
 use Rattle.replay.specs.Next.{Ready, readyIn-some}
@@ -121,7 +120,7 @@ first-used x r ok s g =
     ∙ ap (λ (l : List Record). useUp l (used fs w)) d in
     record {
       same = ap (λ (v : Working). onWorking (λ u. v) x) e;
-      fields = used-fields ok fs (framesAfter-ok (r .kind) (w .frames) (ok .frames));
+      fields = used-fields ok fs (framesAfter-ok (r .kind) (w .frames) (ok .working .frames));
       fewer = omega arith;
     }
 
@@ -140,5 +139,4 @@ usedNext-used x ok h =
 pub usedUp-fields : {pages : ℕ} (x : Board) → FieldsOk pages x → FieldsOk pages (usedUp x)
 unfolding usedUp
 usedUp-fields x ok =
-    let u = useUp-used (recordsLeft x) (x .working) (ok .frames) (ok .since) in
-    onWorking-fields ok (useUp (recordsLeft x)) (rw (u .number) (ok .number)) (u .since) (u .frames) (rw (u .log) (ok .log))
+    onWorking-fields ok (useUp (recordsLeft x)) (useUp-used (recordsLeft x) (x .working) (ok .working) .ok)

@@ -7,8 +7,8 @@ ghost use Prim.Native.Nat.{_+_, _≤_};
 ghost use Rattle.model.specs.Definitions.Parts.{member};
 ghost use Rattle.model.specs.Definitions.Codec.{encodeBoard};
 ghost use Rattle.model.specs.Definitions.Replay.{settled};
+ghost use Rattle.model.specs.Definitions.BoardRuns.{checkpointOn};
 ghost use Rattle.steps.specs.Blocks.{IsBlock, boardOf};
-ghost use Rattle.stores.specs.BoardRuns.{checkpointOn};
 
 // "End of replay": the rights settled by the directory, then a checkpoint.
 pub fn end_replay(block: &mut [u8], pages: usize, owned: u16) -> Stored

@@ -22,7 +22,8 @@ use Rattle.model.specs.Definitions.Calls.{countersFull}
 use Rattle.model.specs.Laws.Codec.{rightOf-rightByte}
 use Rattle.model.specs.Laws.Keeps.Accesses.{writable}
 use Rattle.model.specs.Laws.BlockFields.{read-right, read-byte, write-frame, write-byte}
-use Rattle.model.specs.Laws.BlockWorking.{accessed-read, accessed-fields}
+use Rattle.model.specs.Laws.BlockWorking.{accessed-read}
+use Rattle.model.specs.Laws.BoardFields.{accessed-fields}
 use Rattle.steps.specs.Blocks.{IsBlock, boardOf, readOrWrite}
 
 module _ {pages : ℕ} {l : List ℕ} (b : IsBlock pages l) where
@@ -51,11 +52,11 @@ module _ {pages : ℕ} {l : List ℕ} (b : IsBlock pages l) where
       → splice m (framesAt + p * frameSize + frameBytesAt + o) (v ∷ []) ≡ encodeBoard (onWorking (accessed (Write p o v)) (boardOf pages l))
   unfolding onWorking onFrames accessed withBytes cellsWritten
   byte-written p o v m h k e =
-      rw e (write-byte pages (onWorking (accessed (Read p o)) (boardOf pages l)) p (b .fields .frames) h o v k)
+      rw e (write-byte pages (onWorking (accessed (Read p o)) (boardOf pages l)) p (b .fields .working .frames) h o v k)
 
   pub frame-written : (p : ℕ) (f : Frame) → p < pages → length (f .bytes) ≡ pageSize
       → splice l (framesAt + p * frameSize) (encodeFrame f) ≡ encodeBoard (withFrame p f (boardOf pages l))
-  frame-written p f h e = rw (b .back) at (write-frame pages (boardOf pages l) p f (b .fields .frames) e h)
+  frame-written p f h e = rw (b .back) at (write-frame pages (boardOf pages l) p f (b .fields .working .frames) e h)
 
 -- ---- the tests of an access
 
@@ -74,7 +75,7 @@ lacking-of false p o v fs r e = rw e
 -- "access with since 65,535 or number 4,294,967,295"
 pub counters-test : (pages : ℕ) (l : List ℕ) (t : Bool)
     → t ≡ (eqb (numberOf (part l sinceAt sinceSize)) lastSince || eqb (numberOf (part l numberAt numberSize)) lastNumber)
-    → t ≡ countersFull (boardOf pages l)
+    → t ≡ countersFull lastSince (boardOf pages l)
 unfolding countersFull decodeBoard
 counters-test pages l t e = e
 

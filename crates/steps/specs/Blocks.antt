@@ -7,13 +7,10 @@ use mathlib.Core.List.{List, [], _++_}
 use Rattle.types.specs.declared.Record.{Record}
 use Rattle.model.specs.Definitions.Parts.{zeros}
 use Rattle.model.specs.Definitions.Layout.{mostPages, slotSize}
-use Rattle.model.specs.Definitions.Bank.{Board, onWorking}
+use Rattle.model.specs.Definitions.Bank.{Board, withLog, onWorking, onSelected}
 use Rattle.model.specs.Definitions.Codec.{encodeBoard, decodeBoard}
 use Rattle.model.specs.Definitions.WellFormed.{FieldsOk}
-use Rattle.model.specs.Definitions.Steps.{Access, Read, Write}
-use Rattle.model.specs.Laws.BlockAreas.{withRecord}
-use Rattle.model.specs.Laws.BlockFields.{withLog}
-use Rattle.model.specs.Laws.BlockStable.{onSelected}
+use Rattle.model.specs.Definitions.Steps.{Access, Read, Write, withRecord}
 
 -- the board that a block stands for
 abbrev pub boardOf : ℕ → List ℕ → Board

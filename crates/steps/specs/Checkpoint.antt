@@ -19,10 +19,10 @@ use Rattle.model.specs.Definitions.WellFormed.{FieldsOk, FrameOk}
 use Rattle.model.specs.Laws.Parts.{splice-within, index-in}
 use Rattle.model.specs.Laws.Codec.{length-encodeFrame}
 use Rattle.model.specs.Laws.CodecBank.{length-encodeBoard}
-use Rattle.model.specs.Laws.Keeps.Accesses.{frameOk-at}
 use Rattle.model.specs.Laws.BlockFields.{read-frame, read-number}
 use Rattle.model.specs.Laws.BlockStable.{area-in, selector-read, storedFrame-bytes, storedHead-bytes, storedSelector-bytes}
 use Rattle.model.specs.Laws.BlockWorking.{rested-bytes}
+use Rattle.model.specs.Laws.Valid.{frameOk-at}
 use Rattle.format.specs.Areas.{spareAt, withPart, withSpare}
 
 module _ (pages : ℕ) (l : List ℕ) (x : Board) (ok : FieldsOk pages x) (e : encodeBoard x ≡ l) where
@@ -40,7 +40,7 @@ module _ (pages : ℕ) (l : List ℕ) (x : Board) (ok : FieldsOk pages x) (e : e
   store-frame-bytes p f h q =
       let g : Frame = frameAt (x .working .frames) p in
       let s : f ≡ g = q ∙ rw (← e) (read-frame pages x ok p h) in
-      let v : FrameOk g = frameOk-at (x .working .frames) p (ok .frames) in
+      let v : FrameOk g = frameOk-at (x .working .frames) p (ok .working .frames) in
       let m : p * frameSize + frameSize ≤ pages * frameSize = index-in frameSize pages p h in
       let n : length (encodeFrame g) ≡ frameSize = length-encodeFrame g (v .size) in
       rw s (spare-splice (areaFramesAt + p * frameSize) (encodeFrame g) (omega arith) ∙ storedFrame-bytes pages x ok p h)

@@ -10,17 +10,15 @@ use lib.Dec.{eqb}
 use Rattle.types.specs.declared.Record.{Record}
 use Rattle.model.specs.Definitions.Parts.{zeros}
 use Rattle.model.specs.Definitions.Layout.{slotSize, noFuse}
-use Rattle.model.specs.Definitions.Bank.{Log, Board, onWorking}
+use Rattle.model.specs.Definitions.Bank.{Log, Board, withLog, onWorking, onSelected}
 use Rattle.model.specs.Definitions.WellFormed.{FieldsOk, RoomOk}
 use Rattle.model.specs.Definitions.Steps.{poweredOff, withFuse, burnt, movedRecord, storedRecord}
 use Rattle.model.specs.Contracts.{storedCount, volatileCount}
 use Rattle.model.specs.Laws.Logic.{byBool, byEq}
-use Rattle.model.specs.Laws.BlockFields.{withLog, withFuse-fields}
 use Rattle.model.specs.Laws.BlockWorking.{flushedLog, next-record, poweredOff-log}
-use Rattle.model.specs.Laws.BlockAreas.{withRecord}
-use Rattle.model.specs.Laws.BlockStable.{onSelected}
 use Rattle.model.specs.Laws.BlockFlush.{flushing, flushing-count, flushing-fields, working-storedRecords, fuseAfter, fuseAfter-none, fuseAfter-set, storedBurnt}
 use Rattle.model.specs.Laws.BlockFlush.{storedBurnt-parts, storedBurnt-log}
+use Rattle.model.specs.Laws.BoardFields.{withFuse-fields}
 use Rattle.steps.specs.Blocks.{withStored, flushEnded}
 
 -- the board after j turns: that of j stores, the fuse lowered after each, with the volatile log of before the flush
@@ -28,7 +26,7 @@ unfoldable pub flushTurns : ℕ → Board → Board
 flushTurns j x = onWorking (withLog (x .working .log)) (storedBurnt j x)
 
 pub flushTurns-none : (x : Board) → flushTurns 0 x ≡ x
-unfolding flushTurns onWorking withLog storedBurnt
+unfolding flushTurns onWorking storedBurnt
 flushTurns-none x = refl
 
 -- a power loss after any turn
@@ -41,18 +39,18 @@ unfolding flushTurns onWorking
 flushTurns-fuse j x = refl
 
 burnt-log : (g : Log) (x : Board) → onWorking (withLog g) (burnt x) ≡ burnt (onWorking (withLog g) x)
-unfolding burnt onWorking withLog withFuse
+unfolding burnt onWorking withFuse
 burnt-log g x = byBool (eqb (x .fuse) noFuse) (λ t. cc) (λ t. cc)
 
 module _ (x : Board) (low : x .fuse ≤ noFuse) where
   log-after : (j : ℕ) → j ≤ volatileCount x → storedBurnt j x .working .log ≡ flushedLog j (x .working .log)
-  unfolding withFuse withLog
+  unfolding withFuse
   log-after j h = ap (λ (y : Board). y .working .log) (storedBurnt-parts j x low) ∙ ap (λ w. w .log) (working-storedRecords j x h)
 
   -- one turn
   pub flushTurns-next : (j : ℕ) (d : Record) → j < volatileCount x
       → burnt (withStored (getD (x .working .log .records) j d) (flushTurns j x)) ≡ flushTurns (suc j) x
-  unfolding flushTurns storedBurnt onSelected onWorking withLog withRecord movedRecord
+  unfolding flushTurns storedBurnt onSelected onWorking movedRecord
   flushTurns-next j d h =
       let g : Log = x .working .log in
       let y : Board = storedBurnt j x in
@@ -60,7 +58,7 @@ module _ (x : Board) (low : x .fuse ≤ noFuse) where
 
   -- the end: n stores, the fuse lowered after each
   pub flushTurns-ended : (n : ℕ) → n ≡ volatileCount x → flushEnded n (flushTurns n x) ≡ storedBurnt n x
-  unfolding flushEnded flushTurns onWorking withLog flushedLog
+  unfolding flushEnded flushTurns onWorking flushedLog
   flushTurns-ended n e =
       let g : Log = x .working .log in
       let none : drop n (g .records) ≡ [] = rw e (drop-length (g .records)) in

@@ -83,7 +83,7 @@ module _ {pages : ℕ} {l : List ℕ} (block : IsBlock pages l) where
       ≡ encodeBoard (onWorking (recorded kind bytes) (boardOf pages l))
   record-bytes kind bytes count at p q v h =
       let s : count ≡ x .working .since = p ∙ (rw (block .back) at (read-since pages x ok)) in
-      rw (s, q) (rw (block .back) at (recorded-bytes pages x ok kind bytes (v (x .working .since) (ok .since)) (omega arith)))
+      rw (s, q) (rw (block .back) at (recorded-bytes pages x ok kind bytes (v (x .working .since) (ok .working .since)) (omega arith)))
 
   -- a record stored: its slot of the selected area, the stored count
   pub append-bytes : (r : Record) (at : ℕ) → at ≡ storedCount (boardOf pages l) → RecordOk pages r → at < slotCount
@@ -111,4 +111,4 @@ module _ {pages : ℕ} {l : List ℕ} (block : IsBlock pages l) where
   unfolding flushEnded flushedLog
   end-bytes n q =
       splice-apart l volatileCountAt (slotsAt pages) (0 ∷ []) (zeros (n * slotSize)) (omega arith) (omega (arith, block-length block))
-      ∙ rw q (rw (block .back, drop-length (x .working .log .records)) at (flushed-bytes pages x (ok .frames) (ok .log)))
+      ∙ rw q (rw (block .back, drop-length (x .working .log .records)) at (flushed-bytes pages x (ok .working .frames) (ok .working .log)))

@@ -11,11 +11,11 @@ use Rattle.types.specs.declared.State.the-variants.{Down}
 use Rattle.model.specs.Definitions.Parts.{part, splice, zeros}
 use Rattle.model.specs.Definitions.Layout.{noFuse, headSize, entrySize, blocksAt, fuseSize, numberSize, sinceSize, frameSize, slotsSize, stateAt, fuseAt}
 use Rattle.model.specs.Definitions.Layout.{numberAt, sinceAt, placeAt, volatileCountAt, framesAt, areaAt}
-use Rattle.model.specs.Definitions.Bank.{Board, Bank}
+use Rattle.model.specs.Definitions.Bank.{Board, Bank, withState}
 use Rattle.model.specs.Definitions.Codec.{encodeEntry, decodeEntry, stateByte, encodeBoard, encode, decode}
 use Rattle.model.specs.Definitions.Steps.{forgotten, withFuse, poweredOff}
 use Rattle.model.specs.Definitions.WellFormed.{FieldsOk}
-use Rattle.model.specs.Laws.BlockFields.{withState, write-state, write-fuse, fixed-inside}
+use Rattle.model.specs.Laws.BlockFields.{write-state, write-fuse, fixed-inside}
 use Rattle.model.specs.Laws.BlockWorking.{poweredOff-bytes, zeros-next}
 use Rattle.model.specs.Laws.BankSteps.{isBank-length, entry-of}
 use Rattle.model.specs.Contracts.{Fields, IsBank}

@@ -81,7 +81,7 @@ pub fn lacks_right(block: &[u8], pages: usize, page: usize, writes: bool) -> boo
 
 pub fn counters_full(block: &[u8], pages: usize) -> bool
     requires { ⌜ IsBlock pages (now block) ⌝ }
-    ensures { λ r. ⌜ r ≡ countersFull (boardOf pages (now (block .entry))) ⌝ }
+    ensures { λ r. ⌜ r ≡ countersFull lastSince (boardOf pages (now (block .entry))) ⌝ }
 {
     if read_since(block) == LAST_SINCE {
         return true;

@@ -5,37 +5,43 @@ use Prim.Native.Nat.{ℕ, suc, _+_, _-_, _≤_, _<_}
 use native.Mathlib.Numerals.{add-one}
 use native.Mathlib.Omega.{arith}
 use mathlib.Core.Bool.{Bool, true, false}
-use mathlib.Core.List.{List}
+use mathlib.Core.List.{List, [], _∷_, _++_, foldl-append}
+use Rattle.model.specs.Definitions.Parts.{tabulateFrom, tabulate}
 use Rattle.model.specs.Definitions.Bank.{Board, onWorking}
 use Rattle.model.specs.Definitions.Codec.{encodeBoard}
 use Rattle.model.specs.Definitions.WellFormed.{FieldsOk}
-use Rattle.model.specs.Definitions.Steps.{storedFrame, storedHead, storedSelector, restedWorking}
-use Rattle.model.specs.Laws.BlockStable.{storedFrame-fields, storedHead-fields, storedSelector-fields}
+use Rattle.model.specs.Definitions.Steps.{storedFrame, storedHead, storedSelector, spareStores, checkpointStores, restedWorking}
+use Rattle.model.specs.Definitions.BoardRuns.{BoardRun, startOn, storeOn, storeAllOn, checkpointOn}
+use Rattle.model.specs.Laws.Lists.{foldl-keeps, each-tabulate}
+use Rattle.model.specs.Laws.BoardFields.{storedFrame-fields, storedHead-fields, storedSelector-fields}
 use Rattle.steps.specs.Blocks.{IsBlock, boardOf}
-use Rattle.stores.specs.BoardRuns.{BoardRun, begun, storeOn, storeFramesOn, checkpointOn}
-use Rattle.stores.specs.RunLaws.{stepOn-lost, storeOn-lost, storeFramesOn-lost, storeFramesOn-next}
-use Rattle.stores.specs.RunFields.{storeFramesOn-fields}
+use Rattle.stores.specs.RunLaws.{stepOn-lost, storeOn-lost, storeAllOn-lost, frames-next}
+use Rattle.stores.specs.RunFields.{storeOn-fields}
 use Rattle.stores.specs.Store.{Ran, going, Spent, At, at-ran, at-stepped, at-block, at-next, at-cut}
 
 -- ---- the frames
+
+-- a checkpoint up to its last frame
+abbrev pub framesRun : ℕ → Board → BoardRun
+framesRun pages x = storeAllOn (tabulate pages storedFrame) (startOn x)
 
 -- after p turns: what is left to store gives what the whole gives
 pub record Saving (pages : ℕ) (x : Board) (p : ℕ) (l : List ℕ) : Type 0 where
   pub below : p ≤ pages
   pub block : IsBlock pages l
-  pub run : storeFramesOn 0 pages (begun x) ≡ storeFramesOn p (pages - p) (going (boardOf pages l) p)
+  pub run : framesRun pages x ≡ storeAllOn (tabulateFrom p (pages - p) storedFrame) (going (boardOf pages l) p)
 
 pub saving-begun : {pages : ℕ} {l : List ℕ} → IsBlock pages l → Saving pages (boardOf pages l) 0 l
-unfolding begun
+unfolding tabulate startOn
 saving-begun {pages} b = let e : pages - 0 ≡ pages = omega arith in record { below = omega arith; block = b; run = rw e }
 
 module _ {pages : ℕ} {x : Board} {p : ℕ} {l : List ℕ} (v : Saving pages x p l) where
-  pub saving-all : pages ≤ p → Ran (storeFramesOn 0 pages (begun x)) l pages false
-  unfolding storeFramesOn
+  pub saving-all : pages ≤ p → Ran (framesRun pages x) l pages false
+  unfolding tabulateFrom storeAllOn
   saving-all h =
       let e : p ≡ pages = omega (arith, v .below) in
       let z : pages - p ≡ 0 = omega arith in
-      let r : storeFramesOn 0 pages (begun x) ≡ going (boardOf pages l) p = rw z at (v .run) in
+      let r : framesRun pages x ≡ going (boardOf pages l) p = rw z at (v .run) in
       rw r (sym (v .block .back), sym e, refl)
 
   here : At pages (going (boardOf pages l) p) l p
@@ -49,23 +55,23 @@ module _ {pages : ℕ} {x : Board} {p : ℕ} {l : List ℕ} (v : Saving pages x 
     saving-block = at-block here (storedFrame p) w frame-ok
 
     module _ {o : List ℕ} {t : Bool} (s : Spent pages m o t) where
-      next : storeFramesOn 0 pages (begun x) ≡ storeFramesOn (suc p) (pages - suc p) (storeOn (storedFrame p) (going (boardOf pages l) p))
-      next = v .run ∙ storeFramesOn-next pages p (going (boardOf pages l) p) h
+      abbrev rest : List (Board → Board)
+      rest = tabulateFrom (suc p) (pages - suc p) storedFrame
+
+      next : framesRun pages x ≡ storeAllOn rest (storeOn (storedFrame p) (going (boardOf pages l) p))
+      unfolding storeAllOn
+      next = rw (frames-next pages p h) at (v .run)
 
       pub saving-next : t ≡ false → Saving pages x (p + 1) o
       saving-next z =
           let a : At pages (storeOn (storedFrame p) (going (boardOf pages l) p)) o (p + 1) = at-next here (storedFrame p) w frame-ok s z in
-          record {
-            below = omega arith;
-            block = a .block;
-            run = rw (add-one p) (next ∙ ap (storeFramesOn (suc p) (pages - suc p)) (rw (add-one p) at (a .run)));
-          }
+          record { below = omega arith; block = a .block; run = rw (add-one p) (next ∙ ap (storeAllOn rest) (rw (add-one p) at (a .run))) }
 
-      pub saving-cut : t ≡ true → Ran (storeFramesOn 0 pages (begun x)) o (p + 1) true
+      pub saving-cut : t ≡ true → Ran (framesRun pages x) o (p + 1) true
       saving-cut z =
           let r : BoardRun = storeOn (storedFrame p) (going (boardOf pages l) p) in
           let u : Ran r o (p + 1) true = at-cut here (storedFrame p) w frame-ok s z in
-          let e : storeFramesOn 0 pages (begun x) ≡ r = next ∙ storeFramesOn-lost (suc p) (pages - suc p) r (sym (u .2)) in
+          let e : framesRun pages x ≡ r = next ∙ storeAllOn-lost rest r (sym (u .2)) in
           rw e u
 
 -- ---- the whole
@@ -78,26 +84,36 @@ module _ {pages : ℕ} {r : BoardRun} {l : List ℕ} {n : ℕ} (a : At pages r l
   pub selector-ok : FieldsOk pages (storedSelector (boardOf pages l))
   selector-ok = storedSelector-fields pages (boardOf pages l) (a .block .fields)
 
--- a checkpoint up to its frames, to its head, to its selector
-abbrev pub framesRun : ℕ → Board → BoardRun
-framesRun pages x = storeFramesOn 0 pages (begun x)
-
+-- up to its head, and with its selector
 abbrev pub headRun : ℕ → Board → BoardRun
 headRun pages x = storeOn storedHead (framesRun pages x)
 
 abbrev pub selectorRun : ℕ → Board → BoardRun
 selectorRun pages x = storeOn storedSelector (headRun pages x)
 
+-- that is all it stores
+checkpoint-stores : (pages : ℕ) (x : Board) → storeAllOn (checkpointStores pages) (startOn x) ≡ selectorRun pages x
+unfolding checkpointStores spareStores storeAllOn
+checkpoint-stores pages x =
+    foldl-append (λ s f. storeOn f s) (startOn x) (tabulate pages storedFrame ++ (storedHead ∷ [])) (storedSelector ∷ [])
+    ∙ ap (storeOn storedSelector) (foldl-append (λ s f. storeOn f s) (startOn x) (tabulate pages storedFrame) (storedHead ∷ []))
+
 module _ {pages : ℕ} {l : List ℕ} (b : IsBlock pages l) where
   module _ {m : List ℕ} {n : ℕ} where
     pub frames-at : {t : Bool} → Ran (framesRun pages (boardOf pages l)) m n t → t ≡ false → At pages (framesRun pages (boardOf pages l)) m n
-    unfolding begun
-    frames-at w z = at-ran (b .few) (storeFramesOn-fields 0 pages (begun (boardOf pages l)) (b .fields)) w z
+    unfolding storeAllOn startOn
+    frames-at w z =
+        at-ran (b .few)
+        (foldl-keeps (λ r. FieldsOk pages (r .board)) _ (tabulate pages storedFrame)
+        (each-tabulate pages storedFrame (λ p. storeOn-fields (storedFrame p) (λ x ok. storedFrame-fields pages x ok p)))
+        (startOn (boardOf pages l)) (b .fields))
+        w z
 
     -- where power was lost at one of them, the checkpoint ends
     pub selector-lost : Ran (selectorRun pages (boardOf pages l)) m n true → Ran (checkpointOn pages (boardOf pages l)) m n true
     unfolding checkpointOn
-    selector-lost w = rw (stepOn-lost (onWorking restedWorking) (selectorRun pages (boardOf pages l)) (sym (w .2))) w
+    selector-lost w =
+        rw (checkpoint-stores pages (boardOf pages l), stepOn-lost (onWorking restedWorking) (selectorRun pages (boardOf pages l)) (sym (w .2))) w
 
     pub head-lost : Ran (headRun pages (boardOf pages l)) m n true → Ran (checkpointOn pages (boardOf pages l)) m n true
     head-lost w = selector-lost (rw (storeOn-lost storedSelector (headRun pages (boardOf pages l)) (sym (w .2))) w)
@@ -108,4 +124,4 @@ module _ {pages : ℕ} {l : List ℕ} (b : IsBlock pages l) where
     pub checkpoint-ran : At pages (selectorRun pages (boardOf pages l)) m n → {o : List ℕ} → o ≡ encodeBoard (onWorking restedWorking (boardOf pages m))
         → Ran (checkpointOn pages (boardOf pages l)) o n false
     unfolding checkpointOn
-    checkpoint-ran a w = at-stepped a (onWorking restedWorking) w
+    checkpoint-ran a w = rw (checkpoint-stores pages (boardOf pages l)) (at-stepped a (onWorking restedWorking) w)

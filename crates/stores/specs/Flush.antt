@@ -6,7 +6,7 @@ use native.Mathlib.Numerals.{add-one}
 use native.Mathlib.Omega.{arith}
 use mathlib.Core.Bool.{Bool, true, false}
 use mathlib.Core.List.{List}
-use lib.ListN.{length, getD}
+use lib.ListN.{length, replicate, getD}
 use lib.Dec.{eqb}
 use Rattle.types.specs.declared.Kind.{Kind}
 use Rattle.types.specs.declared.Record.{Record}
@@ -15,7 +15,8 @@ use Rattle.model.specs.Definitions.Layout.{slotCount, slotSize, slotsAt}
 use Rattle.model.specs.Definitions.Bank.{Working, Board, onWorking}
 use Rattle.model.specs.Definitions.Codec.{decodeRecord, encodeBoard}
 use Rattle.model.specs.Definitions.WellFormed.{RecordOk, FieldsOk, RoomOk}
-use Rattle.model.specs.Definitions.Steps.{poweredOff, burnt, recorded, storedRecord}
+use Rattle.model.specs.Definitions.Steps.{poweredOff, burnt, recorded, storedRecord, recordStores}
+use Rattle.model.specs.Definitions.BoardRuns.{BoardRun, startOn, spent, storeOn, storeAllOn, flushOn, loggedOn}
 use Rattle.model.specs.Laws.Lists.{each-getD}
 use Rattle.model.specs.Laws.BlockFields.{read-record}
 use Rattle.model.specs.Laws.BlockStable.{withRecord-fields}
@@ -26,8 +27,7 @@ use Rattle.steps.specs.Blocks.{IsBlock, boardOf, withStored, flushEnded}
 use Rattle.steps.specs.BlockLaws.{block-length, board-written, block-written}
 use Rattle.steps.specs.Flush.{flushTurns, flushTurns-none, flushTurns-off, flushTurns-fuse, flushTurns-next, flushTurns-ended, flushTurns-working}
 use Rattle.steps.specs.Flush.{flushTurns-stored, flushTurns-fields}
-use Rattle.stores.specs.BoardRuns.{BoardRun, begun, spent, storeOn, storeRecordsOn, flushOn, loggedOn}
-use Rattle.stores.specs.RunLaws.{spent-cut, spent-kept, storeOn-cut, storeOn-kept, storeRecordsOn-lost, storeRecordsOn-next}
+use Rattle.stores.specs.RunLaws.{spent-cut, spent-kept, storeOn-cut, storeOn-kept, storeAllOn-lost, records-next}
 use Rattle.stores.specs.RunFields.{recorded-room}
 use Rattle.stores.specs.Store.{Ran, going, Spent}
 
@@ -38,11 +38,11 @@ pub record Flushing (pages : ℕ) (l : List ℕ) (n j : ℕ) (m : List ℕ) : Ty
   pub count : n ≡ volatileCount (boardOf pages l)
   pub below : j ≤ n
   pub bytes : m ≡ encodeBoard (flushTurns j (boardOf pages l))
-  pub run : flushOn (boardOf pages l) ≡ storeRecordsOn (n - j) (going (storedBurnt j (boardOf pages l)) j)
+  pub run : flushOn (boardOf pages l) ≡ storeAllOn (replicate (n - j) storedRecord) (going (storedBurnt j (boardOf pages l)) j)
 
 pub flushing-begun : {pages : ℕ} {l : List ℕ} {n : ℕ} → IsBlock pages l → RoomOk (boardOf pages l) → n ≡ volatileCount (boardOf pages l)
     → Flushing pages l n 0 l
-unfolding flushOn begun storedBurnt
+unfolding flushOn recordStores startOn storedBurnt
 flushing-begun {pages} {l} {n} b room count =
     let x : Board = boardOf pages l in
     let e : n - 0 ≡ volatileCount x = omega arith in
@@ -82,7 +82,7 @@ module _ {pages : ℕ} {l : List ℕ} {n j : ℕ} {m : List ℕ} (v : Flushing p
   flushing-count = v .count ∙ ap (λ (y : Working). length (y .log .records)) (sym volatile)
 
   pub flushing-all : n ≤ j → {o : List ℕ} → o ≡ encodeBoard (flushEnded n (boardOf pages m)) → Ran (flushOn (boardOf pages l)) o n false
-  unfolding storeRecordsOn
+  unfolding storeAllOn
   flushing-all h {o} w =
       let e : j ≡ n = omega (arith, v .below) in
       let z : n - j ≡ 0 = omega arith in
@@ -108,7 +108,7 @@ module _ {pages : ℕ} {l : List ℕ} {n j : ℕ} {m : List ℕ} (v : Flushing p
           ∙ ap (λ (y : Working). getD (y .log .records) j r) volatile
 
       pub flushing-ok : RecordOk pages r
-      flushing-ok = rw next-read (each-getD (x .working .log .records) j r (b .fields .log .records) (omega (arith, v .count)))
+      flushing-ok = rw next-read (each-getD (x .working .log .records) j r (b .fields .working .log .records) (omega (arith, v .count)))
 
       module _ {a : List ℕ} (w : a ≡ encodeBoard (withStored r (boardOf pages m))) where
         appended-ok : FieldsOk pages (withStored r (boardOf pages m))
@@ -130,16 +130,17 @@ module _ {pages : ℕ} {l : List ℕ} {n j : ℕ} {m : List ℕ} (v : Flushing p
           unfolding storedBurnt
           blown = ap (λ (f : ℕ). eqb f 0) (sym (flushTurns-fuse (suc j) x)) ∙ ap (λ (y : Board). eqb (y .fuse) 0) (sym turned) ∙ sym (s .0)
 
-          next-run : flushOn x ≡ storeRecordsOn (n - suc j) (storeOn storedRecord (going (storedBurnt j x) j))
-          next-run = v .run ∙ storeRecordsOn-next n j (going (storedBurnt j x) j) h
+          next-run : flushOn x ≡ storeAllOn (replicate (n - suc j) storedRecord) (storeOn storedRecord (going (storedBurnt j x) j))
+          unfolding storeAllOn
+          next-run = rw (records-next n j h) at (v .run)
 
           pub flushing-next : t ≡ false → Flushing pages l n (j + 1) o
           unfolding storedBurnt
           flushing-next z =
               let k : storeOn storedRecord (going (storedBurnt j x) j) ≡ going (storedBurnt (suc j) x) (j + 1)
               = storeOn-kept storedRecord (going (storedBurnt j x) j) refl (blown ∙ z) in
-              let e : flushOn x ≡ storeRecordsOn (n - suc j) (going (storedBurnt (suc j) x) (suc j))
-              = rw (add-one j) at (next-run ∙ ap (storeRecordsOn (n - suc j)) k) in
+              let e : flushOn x ≡ storeAllOn (replicate (n - suc j) storedRecord) (going (storedBurnt (suc j) x) (suc j))
+              = rw (add-one j) at (next-run ∙ ap (storeAllOn (replicate (n - suc j) storedRecord)) k) in
               record {
                 block = b;
                 room = v .room;
@@ -154,7 +155,8 @@ module _ {pages : ℕ} {l : List ℕ} {n j : ℕ} {m : List ℕ} (v : Flushing p
           flushing-cut z =
               let r : BoardRun = record { board = poweredOff (storedBurnt (suc j) x); stores = j + 1; lost = true } in
               let k : storeOn storedRecord (going (storedBurnt j x) j) ≡ r = storeOn-cut storedRecord (going (storedBurnt j x) j) refl (blown ∙ z) in
-              let e : flushOn x ≡ r = next-run ∙ ap (storeRecordsOn (n - suc j)) k ∙ storeRecordsOn-lost (n - suc j) r refl in
+              let fs : List (Board → Board) = replicate (n - suc j) storedRecord in
+              let e : flushOn x ≡ r = next-run ∙ ap (storeAllOn fs) k ∙ storeAllOn-lost fs r refl in
               let q : spent (boardOf pages a) ≡ poweredOff (storedBurnt (suc j) x)
               = spent-cut (boardOf pages a) (sym (s .0) ∙ z) ∙ ap poweredOff turned ∙ flushTurns-off (suc j) x in
               rw e (s .1 ∙ ap encodeBoard q, refl, refl)

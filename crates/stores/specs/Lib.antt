@@ -1,4 +1,3 @@
-pub mod BoardRuns
 pub mod RunLaws
 pub mod RunFields
 pub mod Lifted

@@ -1,25 +1,25 @@
 -- A board's run lifted to the bank: `store`, `step`, `flush` and `checkpoint` of Definitions, made on a bank, are those of the board's run.
 -- Assumes nothing.
 use mathlib.Core.Path.{_≡_, refl, sym, ap, _∙_}
-use Prim.Native.Nat.{ℕ, zero, suc, _+_, _<_}
+use Prim.Native.Nat.{ℕ, _+_, _<_}
 use native.Mathlib.Omega.{arith}
 use mathlib.Core.Bool.{true, false}
 use mathlib.Core.Option.{none, some}
-use mathlib.Core.List.{List, map}
+use mathlib.Core.List.{List, [], _∷_, map}
 use lib.ListN.{length}
 use lib.Dec.{eqb}
 use borrow.Author.Tests.{eqb-true, eqb-false}
 use Rattle.types.specs.declared.Kind.{Kind}
 use Rattle.model.specs.Definitions.Parts.{update}
 use Rattle.model.specs.Definitions.Bank.{Board, Bank, noBoard, boardAt, onBoard, onWorking}
-use Rattle.model.specs.Definitions.Steps.{Run, step, forgotten, poweredOff, powerOff, burnt, store, recorded, note, storedRecord, storeRecords, flush}
-use Rattle.model.specs.Definitions.Steps.{storedFrame, storedHead, storedSelector, restedWorking, storeFrames, checkpoint}
+use Rattle.model.specs.Definitions.Steps.{Run, step, forgotten, poweredOff, powerOff, burnt, store, recorded, storeAll, note, recordStores, flush}
+use Rattle.model.specs.Definitions.Steps.{checkpointStores, restedWorking, checkpoint}
+use Rattle.model.specs.Definitions.BoardRuns.{BoardRun, startOn, stepOn, storeOn, storeAllOn, flushOn, loggedOn, checkpointOn}
 use Rattle.model.specs.Laws.Logic.{byBool}
 use Rattle.model.specs.Laws.Lists.{update-set}
 use Rattle.model.specs.Laws.EachFirst.{update-same}
 use Rattle.model.specs.Laws.Boards.{update-update, boards-onBoard, boardAt-same, onBoard-onBoard}
 use Rattle.model.specs.Laws.BankSteps.{store-kept, store-cut}
-use Rattle.stores.specs.BoardRuns.{BoardRun, begun, stepOn, storeOn, storeRecordsOn, flushOn, loggedOn, storeFramesOn, checkpointOn}
 use Rattle.stores.specs.RunLaws.{stepOn-lost, stepOn-going, storeOn-lost, storeOn-cut, storeOn-kept}
 
 -- the bank's run that a board's run stands for: n stores were made before it
@@ -99,8 +99,8 @@ module _ (b n : ℕ) (k : Bank) (h : b < length (k .boards)) where
       (store-kept b f (going r) refl (there r) (rw (here r) (eqb-false (burnt (f (r .board)) .fuse) 0 z)))))
 
   -- a run that begins
-  pub begun-lifted : record { bank = k; stores = n; lost = none } ≡ lifted b n k (begun (boardAt k b))
-  unfolding lifted begun onBoard boardAt
+  pub begun-lifted : record { bank = k; stores = n; lost = none } ≡ lifted b n k (startOn (boardAt k b))
+  unfolding lifted startOn onBoard boardAt
   begun-lifted =
       let e : update b (λ x. boardAt k b) (k .boards) ≡ k .boards
       = update-set b (λ x. boardAt k b) (k .boards) noBoard h ∙ sym (update-set b (λ x. x) (k .boards) noBoard h) ∙ update-same b (k .boards) in
@@ -108,39 +108,31 @@ module _ (b n : ℕ) (k : Bank) (h : b < length (k .boards)) where
       rw (e, z)
 
   -- stores one after another
-  records-lifted : (m : ℕ) (r : BoardRun) → storeRecords m b (lifted b n k r) ≡ lifted b n k (storeRecordsOn m r)
-  unfolding storeRecords storeRecordsOn
-  records-lifted zero r = refl
-  records-lifted (suc m) r = ap (storeRecords m b) (store-lifted storedRecord r) ∙ records-lifted m (storeOn storedRecord r)
-
-  frames-lifted : (p m : ℕ) (r : BoardRun) → storeFrames p m b (lifted b n k r) ≡ lifted b n k (storeFramesOn p m r)
-  unfolding storeFrames storeFramesOn
-  frames-lifted p zero r = refl
-  frames-lifted p (suc m) r = ap (storeFrames (suc p) m b) (store-lifted (storedFrame p) r) ∙ frames-lifted (suc p) m (storeOn (storedFrame p) r)
+  stores-lifted : (fs : List (Board → Board)) (r : BoardRun) → storeAll b fs (lifted b n k r) ≡ lifted b n k (storeAllOn fs r)
+  unfolding storeAll storeAllOn
+  stores-lifted [] r = refl
+  stores-lifted (f ∷ fs) r = ap (storeAll b fs) (store-lifted f r) ∙ stores-lifted fs (storeOn f r)
 
   -- a flush by a board that stored nothing in this run
-  flush-begun : (x : Board) → flush b (lifted b n k (begun x)) ≡ lifted b n k (flushOn x)
-  unfolding flush flushOn begun
+  flush-begun : (x : Board) → flush b (lifted b n k (startOn x)) ≡ lifted b n k (flushOn x)
+  unfolding flush flushOn startOn
   flush-begun x =
-      let e : boardAt (lifted b n k (begun x) .bank) b ≡ x = ap (λ (r : Run). boardAt (r .bank) b) (lifted-going b n k (begun x) refl) ∙ here (begun x) in
-      rw e (records-lifted (length (x .working .log .records)) (begun x))
+      let e : boardAt (lifted b n k (startOn x) .bank) b ≡ x = ap (λ (r : Run). boardAt (r .bank) b) (lifted-going b n k (startOn x) refl) ∙ here (startOn x) in
+      rw e (stores-lifted (recordStores x) (startOn x))
 
   pub logged-lifted : (kind : Kind) (bytes : List ℕ)
       → flush b (step (note b kind bytes) (record { bank = k; stores = n; lost = none })) ≡ lifted b n k (loggedOn kind bytes (boardAt k b))
-  unfolding note loggedOn stepOn begun
+  unfolding note loggedOn stepOn startOn
   logged-lifted kind bytes =
       let f : Board → Board = onWorking (recorded kind bytes) in
-      ap (λ (r : Run). flush b (step (onBoard b f) r)) begun-lifted ∙ ap (flush b) (step-lifted f (begun (boardAt k b))) ∙ flush-begun (f (boardAt k b))
+      ap (λ (r : Run). flush b (step (onBoard b f) r)) begun-lifted ∙ ap (flush b) (step-lifted f (startOn (boardAt k b))) ∙ flush-begun (f (boardAt k b))
 
   pub checkpoint-lifted : checkpoint b (record { bank = k; stores = n; lost = none }) ≡ lifted b n k (checkpointOn (length (k .directory)) (boardAt k b))
   unfolding checkpoint checkpointOn
   checkpoint-lifted =
-      let p : ℕ = length (k .directory) in
       let f : Board → Board = onWorking restedWorking in
-      let r : BoardRun = storeFramesOn 0 p (begun (boardAt k b)) in
-      let s : BoardRun = storeOn storedHead r in
-      ap (λ (r : Run). step (onBoard b f) (store b storedSelector (store b storedHead (storeFrames 0 p b r)))) begun-lifted
-      ∙ ap (λ (r : Run). step (onBoard b f) (store b storedSelector (store b storedHead r))) (frames-lifted 0 p (begun (boardAt k b)))
-      ∙ ap (λ (r : Run). step (onBoard b f) (store b storedSelector r)) (store-lifted storedHead r)
-      ∙ ap (step (onBoard b f)) (store-lifted storedSelector s)
-      ∙ step-lifted f (storeOn storedSelector s)
+      let fs : List (Board → Board) = checkpointStores (length (k .directory)) in
+      let r : BoardRun = startOn (boardAt k b) in
+      ap (λ (r : Run). step (onBoard b f) (storeAll b fs r)) begun-lifted
+      ∙ ap (step (onBoard b f)) (stores-lifted fs r)
+      ∙ step-lifted f (storeAllOn fs r)

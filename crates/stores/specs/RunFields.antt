@@ -1,6 +1,6 @@
 -- Every field of a board stays in range through a run of its stores, wherever the run ends. Assumes nothing.
 use mathlib.Core.Path.{_≡_, refl, ap}
-use Prim.Native.Nat.{ℕ, zero, suc, _≤_}
+use Prim.Native.Nat.{ℕ, _≤_}
 use native.Mathlib.Omega.{arith}
 use mathlib.Core.List.{List, [], _∷_}
 use lib.ListN.{length, length-append}
@@ -9,18 +9,20 @@ use Rattle.types.specs.declared.Kind.{Kind}
 use Rattle.types.specs.declared.Record.{Record}
 use Rattle.model.specs.Definitions.Layout.{mostPages}
 use Rattle.model.specs.Definitions.Bank.{Board, emptyLog, onWorking}
-use Rattle.model.specs.Definitions.Steps.{poweredOff, burnt, appended, recorded, storedRecord, storedFrame, storedHead, storedSelector, restedWorking}
+use Rattle.model.specs.Definitions.Steps.{poweredOff, burnt, appended, recorded, storedRecord, recordStores, storedFrame, storedHead, storedSelector}
+use Rattle.model.specs.Definitions.Steps.{checkpointStores, restedWorking}
+use Rattle.model.specs.Definitions.BoardRuns.{BoardRun, startOn, spent, storeOn, storeAllOn, flushOn, loggedOn, checkpointOn}
 use Rattle.model.specs.Definitions.WellFormed.{FieldsOk, RoomOk}
 use Rattle.model.specs.Laws.Logic.{byBool, cases}
+use Rattle.model.specs.Laws.Lists.{foldl-keeps}
 use Rattle.model.specs.Laws.Boards.{storedRecord-cases}
+use Rattle.model.specs.Laws.Runs.{each-recordStores, each-checkpointStores}
 use Rattle.model.specs.Laws.WrittenTests.{log-count}
 use Rattle.model.specs.Laws.Runs.Stores.{recordsOf, burnt-working, burnt-stable, flushed-storedRecord}
-use Rattle.model.specs.Laws.BlockStable.{storedFrame-fields, storedHead-fields, storedSelector-fields}
-use Rattle.model.specs.Laws.BlockWorking.{rested-fields}
 use Rattle.model.specs.Laws.BlockFlush.{storedRecords, storedRecords-fields}
-use Rattle.model.specs.Laws.BoardFields.{recorded-fields, burnt-fields, poweredOff-fields}
+use Rattle.model.specs.Laws.BoardFields.{recorded-fields, burnt-fields, poweredOff-fields, storedFrame-fields, storedHead-fields, storedSelector-fields}
+use Rattle.model.specs.Laws.BoardFields.{rested-fields}
 use Rattle.model.specs.Contracts.{RoomFor, Recordable}
-use Rattle.stores.specs.BoardRuns.{BoardRun, begun, spent, stepOn, storeOn, storeRecordsOn, flushOn, loggedOn, storeFramesOn, checkpointOn}
 use Rattle.stores.specs.RunLaws.{stepOn-lost, stepOn-going}
 
 module _ {pages : ℕ} where
@@ -28,29 +30,27 @@ module _ {pages : ℕ} where
   unfolding spent
   spent-fields {x} ok = cases (FieldsOk pages) (eqb (burnt x .fuse) 0) (λ t. poweredOff-fields (burnt-fields ok)) (λ t. burnt-fields ok)
 
-  pub stepOn-fields : (f : Board → Board) (r : BoardRun) → FieldsOk pages (r .board) → FieldsOk pages (f (r .board)) → FieldsOk pages (stepOn f r .board)
-  stepOn-fields f r ok v = byBool (r .lost) (λ t. rw (stepOn-lost f r t) ok) (λ t. rw (stepOn-going f r t) v)
-
-  pub storeOn-fields : (f : Board → Board) (r : BoardRun) → FieldsOk pages (r .board) → FieldsOk pages (f (r .board)) → FieldsOk pages (storeOn f r .board)
+  -- a store that keeps the fields
+  pub storeOn-fields : (f : Board → Board) → ((x : Board) → FieldsOk pages x → FieldsOk pages (f x)) → (r : BoardRun)
+      → FieldsOk pages (r .board) → FieldsOk pages (storeOn f r .board)
   unfolding storeOn
-  storeOn-fields f r ok v = byBool (r .lost) (λ t. rw t ok) (λ t. rw t (spent-fields v))
-
-  pub storeFramesOn-fields : (p n : ℕ) (r : BoardRun) → FieldsOk pages (r .board) → FieldsOk pages (storeFramesOn p n r .board)
-  unfolding storeFramesOn
-  storeFramesOn-fields p zero r ok = ok
-  storeFramesOn-fields p (suc n) r ok =
-      storeFramesOn-fields (suc p) n (storeOn (storedFrame p) r) (storeOn-fields (storedFrame p) r ok (storedFrame-fields pages (r .board) ok p))
+  storeOn-fields f h r ok = byBool (r .lost) (λ t. rw t ok) (λ t. rw t (spent-fields (h (r .board) ok)))
 
   pub checkpointOn-fields : (n : ℕ) (x : Board) → pages ≤ mostPages → FieldsOk pages x → FieldsOk pages (checkpointOn n x .board)
-  unfolding checkpointOn begun
+  unfolding checkpointOn startOn storeAllOn
   checkpointOn-fields n x few ok =
-      let frames : BoardRun = storeFramesOn 0 n (begun x) in
-      let head : BoardRun = storeOn storedHead frames in
-      let selector : BoardRun = storeOn storedSelector head in
-      let v₁ : FieldsOk pages (frames .board) = storeFramesOn-fields 0 n (begun x) ok in
-      let v₂ : FieldsOk pages (head .board) = storeOn-fields storedHead frames v₁ (storedHead-fields pages (frames .board) v₁ few) in
-      let v₃ : FieldsOk pages (selector .board) = storeOn-fields storedSelector head v₂ (storedSelector-fields pages (head .board) v₂) in
-      stepOn-fields (onWorking restedWorking) selector v₃ (rested-fields pages (selector .board) v₃)
+      let r : BoardRun = storeAllOn (checkpointStores n) (startOn x) in
+      let v : FieldsOk pages (r .board) =
+      foldl-keeps (λ s. FieldsOk pages (s .board)) _ (checkpointStores n)
+      (each-checkpointStores
+      (λ p. storeOn-fields (storedFrame p) (λ y o. storedFrame-fields pages y o p))
+      (storeOn-fields storedHead (λ y o. storedHead-fields pages y o few))
+      (storeOn-fields storedSelector (storedSelector-fields pages))
+      n)
+      (startOn x) ok in
+      byBool (r .lost)
+      (λ t. rw (stepOn-lost (onWorking restedWorking) r t) v)
+      (λ t. rw (stepOn-going (onWorking restedWorking) r t) (rested-fields pages (r .board) v))
 
 -- room for a record is taken by it
 pub recorded-room : (kind : Kind) (bytes : List ℕ) (x : Board) → RoomFor 1 x → RoomOk (onWorking (recorded kind bytes) x)
@@ -87,18 +87,17 @@ module _ {pages : ℕ} where
       (λ r rs e q. rw q (storedRecords-fields pages x ok h 1 (rw e (omega arith))))
       refl
 
-  storeRecordsOn-fields : (n : ℕ) (r : BoardRun) → FieldsOk pages (r .board) → RoomOk (r .board) → FieldsOk pages (storeRecordsOn n r .board)
-  unfolding storeRecordsOn storeOn
-  storeRecordsOn-fields zero r ok h = ok
-  storeRecordsOn-fields (suc n) r ok h =
-      let x : Board = storedRecord (r .board) in
-      let v : FieldsOk pages x = storedRecord-fields (r .board) ok h in
-      storeRecordsOn-fields n (storeOn storedRecord r) (storeOn-fields storedRecord r ok v)
-      (byBool (r .lost) (λ t. rw t h) (λ t. rw t (room-spent x v (room-storedRecord (r .board) h))))
-
-  pub flushOn-fields : (x : Board) → FieldsOk pages x → RoomOk x → FieldsOk pages (flushOn x .board)
-  unfolding flushOn begun
-  flushOn-fields x ok h = storeRecordsOn-fields (length (x .working .log .records)) (begun x) ok h
+  flushOn-fields : (x : Board) → FieldsOk pages x → RoomOk x → FieldsOk pages (flushOn x .board)
+  unfolding flushOn startOn storeAllOn storeOn
+  flushOn-fields x ok h =
+      foldl-keeps (λ r. FieldsOk pages (r .board) × RoomOk (r .board)) (λ r f. storeOn f r) (recordStores x)
+      (each-recordStores
+      (λ r q.
+      let y : Board = storedRecord (r .board) in
+      let v : FieldsOk pages y = storedRecord-fields (r .board) (q .0) (q .1) in
+      byBool (r .lost) (λ t. rw t q) (λ t. rw t (spent-fields v, room-spent y v (room-storedRecord (r .board) (q .1)))))
+      x)
+      (startOn x) (ok, h) .0
 
   pub loggedOn-fields : (kind : Kind) (bytes : List ℕ) (x : Board) → FieldsOk pages x → RoomFor 1 x → Recordable pages kind bytes
       → FieldsOk pages (loggedOn kind bytes x .board)

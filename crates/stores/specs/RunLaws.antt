@@ -1,12 +1,15 @@
 -- Laws of a board's run: a lost one is passed on unchanged, and what a store makes of one that is not. Assumes nothing.
 use mathlib.Core.Path.{_≡_, refl}
-use Prim.Native.Nat.{ℕ, zero, suc, _+_, _-_, _<_}
+use Prim.Native.Nat.{ℕ, suc, _+_, _-_, _<_}
 use native.Mathlib.Omega.{arith}
 use mathlib.Core.Bool.{true, false}
+use mathlib.Core.List.{List, [], _∷_}
+use lib.ListN.{replicate}
 use lib.Dec.{eqb}
+use Rattle.model.specs.Definitions.Parts.{tabulateFrom}
 use Rattle.model.specs.Definitions.Bank.{Board}
 use Rattle.model.specs.Definitions.Steps.{poweredOff, burnt, storedRecord, storedFrame}
-use Rattle.stores.specs.BoardRuns.{BoardRun, spent, stepOn, storeOn, storeRecordsOn, storeFramesOn}
+use Rattle.model.specs.Definitions.BoardRuns.{BoardRun, spent, stepOn, storeOn, storeAllOn}
 
 -- a board right after a store, whose fuse blew or didn't
 pub spent-cut : (x : Board) → eqb (burnt x .fuse) 0 ≡ true → spent x ≡ poweredOff (burnt x)
@@ -41,21 +44,15 @@ module _ (f : Board → Board) (r : BoardRun) where
   unfolding storeOn
   storeOn-kept t z = rw (t, z, spent-kept (f (r .board)) z)
 
-pub storeRecordsOn-lost : (n : ℕ) (r : BoardRun) → r .lost ≡ true → storeRecordsOn n r ≡ r
-unfolding storeRecordsOn
-storeRecordsOn-lost zero r t = refl
-storeRecordsOn-lost (suc n) r t = rw (storeOn-lost storedRecord r t) (storeRecordsOn-lost n r t)
-
-pub storeFramesOn-lost : (p n : ℕ) (r : BoardRun) → r .lost ≡ true → storeFramesOn p n r ≡ r
-unfolding storeFramesOn
-storeFramesOn-lost p zero r t = refl
-storeFramesOn-lost p (suc n) r t = rw (storeOn-lost (storedFrame p) r t) (storeFramesOn-lost (suc p) n r t)
+pub storeAllOn-lost : (fs : List (Board → Board)) (r : BoardRun) → r .lost ≡ true → storeAllOn fs r ≡ r
+unfolding storeAllOn
+storeAllOn-lost [] r t = refl
+storeAllOn-lost (f ∷ fs) r t = rw (storeOn-lost f r t) (storeAllOn-lost fs r t)
 
 -- the next of the stores that are left
-pub storeRecordsOn-next : (n j : ℕ) (r : BoardRun) → j < n → storeRecordsOn (n - j) r ≡ storeRecordsOn (n - suc j) (storeOn storedRecord r)
-unfolding storeRecordsOn
-storeRecordsOn-next n j r h = let e : n - j ≡ suc (n - suc j) = omega arith in rw e
+pub records-next : (n j : ℕ) → j < n → replicate (n - j) storedRecord ≡ storedRecord ∷ replicate (n - suc j) storedRecord
+records-next n j h = let e : n - j ≡ suc (n - suc j) = omega arith in rw e
 
-pub storeFramesOn-next : (n p : ℕ) (r : BoardRun) → p < n → storeFramesOn p (n - p) r ≡ storeFramesOn (suc p) (n - suc p) (storeOn (storedFrame p) r)
-unfolding storeFramesOn
-storeFramesOn-next n p r h = let e : n - p ≡ suc (n - suc p) = omega arith in rw e
+pub frames-next : (n p : ℕ) → p < n → tabulateFrom p (n - p) storedFrame ≡ storedFrame p ∷ tabulateFrom (suc p) (n - suc p) storedFrame
+unfolding tabulateFrom
+frames-next n p h = let e : n - p ≡ suc (n - suc p) = omega arith in rw e

@@ -9,9 +9,9 @@ use Rattle.model.specs.Definitions.Bank.{Board}
 use Rattle.model.specs.Definitions.Codec.{encodeBoard}
 use Rattle.model.specs.Definitions.WellFormed.{FieldsOk}
 use Rattle.model.specs.Definitions.Steps.{burnt}
+use Rattle.model.specs.Definitions.BoardRuns.{BoardRun, spent, stepOn, storeOn}
 use Rattle.steps.specs.Blocks.{IsBlock, boardOf}
 use Rattle.steps.specs.BlockLaws.{board-written, block-written}
-use Rattle.stores.specs.BoardRuns.{BoardRun, spent, stepOn, storeOn}
 use Rattle.stores.specs.RunFields.{spent-fields}
 
 -- what is left of a run: the block, how many stores, whether power was lost

@@ -7,16 +7,18 @@ use steps::checkpoint::store_head;
 use steps::checkpoint::store_selector;
 ghost use mathlib.Core.Path.{_≡_};
 ghost use Prim.Native.Nat.{_+_, _≤_};
+ghost use Rattle.model.specs.Definitions.Parts.{tabulate};
 ghost use Rattle.model.specs.Definitions.Codec.{encodeBoard};
+ghost use Rattle.model.specs.Definitions.Steps.{storedFrame};
+ghost use Rattle.model.specs.Definitions.BoardRuns.{startOn, storeAllOn, checkpointOn};
 ghost use Rattle.steps.specs.Blocks.{IsBlock, boardOf};
-ghost use Rattle.stores.specs.BoardRuns.{begun, storeFramesOn, checkpointOn};
 
 // The frames, "in page order".
 fn store_frames(block: &mut [u8], pages: usize) -> Stored
     requires { ⌜ IsBlock pages (now block) ⌝ }
-    ensures run { λ r. ⌜ (now (block .exit) ≡ encodeBoard (storeFramesOn 0 pages (begun (boardOf pages (now (block .entry)))) .board))
-        × (r .stores ≡ storeFramesOn 0 pages (begun (boardOf pages (now (block .entry)))) .stores)
-        × (r .lost ≡ storeFramesOn 0 pages (begun (boardOf pages (now (block .entry)))) .lost) ⌝ }
+    ensures run { λ r. ⌜ (now (block .exit) ≡ encodeBoard (storeAllOn (tabulate pages storedFrame) (startOn (boardOf pages (now (block .entry)))) .board))
+        × (r .stores ≡ storeAllOn (tabulate pages storedFrame) (startOn (boardOf pages (now (block .entry)))) .stores)
+        × (r .lost ≡ storeAllOn (tabulate pages storedFrame) (startOn (boardOf pages (now (block .entry)))) .lost) ⌝ }
     ensures few { λ r. ⌜ r .stores ≤ pages ⌝ }
 {
     let mut page = 0;

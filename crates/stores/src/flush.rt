@@ -13,9 +13,9 @@ ghost use Prim.Native.Nat.{_≤_, _<_};
 ghost use Rattle.model.specs.Definitions.Layout.{slotCount};
 ghost use Rattle.model.specs.Definitions.Codec.{encodeBoard};
 ghost use Rattle.model.specs.Definitions.WellFormed.{RoomOk};
+ghost use Rattle.model.specs.Definitions.BoardRuns.{flushOn, loggedOn};
 ghost use Rattle.model.specs.Contracts.{RoomFor, Recordable};
 ghost use Rattle.steps.specs.Blocks.{IsBlock, boardOf};
-ghost use Rattle.stores.specs.BoardRuns.{flushOn, loggedOn};
 
 // The volatile log stays in the bytes until the last record is stored; a power loss on the way empties it anyhow.
 pub fn flush(block: &mut [u8], pages: usize) -> Stored

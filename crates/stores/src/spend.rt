@@ -5,8 +5,8 @@ ghost use mathlib.Core.Path.{_≡_};
 ghost use lib.Dec.{eqb};
 ghost use Rattle.model.specs.Definitions.Codec.{encodeBoard};
 ghost use Rattle.model.specs.Definitions.Steps.{burnt};
+ghost use Rattle.model.specs.Definitions.BoardRuns.{spent};
 ghost use Rattle.steps.specs.Blocks.{IsBlock, boardOf};
-ghost use Rattle.stores.specs.BoardRuns.{spent};
 
 // How far a board came with its stores: how many it made, and whether its fuse blew at the last.
 pub struct Stored {

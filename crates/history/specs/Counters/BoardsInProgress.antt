@@ -2,23 +2,20 @@
 -- One lemma for each step of a run. Assumes nothing.
 use mathlib.Core.Path.{_≡_, refl, sym, ap, _∙_}
 use mathlib.Core.Logic.{_≢_}
-use Prim.Native.Nat.{ℕ, zero, suc, _<_}
+use Prim.Native.Nat.{ℕ, _<_}
 use mathlib.Core.Option.{none, some}
-use mathlib.Core.List.{[]}
 use lib.ListN.{length}
 use Rattle.types.specs.declared.Frame.{Frame}
 use Rattle.types.specs.declared.State.the-variants.{Up}
 use Rattle.model.specs.Definitions.Bank.{Working, Stable, Board, Bank, boardAt, onBoard, onWorking, onFrames, onSpare}
-use Rattle.model.specs.Definitions.Steps.{Run, step, poweredOff, powerOff, burnt, store, storedRecord, storeRecords, flush, storedFrame, storedHead}
-use Rattle.model.specs.Definitions.Steps.{storedSelector, restedWorking, storeFrames, checkpoint, withFrame}
+use Rattle.model.specs.Definitions.Steps.{Run, step, poweredOff, powerOff, burnt, store, storedFrame, storedHead, storedSelector, restedWorking, withFrame}
 use Rattle.model.specs.Laws.Logic.{byEq}
 use Rattle.model.specs.Laws.Boards.{boardAt-same, boardAt-other, boardAt-powerOff-same, boardAt-powerOff-other, powerOff-onBoard, onBoard-onBoard}
-use Rattle.model.specs.Laws.Runs.{lost-not, step-cases, store-cases, SameSizes, sizes-same, sizes-trans, sizes-onBoard, sizes-powerOff, follows-none}
-use Rattle.model.specs.Laws.Runs.{follows-trans, follows-store, follows-storeFrames, changed-store}
-use Rattle.model.specs.Laws.Runs.Stores.{burnt-state, burnt-working, burnt-stable, flushed-storedRecord, Headed, storedHead-changed}
-use Rattle.model.specs.Laws.Keeps.Clauses.{up-below}
-use Rattle.model.specs.History.RecoveryStatement.{SameCounters, Change, Stored, Selected, Lost, Quiet, Changes, unchanged, next}
-use Rattle.history.specs.Counters.Spacing.{Orderly, orderly-less, storedRecord-orderly, selected-orderly, poweredOff-orderly, quiet-orderly}
+use Rattle.model.specs.Laws.Runs.{lost-not, step-cases, store-cases, SameSizes, sizes-same, sizes-trans, sizes-onBoard, sizes-powerOff}
+use Rattle.model.specs.Laws.Runs.Stores.{burnt-state, burnt-working, burnt-stable}
+use Rattle.model.specs.Moves.{Saved}
+use Rattle.model.specs.History.RecoveryStatement.{SameCounters, Change, Selected, Lost, Quiet, Changes, unchanged, next}
+use Rattle.history.specs.Counters.Spacing.{Orderly, orderly-less, selected-orderly, poweredOff-orderly, quiet-orderly}
 use Rattle.model.specs.Laws.Keeps.Stores.{poweredOff-burnt}
 
 -- ==== a board
@@ -69,23 +66,16 @@ pub withFrame-same : (p : ℕ) (f : Frame) (x : Board) → SameCounters x (withF
 unfolding withFrame onWorking onFrames
 withFrame-same p f x = record { state = refl; number = refl; since = refl; place = refl; volatile = refl; second = refl; selected = refl }
 
-storedFrame-same : (p : ℕ) (x : Board) → SameCounters x (storedFrame p x)
+pub storedFrame-same : (p : ℕ) (x : Board) → SameCounters x (storedFrame p x)
 unfolding storedFrame onSpare
 storedFrame-same p x = record { state = refl; number = refl; since = refl; place = refl; volatile = refl; second = refl; selected = refl }
 
-storedHead-same : (x : Board) → SameCounters x (storedHead x)
+pub storedHead-same : (x : Board) → SameCounters x (storedHead x)
 unfolding storedHead onSpare
 storedHead-same x = record { state = refl; number = refl; since = refl; place = refl; volatile = refl; second = refl; selected = refl }
 
--- an up board whose spare area has its head, with its number and no record
-record HeadStored (x : Board) : Type 0 where
-  up : x .state ≡ Up
-  number : x .stable .spare .number ≡ x .working .number
-  records : x .stable .spare .log .records ≡ []
-
-selected-advance : {P Q : Type 0} (x : Board) → HeadStored x → Advance P Q x (onWorking restedWorking (storedSelector x))
-selected-advance x h =
-    advance-one (Selected (h .up) (h .number) (h .records) refl) (λ o. selected-orderly x (h .up) (h .records))
+selected-advance : {P Q : Type 0} (x : Board) → x .state ≡ Up → Saved x → Advance P Q x (onWorking restedWorking (storedSelector x))
+selected-advance x u v = advance-one (Selected u (v .number) (v .records) refl) (λ o. selected-orderly x u (v .records))
 
 rested-burnt-same : (x : Board) → SameCounters (onWorking restedWorking x) (onWorking restedWorking (burnt x))
 unfolding onWorking restedWorking
@@ -177,14 +167,6 @@ module _ {P Q : ℕ → Type 0} where
 burnt-advances : {P : ℕ → Type 0} (b : ℕ) (k : Bank) → Advances P P k (onBoard b burnt k)
 burnt-advances b k = onBoard-advances b k (λ c n p. p) burnt (λ l. advance-quiet (burnt-same (boardAt k b)))
 
--- a board that stores stays up, if it isn't lost
-store-up : (b : ℕ) (f : Board → Board) → ((x : Board) → f x .state ≡ x .state) → (r : Run) → (r .lost ≡ none → boardAt (r .bank) b .state ≡ Up)
-    → store b f r .lost ≡ none → boardAt (store b f r .bank) b .state ≡ Up
-store-up b f same r u e =
-    let n : r .lost ≡ none = follows-none (follows-store {By = λ c. c ≡ b} b f r refl) e in
-    let x : Board = boardAt (r .bank) b in
-    changed-store b {R = λ x y. y .state ≡ x .state} f r e (burnt-state (f x) ∙ same x) .this (up-below (r .bank) b (u n)) ∙ u n
-
 -- a store of board b, of which alone something may be pending
 module _ {P : ℕ → Type 0} (b : ℕ) (only : (c : ℕ) → c ≢ b → P c → ⊥) where
   -- its fuse blows
@@ -213,36 +195,11 @@ module _ {P : ℕ → Type 0} (b : ℕ) (only : (c : ℕ) → c ≢ b → P c �
             (advances-trans (onBoard-advances b (r .bank) (λ c m p. absurd (only c m p)) f (a n)) (burnt-advances b (onBoard b f (r .bank))));
       })
 
-  -- ---- a flush
-
-  storeRecords-advances : (n : ℕ) (r : Run) → (r .lost ≡ none → boardAt (r .bank) b .state ≡ Up) → RunAdvances P P r (storeRecords n b r)
-  unfolding storeRecords
-  storeRecords-advances zero r u = run-same r (λ c p. p)
-  storeRecords-advances (suc n) r u =
-      run-trans
-      (store-advances storedRecord r
-      (λ e l. advance-one (Stored (u e) refl) (storedRecord-orderly (boardAt (r .bank) b) (u e))))
-      (storeRecords-advances n (store b storedRecord r) (store-up b storedRecord (λ x. flushed-storedRecord x .state) r u))
-
-  -- "Flush ..", of an up board
-  pub flush-advances : (r : Run) → (r .lost ≡ none → boardAt (r .bank) b .state ≡ Up) → RunAdvances P P r (flush b r)
-  unfolding flush
-  flush-advances r u = storeRecords-advances (length (boardAt (r .bank) b .working .log .records)) r u
-
-  -- ---- a checkpoint
-
-  storeFrames-advances : (p n : ℕ) (r : Run) → RunAdvances P P r (storeFrames p n b r)
-  unfolding storeFrames
-  storeFrames-advances p zero r = run-same r (λ c h. h)
-  storeFrames-advances p (suc n) r =
-      run-trans (store-advances (storedFrame p) r (λ e l. advance-quiet (storedFrame-same p (boardAt (r .bank) b))))
-      (storeFrames-advances (suc p) n (store b (storedFrame p) r))
-
   -- the selector and the rest after it, of an up board whose spare area has its head
-  selector-advances : (r : Run) → (r .lost ≡ none → HeadStored (boardAt (r .bank) b))
+  pub selector-advances : (r : Run) → boardAt (r .bank) b .state ≡ Up → Saved (boardAt (r .bank) b)
       → RunAdvances P Nobody r (step (onBoard b (onWorking restedWorking)) (store b storedSelector r))
   unfolding step
-  selector-advances r h =
+  selector-advances r u v =
       let k : Bank = r .bank in
       let x : Board = boardAt k b in
       store-cases (λ s. RunAdvances P Nobody r (step (onBoard b (onWorking restedWorking)) s)) b storedSelector r
@@ -256,7 +213,7 @@ module _ {P : ℕ → Type 0} (b : ℕ) (only : (c : ℕ) → c ≢ b → P c �
             advances-less (λ c g. g .1) (λ c q. absurd q)
             (rw (e, onBoard-onBoard b storedSelector (onWorking restedWorking) k)
             (advances-trans {Q = Nobody}
-            (onBoard-advances b k only (λ y. onWorking restedWorking (storedSelector y)) (λ l. selected-advance x (h n)))
+            (onBoard-advances b k only (λ y. onWorking restedWorking (storedSelector y)) (λ l. selected-advance x u v))
             (powerOff-advances b (onBoard b (λ y. onWorking restedWorking (storedSelector y)) k) (λ c m q. q))));
       })
       (λ n z.
@@ -265,25 +222,5 @@ module _ {P : ℕ → Type 0} (b : ℕ) (only : (c : ℕ) → c ≢ b → P c �
             advances-less (λ c g. g .1) (λ c q. absurd q)
             (rw (onBoard-onBoard b storedSelector burnt k, onBoard-onBoard b (λ y. burnt (storedSelector y)) (onWorking restedWorking) k)
             (onBoard-advances b k only (λ y. onWorking restedWorking (burnt (storedSelector y)))
-            (λ l. advance-trans (selected-advance x (h n)) (advance-quiet (rested-burnt-same (storedSelector x))))));
+            (λ l. advance-trans (selected-advance x u v) (advance-quiet (rested-burnt-same (storedSelector x))))));
       })
-
-  -- "Checkpoint: ..", of an up board
-  pub checkpoint-advances : (r : Run) → (r .lost ≡ none → boardAt (r .bank) b .state ≡ Up) → RunAdvances P Nobody r (checkpoint b r)
-  unfolding checkpoint
-  checkpoint-advances r u =
-      let n : ℕ = length (r .bank .directory) in
-      let r₁ : Run = storeFrames 0 n b r in
-      let r₂ : Run = store b storedHead r₁ in
-      run-trans (storeFrames-advances 0 n r)
-      (run-trans (store-advances storedHead r₁ (λ e l. advance-quiet (storedHead-same (boardAt (r₁ .bank) b))))
-      (selector-advances r₂
-      (λ e.
-      let going : r .lost ≡ none =
-      follows-none (follows-trans (follows-storeFrames {By = λ c. c ≡ b} 0 n b r refl) (follows-store b storedHead r₁ refl)) e in
-      let t : Headed (boardAt (r .bank) b) (boardAt (r₂ .bank) b) = storedHead-changed 0 n b r e .this (up-below (r .bank) b (u going)) in
-      record {
-        up = t .saving .state ∙ u going;
-        number = t .number ∙ sym (ap (λ (w : Working). w .number) (t .saving .working));
-        records = t .records;
-      })))

@@ -15,9 +15,9 @@ use Rattle.model.specs.Definitions.Layout.{pageSize}
 use Rattle.model.specs.Definitions.Bank.{Board, Bank, emptyFrame, boardAt, entryAt, onBoard, onWorking}
 use Rattle.model.specs.Definitions.WellFormed.{isGot}
 use Rattle.model.specs.Definitions.Steps.{withFuse, recorded, note, Access, accessed, access, frameOf, giveCopy, dropped, dropCopies, passOwnership}
-use Rattle.model.specs.Definitions.Replay.{loaded, recordsLeft, usedUp, due, tookDue, replayOver, settled, replayed}
+use Rattle.model.specs.Definitions.Replay.{loaded, recordsLeft, usedUp, due, tookDue, replayOver, settled, replayed, settle}
 use Rattle.model.specs.Laws.Logic.{byOption, byEq, cases}
-use Rattle.model.specs.Laws.Boards.{boardAt-same, onBoard-onBoard, settle, tookCopy, tookOwn, droppedIf, boardAt-giveCopy-same, boardAt-giveCopy-other}
+use Rattle.model.specs.Laws.Boards.{boardAt-same, onBoard-onBoard, tookCopy, tookOwn, droppedIf, boardAt-giveCopy-same, boardAt-giveCopy-other}
 use Rattle.model.specs.Laws.Boards.{boardAt-dropCopies, boardAt-passOwnership-same, boardAt-passOwnership-other}
 use Rattle.model.specs.Laws.Runs.{sizes-giveCopy, sizes-dropCopies, sizes-passOwnership}
 use Rattle.model.specs.Laws.Runs.Stores.{recordsOf}

@@ -4,7 +4,8 @@ use mathlib.Core.Bool.{true, false}
 use mathlib.Core.List.{[], _∷_}
 use Rattle.model.specs.Definitions.Parts.{every}
 use Rattle.model.specs.Definitions.Bank.{fresh}
-use Rattle.model.specs.Definitions.Calls.{Reading, Writing, Cutting}
+use Rattle.model.specs.Definitions.Steps.{Read, Write}
+use Rattle.model.specs.Definitions.Calls.{Accessing, Cutting}
 use Rattle.model.specs.History.Statement.{noHistory, ofBoard, discard, doneEvent, eventOf, entryCount, repeats, withNumberOf, bytesFrom, withEntry, fed}
 use Rattle.model.specs.History.Statement.{zeroMemory, byteIn, written, accessOf, liveBank, giverIn, gaveIn, grantedAfter, nextEntry}
 use Rattle.model.specs.History.Tests.{sameBytes, sameAccess, doneOrLost, repeatsEntry, premiseFor, oneMemoryTest, gaveEntry, repeatFor, grantsFor}
@@ -63,7 +64,7 @@ otherByteRepeated-breaks = refl
 
 -- what is given is noted, live and after a replay that ended in the same access; a recovery point below what was given breaks the claim
 pub grants-noted :
-    (grantsIn (Writing 0 0 0 5 ∷ Reading 1 0 0 ∷ []) (fresh 2 1) (λ b. 0) 0 ≡ 1)
+    (grantsIn (Accessing 0 (Write 0 0 5) ∷ Accessing 1 (Read 0 0) ∷ []) (fresh 2 1) (λ b. 0) 0 ≡ 1)
     × ((grantsIn givenAfterReplay (fresh 2 2) (λ b. 0) 1 ≡ 1) × (claimsOn (Cutting 0 ∷ []) (fresh 2 1) noHistory (λ b. 1) ≡ false))
 unfolding evaluate tables
 grants-noted = (refl, (refl, refl))

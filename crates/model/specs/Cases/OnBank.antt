@@ -16,13 +16,13 @@ use Rattle.model.specs.Definitions.Calls.{Call, Reply, callBank, replyOf
 use Rattle.model.specs.Definitions.Answers.{code, value, who}
 use Rattle.model.specs.Laws.Lists.{each-head, each-tail}
 use Rattle.model.specs.Laws.Fresh.{fresh-wellFormed}
-use Rattle.model.specs.Laws.Keeps.Calls.{call-keeps}
 use Rattle.model.specs.History.Statement.{History, noHistory, System, begin, accessOf, zeroMemory}
 use Rattle.model.specs.History.Tests.{premiseFor, oneMemoryTest, repeatFor, grantsFor, premiseTest, claimTest, premisesTest, claimsTest}
 use Rattle.model.specs.History.Banks.{systemOf, historyAfter, grantsAfter}
 use Rattle.model.specs.History.OnBytes.{decoded, call-encode, after-system, begin-system}
 use Rattle.model.specs.Cases.Running.{leavesOn, passesOn, passesFresh, premisesOn, claimsOn}
 use Rattle.model.specs.Cases.Table.{Line, Left, Anything, Digest, RecoveryPoint, Script, agrees, leaves, passesLines, passesMade, passes}
+use Rattle.model.specs.Laws.Moves.Calls.{call-keeps}
 
 -- ---- the table of answers
 

@@ -11,7 +11,8 @@ use Rattle.model.specs.Definitions.Bank.{boardAt}
 use Rattle.model.specs.Definitions.Codec.{decode}
 use Rattle.model.specs.Definitions.Replay.{recoveryPoint}
 use Rattle.model.specs.Definitions.Answers.{code, value, who}
-use Rattle.model.specs.Definitions.Calls.{Call, Reading, Writing, Cutting, Fusing, Restarting, Reply, call, make}
+use Rattle.model.specs.Definitions.Steps.{Read, Write}
+use Rattle.model.specs.Definitions.Calls.{Call, Accessing, Cutting, Fusing, Restarting, Reply, call, make}
 use Rattle.model.specs.Cases.Digest.{digest}
 
 -- a line of a script and what it prints: code, value, who, stores
@@ -61,13 +62,13 @@ caseA =
       boards = 2;
       pages = 1;
       lines =
-          record { asks = Writing 1 0 3 7; prints = (0, 0, 0, 2) }
-          ∷ record { asks = Reading 0 0 3; prints = (0, 7, 0, 1) }
+          record { asks = Accessing 1 (Write 0 3 7); prints = (0, 0, 0, 2) }
+          ∷ record { asks = Accessing 0 (Read 0 3); prints = (0, 7, 0, 1) }
           ∷ record { asks = Cutting 0; prints = (0, 0, 0, 0) }
-          ∷ record { asks = Writing 1 0 3 9; prints = (0, 0, 0, 0) }
+          ∷ record { asks = Accessing 1 (Write 0 3 9); prints = (0, 0, 0, 0) }
           ∷ record { asks = Restarting 0; prints = (0, 0, 0, 3) }
-          ∷ record { asks = Reading 0 0 3; prints = (0, 9, 0, 1) }
-          ∷ record { asks = Reading 0 1 0; prints = (2, 0, 0, 0) }
+          ∷ record { asks = Accessing 0 (Read 0 3); prints = (0, 9, 0, 1) }
+          ∷ record { asks = Accessing 0 (Read 1 0); prints = (2, 0, 0, 0) }
           ∷ [];
       left = Digest 0xbbf31ac21aebeda4;
     }
@@ -75,11 +76,11 @@ caseA =
 -- case B up to its cut and restart
 unfoldable pub caseBCut : List Line → List Line
 caseBCut more =
-    record { asks = Writing 0 0 0 5; prints = (0, 0, 0, 0) }
-    ∷ record { asks = Reading 0 1 0; prints = (0, 0, 0, 1) }
-    ∷ record { asks = Writing 0 0 1 6; prints = (0, 0, 0, 0) }
-    ∷ record { asks = Reading 1 0 0; prints = (0, 5, 0, 2) }
-    ∷ record { asks = Writing 1 1 0 9; prints = (0, 0, 0, 0) }
+    record { asks = Accessing 0 (Write 0 0 5); prints = (0, 0, 0, 0) }
+    ∷ record { asks = Accessing 0 (Read 1 0); prints = (0, 0, 0, 1) }
+    ∷ record { asks = Accessing 0 (Write 0 1 6); prints = (0, 0, 0, 0) }
+    ∷ record { asks = Accessing 1 (Read 0 0); prints = (0, 5, 0, 2) }
+    ∷ record { asks = Accessing 1 (Write 1 0 9); prints = (0, 0, 0, 0) }
     ∷ record { asks = Cutting 0; prints = (0, 0, 0, 0) }
     ∷ record { asks = Restarting 0; prints = (0, 0, 0, 0) }
     ∷ more
@@ -92,10 +93,10 @@ caseB =
       pages = 2;
       lines =
           caseBCut
-          (record { asks = Writing 0 0 0 5; prints = (0, 0, 0, 0) }
-          ∷ record { asks = Reading 0 1 0; prints = (0, 0, 0, 0) }
-          ∷ record { asks = Writing 0 0 1 6; prints = (0, 0, 0, 4) }
-          ∷ record { asks = Reading 0 1 0; prints = (0, 9, 0, 2) }
+          (record { asks = Accessing 0 (Write 0 0 5); prints = (0, 0, 0, 0) }
+          ∷ record { asks = Accessing 0 (Read 1 0); prints = (0, 0, 0, 0) }
+          ∷ record { asks = Accessing 0 (Write 0 1 6); prints = (0, 0, 0, 4) }
+          ∷ record { asks = Accessing 0 (Read 1 0); prints = (0, 9, 0, 2) }
           ∷ []);
       left = Digest 0xb292acb941f01994;
     }
@@ -103,7 +104,7 @@ caseB =
 -- code 2: "N 2 1, R 2 0 0"
 unfoldable pub boardOutOfRange : Script
 boardOutOfRange =
-    record { boards = 2; pages = 1; lines = record { asks = Reading 2 0 0; prints = (2, 0, 0, 0) } ∷ []; left = Anything }
+    record { boards = 2; pages = 1; lines = record { asks = Accessing 2 (Read 0 0); prints = (2, 0, 0, 0) } ∷ []; left = Anything }
 
 -- code 3: "N 1 1, S 0"
 unfoldable pub restartOfUpBoard : Script
@@ -116,7 +117,7 @@ replayDiffers =
     record {
       boards = 2;
       pages = 2;
-      lines = caseBCut (record { asks = Reading 0 1 0; prints = (5, 0, 0, 0) } ∷ []);
+      lines = caseBCut (record { asks = Accessing 0 (Read 1 0); prints = (5, 0, 0, 0) } ∷ []);
       left = RecoveryPoint 0 3;
     }
 
@@ -126,7 +127,7 @@ ownerNotUp =
     record {
       boards = 2;
       pages = 1;
-      lines = record { asks = Cutting 0; prints = (0, 0, 0, 0) } ∷ record { asks = Reading 1 0 0; prints = (6, 0, 0, 0) } ∷ [];
+      lines = record { asks = Cutting 0; prints = (0, 0, 0, 0) } ∷ record { asks = Accessing 1 (Read 0 0); prints = (6, 0, 0, 0) } ∷ [];
       left = Anything;
     }
 
@@ -134,7 +135,7 @@ ownerNotUp =
 unfoldable pub alternating : ℕ → ℕ → ℕ → List Line → List Line
 alternating zero w o more = more
 alternating (suc n) w o more =
-    record { asks = Writing w 0 0 1; prints = (0, 0, 0, 3) } ∷ alternating n o w more
+    record { asks = Accessing w (Write 0 0 1); prints = (0, 0, 0, 3) } ∷ alternating n o w more
 
 -- code 7: "N 2 1, 22nd write alternating from board 1"; "21st alternating write done"
 unfoldable pub alternatingWrites : Script
@@ -143,8 +144,8 @@ alternatingWrites =
       boards = 2;
       pages = 1;
       lines =
-          record { asks = Writing 1 0 0 1; prints = (0, 0, 0, 2) }
-          ∷ alternating 20 0 1 (record { asks = Writing 0 0 0 1; prints = (7, 0, 0, 0) } ∷ []);
+          record { asks = Accessing 1 (Write 0 0 1); prints = (0, 0, 0, 2) }
+          ∷ alternating 20 0 1 (record { asks = Accessing 0 (Write 0 0 1); prints = (7, 0, 0, 0) } ∷ []);
       left = Anything;
     }
 
@@ -154,7 +155,7 @@ fuseBlows =
     record {
       boards = 2;
       pages = 1;
-      lines = record { asks = Fusing 0 1; prints = (0, 0, 0, 0) } ∷ record { asks = Reading 1 0 0; prints = (8, 0, 0, 1) } ∷ [];
+      lines = record { asks = Fusing 0 1; prints = (0, 0, 0, 0) } ∷ record { asks = Accessing 1 (Read 0 0); prints = (8, 0, 0, 1) } ∷ [];
       left = Anything;
     }
 
@@ -164,7 +165,7 @@ lastOffset =
     record {
       boards = 1;
       pages = 1;
-      lines = record { asks = Writing 0 0 15 7; prints = (0, 0, 0, 0) } ∷ record { asks = Reading 0 0 15; prints = (0, 7, 0, 0) } ∷ [];
+      lines = record { asks = Accessing 0 (Write 0 15 7); prints = (0, 0, 0, 0) } ∷ record { asks = Accessing 0 (Read 0 15); prints = (0, 7, 0, 0) } ∷ [];
       left = Anything;
     }
 
@@ -176,7 +177,7 @@ scripts =
 unfoldable pub lengths : Bool
 lengths =
     agrees (0, 0, 0, 0) (make 1 1 (zeros 2191) .outcome)
-    && (agrees (1, 0, 0, 0) (make 1 1 (zeros 2190) .outcome) && agrees (1, 0, 0, 0) (call (Reading 0 0 0) (zeros 3) .outcome))
+    && (agrees (1, 0, 0, 0) (make 1 1 (zeros 2190) .outcome) && agrees (1, 0, 0, 0) (call (Accessing 0 (Read 0 0)) (zeros 3) .outcome))
 
 unfoldable pub table : Bool
 table = lengths && every passes scripts

@@ -62,19 +62,21 @@ emptyFrame = record { right = None; bytes = zeros pageSize }
 unfoldable pub emptyLog : Log
 emptyLog = record { records = []; rest = zeros slotsSize }
 
+-- these frames, no record, all else zero
+abbrev pub zeroArea : List Frame → Area
+zeroArea fs = record { number = 0; frames = fs; log = emptyLog }
+
+abbrev pub zeroWorking : List Frame → Working
+zeroWorking fs = record { number = 0; since = 0; place = 0; frames = fs; log = emptyLog }
+
 -- what stands where there is no board: never read in a bank that is well formed
 unfoldable pub noBoard : Board
 noBoard =
     record {
       state = Down;
       fuse = noFuse;
-      working = record { number = 0; since = 0; place = 0; frames = []; log = emptyLog };
-      stable =
-          record {
-            second = false;
-            selected = record { number = 0; frames = []; log = emptyLog };
-            spare = record { number = 0; frames = []; log = emptyLog };
-          };
+      working = zeroWorking [];
+      stable = record { second = false; selected = zeroArea []; spare = zeroArea [] };
     }
 
 unfoldable pub boardAt : Bank → ℕ → Board
@@ -93,7 +95,48 @@ entryAt k p = entryIn (k .directory) p
 unfoldable pub frameAt : List Frame → ℕ → Frame
 frameAt fs p = getD fs p emptyFrame
 
--- ---- one part changed
+-- ---- one field changed: a step names what it changes, and not what it leaves alone
+
+abbrev pub withState : State → Board → Board
+withState s x = record { state = s; fuse = x .fuse; working = x .working; stable = x .stable }
+
+abbrev pub withWorking : Working → Board → Board
+withWorking w x = record { state = x .state; fuse = x .fuse; working = w; stable = x .stable }
+
+abbrev pub withStable : Stable → Board → Board
+withStable t x = record { state = x .state; fuse = x .fuse; working = x .working; stable = t }
+
+abbrev pub withSelectedArea : Area → Stable → Stable
+withSelectedArea a t = record { second = t .second; selected = a; spare = t .spare }
+
+abbrev pub withSpareArea : Area → Stable → Stable
+withSpareArea a t = record { second = t .second; selected = t .selected; spare = a }
+
+abbrev pub withAreaNumber : ℕ → Area → Area
+withAreaNumber n a = record { number = n; frames = a .frames; log = a .log }
+
+abbrev pub withAreaFrames : List Frame → Area → Area
+withAreaFrames fs a = record { number = a .number; frames = fs; log = a .log }
+
+abbrev pub withAreaLog : Log → Area → Area
+withAreaLog l a = record { number = a .number; frames = a .frames; log = l }
+
+abbrev pub withNumber : ℕ → Working → Working
+withNumber n w = record { number = n; since = w .since; place = w .place; frames = w .frames; log = w .log }
+
+abbrev pub withSince : ℕ → Working → Working
+withSince n w = record { number = w .number; since = n; place = w .place; frames = w .frames; log = w .log }
+
+abbrev pub withPlace : ℕ → Working → Working
+withPlace n w = record { number = w .number; since = w .since; place = n; frames = w .frames; log = w .log }
+
+abbrev pub withFrames : List Frame → Working → Working
+withFrames fs w = record { number = w .number; since = w .since; place = w .place; frames = fs; log = w .log }
+
+abbrev pub withLog : Log → Working → Working
+withLog l w = record { number = w .number; since = w .since; place = w .place; frames = w .frames; log = l }
+
+-- ---- one part changed by what it was
 
 unfoldable pub onBoard : ℕ → (Board → Board) → Bank → Bank
 onBoard b f k = record { directory = k .directory; boards = update b f (k .boards) }
@@ -102,19 +145,16 @@ unfoldable pub onEntry : ℕ → (Entry → Entry) → Bank → Bank
 onEntry p f k = record { directory = update p f (k .directory); boards = k .boards }
 
 unfoldable pub onWorking : (Working → Working) → Board → Board
-onWorking f x = record { state = x .state; fuse = x .fuse; working = f (x .working); stable = x .stable }
+onWorking f x = withWorking (f (x .working)) x
+
+unfoldable pub onSelected : (Area → Area) → Board → Board
+onSelected f x = withStable (withSelectedArea (f (x .stable .selected)) (x .stable)) x
 
 unfoldable pub onSpare : (Area → Area) → Board → Board
-onSpare f x =
-    record {
-      state = x .state;
-      fuse = x .fuse;
-      working = x .working;
-      stable = record { second = x .stable .second; selected = x .stable .selected; spare = f (x .stable .spare) };
-    }
+onSpare f x = withStable (withSpareArea (f (x .stable .spare)) (x .stable)) x
 
 unfoldable pub onFrames : (List Frame → List Frame) → Working → Working
-onFrames f w = record { number = w .number; since = w .since; place = w .place; frames = f (w .frames); log = w .log }
+onFrames f w = withFrames (f (w .frames)) w
 
 -- ---- a fresh bank
 
@@ -127,12 +167,12 @@ freshFrames boards pages b =
 -- "all up, .. every other right, byte, count and slot zero, fuses none, area 0 selected, both areas holding these frames"
 unfoldable pub freshBoard : ℕ → ℕ → ℕ → Board
 freshBoard boards pages b =
-    let area : Area = record { number = 0; frames = freshFrames boards pages b; log = emptyLog } in
+    let fs : List Frame = freshFrames boards pages b in
     record {
       state = Up;
       fuse = noFuse;
-      working = record { number = 0; since = 0; place = 0; frames = freshFrames boards pages b; log = emptyLog };
-      stable = record { second = false; selected = area; spare = area };
+      working = zeroWorking fs;
+      stable = record { second = false; selected = zeroArea fs; spare = zeroArea fs };
     }
 
 unfoldable pub fresh : ℕ → ℕ → Bank

@@ -19,7 +19,7 @@ use Rattle.model.specs.Definitions.WellFormed.{isUp, isDown, isReplaying
 use Rattle.model.specs.Definitions.Check.{wellFormed, sizesAllowed}
 use Rattle.model.specs.Definitions.Steps.{Run, start, step, powerOff, withFuse, checkpoint, Access, Read, Write, pageNamed, takes, valueOf, access, giver}
 use Rattle.model.specs.Definitions.Steps.{dropCopies, fetch}
-use Rattle.model.specs.Definitions.Replay.{loaded, usedUp, lacking, differs, tookDue, replayOver, endReplay, endIfOver, replayed}
+use Rattle.model.specs.Definitions.Replay.{restarted, lacking, differs, tookDue, replayOver, endReplay, endIfOver, replayed}
 
 -- ==== a call's result on a bank
 
@@ -130,24 +130,31 @@ accessInRange b (Read p o) k = ltb b (length (k .boards)) && (ltb p (length (k .
 accessInRange b (Write p o v) k =
     ltb b (length (k .boards)) && (ltb p (length (k .directory)) && (ltb o pageSize && ltb v byteValues))
 
--- "access with since 65,535 or number 4,294,967,295"
-unfoldable pub countersFull : Board → Bool
-countersFull x = eqb (x .working .since) lastSince || eqb (x .working .number) lastNumber
+-- "access with since 65,535 or number 4,294,967,295"; the largest since is an argument: of all that a call does it is tested here alone
+unfoldable pub countersFull : (largest : ℕ) → Board → Bool
+countersFull largest x = eqb (x .working .since) largest || eqb (x .working .number) lastNumber
 
 -- the refusals on entry, codes 2 to 5
-unfoldable pub accessRefusals : ℕ → Access → Bank → List (Bool × Answer)
-accessRefusals b a k =
+unfoldable pub refusalsWithin : (largest : ℕ) → ℕ → Access → Bank → List (Bool × Answer)
+refusalsWithin largest b a k =
     let x : Board = boardAt k b in
     (not (accessInRange b a k), OutOfRange)
     ∷ (isDown (x .state), WrongState b)
-    ∷ (countersFull x, CountersFull b)
+    ∷ (countersFull largest x, CountersFull b)
     ∷ (isReplaying (x .state) && differs a x, ReplayDiffers b)
     ∷ []
 
-unfoldable pub accessBank : ℕ → Access → Bank → Result
-accessBank b a k =
-    unless (accessRefusals b a k) (start k)
+unfoldable pub accessWithin : (largest : ℕ) → ℕ → Access → Bank → Result
+accessWithin largest b a k =
+    unless (refusalsWithin largest b a k) (start k)
     (elim (isReplaying (boardAt k b .state)) [ true ↦ replaying b a k | false ↦ live b a (start k) ])
+
+-- the same with document 01's largest since
+abbrev pub accessRefusals : ℕ → Access → Bank → List (Bool × Answer)
+accessRefusals b a k = refusalsWithin lastSince b a k
+
+abbrev pub accessBank : ℕ → Access → Bank → Result
+accessBank b a k = accessWithin lastSince b a k
 
 -- "dark and not restart ..; checkpoint while replaying"
 unfoldable pub checkpointBank : ℕ → Bank → Result
@@ -178,28 +185,27 @@ restartBank b k =
     unless
     ((not (ltb b (length (k .boards))), OutOfRange) ∷ (not (isDown (boardAt k b .state)), WrongState b) ∷ [])
     (start k)
-    (finished (boardAt k b .stable .selected .number) (endIfOver b (start (onBoard b (λ x. usedUp (loaded x)) k))))
+    (finished (boardAt k b .stable .selected .number) (endIfOver b (start (onBoard b restarted k))))
 
 pub data Call : Type 0 where
-  Reading : (board page offset : ℕ) → Call
-  Writing : (board page offset value : ℕ) → Call
+  Accessing : (board : ℕ) (access : Access) → Call
   Checkpointing : (board : ℕ) → Call
   Cutting : (board : ℕ) → Call
   Fusing : (board stores : ℕ) → Call
   Restarting : (board : ℕ) → Call
 
--- the call that an access of a board is
-unfoldable pub callOf : ℕ → Access → Call
-callOf b (Read p o) = Reading b p o
-callOf b (Write p o v) = Writing b p o v
+-- a call, with this largest since
+unfoldable pub callWithin : (largest : ℕ) → Call → Bank → Result
+callWithin largest (Accessing b a) k = accessWithin largest b a k
+callWithin largest (Checkpointing b) k = checkpointBank b k
+callWithin largest (Cutting b) k = cutBank b k
+callWithin largest (Fusing b n) k = fuseBank b n k
+callWithin largest (Restarting b) k = restartBank b k
 
+-- with document 01's
 unfoldable pub callBank : Call → Bank → Result
-callBank (Reading b p o) k = accessBank b (Read p o) k
-callBank (Writing b p o v) k = accessBank b (Write p o v) k
-callBank (Checkpointing b) k = checkpointBank b k
-callBank (Cutting b) k = cutBank b k
-callBank (Fusing b n) k = fuseBank b n k
-callBank (Restarting b) k = restartBank b k
+unfolding callWithin
+callBank c k = callWithin lastSince c k
 
 -- ==== the calls on bytes
 

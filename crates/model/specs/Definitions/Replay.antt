@@ -16,25 +16,15 @@ use Rattle.types.specs.declared.Kind.the-variants.{Got, Shown, Dropped}
 use Rattle.types.specs.declared.Record.{Record}
 use Rattle.types.specs.declared.State.the-variants.{Up, Replaying}
 use Rattle.model.specs.Definitions.Parts.{each}
-use Rattle.model.specs.Definitions.Bank.{Working, Board, emptyFrame, boardAt, entryAt, frameAt, onBoard, onWorking}
+use Rattle.model.specs.Definitions.Bank.{Area, Working, Board, Bank, emptyFrame, boardAt, entryAt, frameAt, withState, withWorking, withNumber, withSince}
+use Rattle.model.specs.Definitions.Bank.{withPlace, withFrames, onBoard, onWorking}
 use Rattle.model.specs.Definitions.Steps.{Run, step, checkpoint, Access, pageNamed, lacks, takes, accessed}
 
 -- "Restart: frames and number from the selected area, state replaying, place and since 0."
 unfoldable pub loaded : Board → Board
 loaded x =
-    record {
-      state = Replaying;
-      fuse = x .fuse;
-      working =
-          record {
-            number = x .stable .selected .number;
-            since = 0;
-            place = 0;
-            frames = x .stable .selected .frames;
-            log = x .working .log;
-          };
-      stable = x .stable;
-    }
+    let area : Area = x .stable .selected in
+    withState Replaying (withWorking (withNumber (area .number) (withSince 0 (withPlace 0 (withFrames (area .frames) (x .working))))) x)
 
 -- the stored records that replay has not used yet
 unfoldable pub recordsLeft : Board → List Record
@@ -42,7 +32,7 @@ recordsLeft x = drop (x .working .place) (x .stable .selected .log .records)
 
 -- one record used: the next place, the frames as the record leaves them, since 0
 unfoldable pub used : List Frame → Working → Working
-used fs w = record { number = w .number; since = 0; place = w .place + 1; frames = fs; log = w .log }
+used fs w = withSince 0 (withPlace (w .place + 1) (withFrames fs w))
 
 -- "use up every shown or dropped record whose count equals since (dropped clears the frame; since becomes 0)"
 unfoldable pub useUp : List Record → Working → Working
@@ -60,6 +50,10 @@ useUp (r ∷ rs) w =
 
 unfoldable pub usedUp : Board → Board
 usedUp x = onWorking (useUp (recordsLeft x)) x
+
+-- what a restart does before the replay may end: loaded, then "every shown or dropped record whose count equals since" used up
+abbrev pub restarted : Board → Board
+restarted x = usedUp (loaded x)
 
 -- "A got record is due when it is next and its count equals since."
 unfoldable pub gotDue : List Record → ℕ → Option Record
@@ -120,23 +114,15 @@ settledFrame false f = emptyFrame
 -- ".. place 0; state up"; `owned` says which pages the directory gives this board
 unfoldable pub settled : (ℕ → Bool) → Board → Board
 settled owned x =
-    record {
-      state = Up;
-      fuse = x .fuse;
-      working =
-          record {
-            number = x .working .number;
-            since = x .working .since;
-            place = 0;
-            frames = each (λ p f. settledFrame (owned p) f) (x .working .frames);
-            log = x .working .log;
-          };
-      stable = x .stable;
-    }
+    withState Up (withWorking (withPlace 0 (withFrames (each (λ p f. settledFrame (owned p) f) (x .working .frames)) (x .working))) x)
+
+-- the same in a bank, whose directory says which pages are the board's
+unfoldable pub settle : ℕ → Bank → Bank
+settle b k = onBoard b (settled (λ p. eqb (entryAt k p .owner) b)) k
 
 -- "End of replay ..: ..; checkpoint."
 unfoldable pub endReplay : ℕ → Run → Run
-endReplay b r = checkpoint b (step (λ k. onBoard b (settled (λ p. eqb (entryAt k p .owner) b)) k) r)
+endReplay b r = checkpoint b (step (settle b) r)
 
 -- the end of replay, "when no record is left (inside the restart or access that used the last)"
 unfoldable pub endIfOver : ℕ → Run → Run

@@ -1,10 +1,10 @@
 -- Document 01, "Steps", up to the cut: what one board or several do to the bank, one micro-step each, and the stores that a power loss can follow.
 -- A call in progress is a `Run`: once a fuse blew, every later step passes it on unchanged. Assumes nothing.
-use Prim.Native.Nat.{ℕ, zero, suc, _+_, _-_}
+use Prim.Native.Nat.{ℕ, _+_, _-_}
 use mathlib.Core.Bool.{Bool, true, false, _&&_, _||_, not}
 use mathlib.Core.Option.{Option, none, some}
-use mathlib.Core.List.{List, [], _∷_, _++_, map}
-use lib.ListN.{length, drop, set, getD}
+use mathlib.Core.List.{List, [], _∷_, _++_, map, foldl}
+use lib.ListN.{length, drop, replicate, set, getD}
 use lib.Dec.{eqb}
 use Rattle.types.specs.declared.Right.{Right}
 use Rattle.types.specs.declared.Right.the-variants.{None, Copy, Own}
@@ -15,10 +15,11 @@ use Rattle.types.specs.declared.Kind.{Kind}
 use Rattle.types.specs.declared.Kind.the-variants.{Got, Shown, Dropped}
 use Rattle.types.specs.declared.Record.{Record}
 use Rattle.types.specs.declared.State.the-variants.{Down}
-use Rattle.model.specs.Definitions.Parts.{zeros, each, member, withMember, withoutMember}
+use Rattle.model.specs.Definitions.Parts.{zeros, each, tabulate, member, withMember, withoutMember}
 use Rattle.model.specs.Definitions.Layout.{pageSize, slotSize, noFuse}
-use Rattle.model.specs.Definitions.Bank.{Entry, Log, Working, Board, Bank, emptyFrame, emptyLog, boardAt, entryAt, frameAt, onBoard, onEntry, onWorking}
-use Rattle.model.specs.Definitions.Bank.{onSpare, onFrames}
+use Rattle.model.specs.Definitions.Bank.{Entry, Log, Area, Working, Board, Bank, emptyFrame, emptyLog, zeroWorking, boardAt, entryAt, frameAt}
+use Rattle.model.specs.Definitions.Bank.{withWorking, withStable, withSelectedArea, withAreaNumber, withAreaFrames, withAreaLog, withNumber, withSince}
+use Rattle.model.specs.Definitions.Bank.{withFrames, withLog, onBoard, onEntry, onWorking, onSpare, onFrames}
 use Rattle.model.specs.Definitions.Codec.{encodeLog}
 
 -- ==== a call in progress
@@ -42,7 +43,7 @@ poweredOff x =
     record {
       state = Down;
       fuse = noFuse;
-      working = record { number = 0; since = 0; place = 0; frames = map (λ f. emptyFrame) (x .working .frames); log = emptyLog };
+      working = zeroWorking (map (λ f. emptyFrame) (x .working .frames));
       stable = x .stable;
     }
 
@@ -74,22 +75,22 @@ store b f r =
           ]
     ]
 
+-- A flush and a checkpoint are lists of stores, each a change of its board. Here they are made on the bank, one after the other; in BoardRuns on a board alone.
+unfoldable pub storeAll : ℕ → List (Board → Board) → Run → Run
+storeAll b fs r = foldl (λ s f. store b f s) r fs
+
 -- ==== records
 
 -- one record more behind a log's records: it takes the next slot
 unfoldable pub appended : Record → Log → Log
 appended r l = record { records = l .records ++ (r ∷ []); rest = drop slotSize (l .rest) }
 
+abbrev pub withRecord : Record → Area → Area
+withRecord r a = withAreaLog (appended r (a .log)) a
+
 -- "Record: takes the board's since as its count, then since becomes 0. It enters the volatile log."
 unfoldable pub recorded : Kind → List ℕ → Working → Working
-recorded kind bytes w =
-    record {
-      number = w .number;
-      since = 0;
-      place = w .place;
-      frames = w .frames;
-      log = appended (record { count = w .since; kind = kind; bytes = bytes }) (w .log);
-    }
+recorded kind bytes w = withSince 0 (withLog (appended (record { count = w .since; kind = kind; bytes = bytes }) (w .log)) w)
 
 unfoldable pub note : ℕ → Kind → List ℕ → Bank → Bank
 note b kind bytes k = onBoard b (onWorking (recorded kind bytes)) k
@@ -98,88 +99,55 @@ note b kind bytes k = onBoard b (onWorking (recorded kind bytes)) k
 -- Between two stores of a flush these stand one slot lower than in the bytes; no caller sees that.
 unfoldable pub movedRecord : Record → List Record → Board → Board
 movedRecord r rs x =
-    record {
-      state = x .state;
-      fuse = x .fuse;
-      working =
-          record {
-            number = x .working .number;
-            since = x .working .since;
-            place = x .working .place;
-            frames = x .working .frames;
-            log = record { records = rs; rest = zeros slotSize ++ x .working .log .rest };
-          };
-      stable =
-          record {
-            second = x .stable .second;
-            selected =
-                record {
-                  number = x .stable .selected .number;
-                  frames = x .stable .selected .frames;
-                  log = appended r (x .stable .selected .log);
-                };
-            spare = x .stable .spare;
-          };
-    }
+    withStable (withSelectedArea (withRecord r (x .stable .selected)) (x .stable))
+    (withWorking (withLog (record { records = rs; rest = zeros slotSize ++ x .working .log .rest }) (x .working)) x)
 
--- the next record of a flush; a flush stores as many as there are
+-- the next record of a flush
 unfoldable pub storedRecord : Board → Board
 storedRecord x = elim (x .working .log .records) [ [] ↦ x | r ∷ rs ↦ movedRecord r rs x ]
 
-unfoldable pub storeRecords : ℕ → ℕ → Run → Run
-storeRecords zero b r = r
-storeRecords (suc n) b r = storeRecords n b (store b storedRecord r)
+-- "Flush stores the volatile records in order, zeroing their slots.": a store for each
+unfoldable pub recordStores : Board → List (Board → Board)
+recordStores x = replicate (length (x .working .log .records)) storedRecord
 
--- "Flush stores the volatile records in order, zeroing their slots."
 unfoldable pub flush : ℕ → Run → Run
-flush b r = storeRecords (length (boardAt (r .bank) b .working .log .records)) b r
+flush b r = storeAll b (recordStores (boardAt (r .bank) b)) r
 
 -- ==== checkpoint
 
+abbrev pub withAreaFrame : ℕ → Frame → Area → Area
+withAreaFrame p f a = withAreaFrames (set (a .frames) p f) a
+
 -- "one area frame": page p's frame goes to the spare area
 unfoldable pub storedFrame : ℕ → Board → Board
-storedFrame p x =
-    onSpare
-    (λ a. record { number = a .number; frames = set (a .frames) p (frameAt (x .working .frames) p); log = a .log })
-    x
+storedFrame p x = onSpare (withAreaFrame p (frameAt (x .working .frames) p)) x
 
 -- "one area head (number and stored count 0)"; the old slots stay as they are
+abbrev pub withHead : ℕ → Area → Area
+withHead n a = withAreaNumber n (withAreaLog (record { records = []; rest = encodeLog (a .log) }) a)
+
 unfoldable pub storedHead : Board → Board
-storedHead x =
-    onSpare
-    (λ a.
-    record {
-      number = x .working .number;
-      frames = a .frames;
-      log = record { records = []; rest = encodeLog (a .log) };
-    })
-    x
+storedHead x = onSpare (withHead (x .working .number)) x
 
 -- "one selector": the spare area becomes the selected one
 unfoldable pub storedSelector : Board → Board
-storedSelector x =
-    record {
-      state = x .state;
-      fuse = x .fuse;
-      working = x .working;
-      stable = record { second = not (x .stable .second); selected = x .stable .spare; spare = x .stable .selected };
-    }
+storedSelector x = withStable (record { second = not (x .stable .second); selected = x .stable .spare; spare = x .stable .selected }) x
+
+-- "While a checkpoint stores frames and head, the spare area is written, nothing else in the block but the fuse, or what a cut changes."
+unfoldable pub spareStores : ℕ → List (Board → Board)
+spareStores pages = tabulate pages storedFrame ++ (storedHead ∷ [])
+
+-- "Checkpoint: P frames to the spare area in page order, its head, the selector (P + 2 stores)"
+unfoldable pub checkpointStores : ℕ → List (Board → Board)
+checkpointStores pages = spareStores pages ++ (storedSelector ∷ [])
 
 -- "then since is 0 and the volatile log is emptied and zeroed"
 unfoldable pub restedWorking : Working → Working
-restedWorking w = record { number = w .number; since = 0; place = w .place; frames = w .frames; log = emptyLog }
+restedWorking w = withSince 0 (withLog emptyLog w)
 
--- frames p, p + 1, .., n of them, "in page order"
-unfoldable pub storeFrames : ℕ → ℕ → ℕ → Run → Run
-storeFrames p zero b r = r
-storeFrames p (suc n) b r = storeFrames (suc p) n b (store b (storedFrame p) r)
-
--- "While a checkpoint stores frames and head, the spare area is written, nothing else in the block but the fuse, or what a cut changes."
--- "Checkpoint: P frames to the spare area in page order, its head, the selector (P + 2 stores); then ..."
+-- "Checkpoint: ..; then since is 0 and .."
 unfoldable pub checkpoint : ℕ → Run → Run
-checkpoint b r =
-    step (onBoard b (onWorking restedWorking))
-    (store b storedSelector (store b storedHead (storeFrames 0 (length (r .bank .directory)) b r)))
+checkpoint b r = step (onBoard b (onWorking restedWorking)) (storeAll b (checkpointStores (length (r .bank .directory))) r)
 
 -- ==== accesses
 
@@ -238,14 +206,7 @@ valueOf a fs = elim (cellsRead a) [ [] ↦ 0 | c ∷ cs ↦ cellByte fs c ]
 
 -- "A done access adds 1 to access number and since"
 unfoldable pub accessed : Access → Working → Working
-accessed a w =
-    record {
-      number = w .number + 1;
-      since = w .since + 1;
-      place = w .place;
-      frames = withBytes (cellsWritten a) (w .frames);
-      log = w .log;
-    }
+accessed a w = withNumber (w .number + 1) (withSince (w .since + 1) (withFrames (withBytes (cellsWritten a) (w .frames)) w))
 
 unfoldable pub access : ℕ → Access → Bank → Bank
 access b a k = onBoard b (onWorking (accessed a)) k

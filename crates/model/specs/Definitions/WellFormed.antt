@@ -18,7 +18,7 @@ use Rattle.types.specs.declared.State.{State}
 use Rattle.types.specs.declared.State.the-variants.{Up, Down, Replaying}
 use Rattle.model.specs.Definitions.Parts.{zeros, member}
 use Rattle.model.specs.Definitions.Layout.{mostBoards, mostPages, pageSize, slotCount, noFuse, lastSince, lastNumber, slotSize, slotsSize}
-use Rattle.model.specs.Definitions.Bank.{Entry, Log, Area, Board, Bank, boardAt, entryAt, frameAt}
+use Rattle.model.specs.Definitions.Bank.{Entry, Log, Area, Working, Board, Bank, boardAt, entryAt, frameAt}
 use Rattle.model.specs.Definitions.Codec.{pageOf, encode}
 
 -- "every frame as above": "a right and 16 page bytes, all zero under right 0"
@@ -55,13 +55,16 @@ pub record AreaOk (pages : ℕ) (a : Area) : Type 0 where
   pub frames : FramesOk pages (a .frames)
   pub log : LogOk pages (a .log)
 
+pub record WorkingOk (pages : ℕ) (w : Working) : Type 0 where
+  pub number : w .number ≤ lastNumber
+  pub since : w .since ≤ lastSince
+  pub frames : FramesOk pages (w .frames)
+  pub log : LogOk pages (w .log)
+
 -- "every field in range", of a block
 pub record FieldsOk (pages : ℕ) (x : Board) : Type 0 where
   pub fuse : x .fuse ≤ noFuse
-  pub number : x .working .number ≤ lastNumber
-  pub since : x .working .since ≤ lastSince
-  pub frames : FramesOk pages (x .working .frames)
-  pub log : LogOk pages (x .working .log)
+  pub working : WorkingOk pages (x .working)
   pub selected : AreaOk pages (x .stable .selected)
   pub spare : AreaOk pages (x .stable .spare)
 

@@ -18,10 +18,10 @@ use Rattle.model.specs.Definitions.Layout.{pageSize}
 use Rattle.model.specs.Definitions.Bank.{Bank, boardAt, onBoard, fresh}
 use Rattle.model.specs.Definitions.Codec.{encode, decode}
 use Rattle.model.specs.Definitions.WellFormed.{isReplaying}
-use Rattle.model.specs.Definitions.Steps.{start, Access, Read, Write, pageNamed, Cell, cellsRead, cellsWritten, giver}
+use Rattle.model.specs.Definitions.Steps.{start, Access, pageNamed, Cell, cellsRead, cellsWritten, giver}
 use Rattle.model.specs.Definitions.Replay.{tookDue, replayOver, endReplay, recoveryPoint}
 use Rattle.model.specs.Definitions.Answers.{code}
-use Rattle.model.specs.Definitions.Calls.{Call, Reading, Writing, Checkpointing, Cutting, Fusing, Restarting, call, lackingOf}
+use Rattle.model.specs.Definitions.Calls.{Call, Accessing, Checkpointing, Cutting, Fusing, Restarting, call, lackingOf}
 
 -- ==== the history
 
@@ -66,8 +66,7 @@ pub data Event : Type 0 where
 
 -- a call answered 0
 unfoldable pub doneEvent : Call → ℕ → Event
-doneEvent (Reading b p o) v = Accessed b (Read p o) v
-doneEvent (Writing b p o w) v = Accessed b (Write p o w) v
+doneEvent (Accessing b a) v = Accessed b a v
 doneEvent (Checkpointing b) v = Nothing
 doneEvent (Cutting b) v = LostPower b
 doneEvent (Fusing b n) v = Nothing
@@ -154,8 +153,7 @@ begin n p = made (encode (fresh n p))
 
 -- the access of a call, with its board
 unfoldable pub accessOf : Call → Option (ℕ × Access)
-accessOf (Reading b p o) = some (b, Read p o)
-accessOf (Writing b p o v) = some (b, Write p o v)
+accessOf (Accessing b a) = some (b, a)
 accessOf (Checkpointing b) = none
 accessOf (Cutting b) = none
 accessOf (Fusing b n) = none

@@ -9,7 +9,6 @@ use mathlib.Core.Bool.{true}
 use mathlib.Core.Option.{none, some}
 use mathlib.Core.List.{List}
 use lib.ListN.{length, getD}
-use Rattle.words.specs.Bytes.{Each}
 use Rattle.model.specs.Definitions.Parts.{part, splice}
 use Rattle.model.specs.Definitions.Layout.{headSize, entrySize, blocksAt, blockSize, bankSize}
 use Rattle.model.specs.Definitions.Bank.{Entry, Board, Bank, noBoard, boardAt, entryAt, frameAt, onBoard, onEntry, noEntry}
@@ -27,8 +26,7 @@ use Rattle.model.specs.Laws.CodecAt.{encode-onBoard}
 use Rattle.model.specs.Laws.WellFormedTest.{wellFormed-sound, bank-block, fields-of}
 use Rattle.model.specs.Laws.Boards.{update-out, boardAt-out, boardAt-same, onBoard-onBoard}
 use Rattle.model.specs.Laws.Runs.{lost-not, store-cases}
-use Rattle.model.specs.Laws.Keeps.Stores.{frameOk-empty}
-use Rattle.model.specs.Laws.Keeps.Accesses.{frameOk-at}
+use Rattle.model.specs.Laws.Valid.{frameOk-empty, frameOk-at}
 
 -- ---- what is asked of a bank and of its bytes
 
@@ -95,7 +93,7 @@ pub frameOf-ok : (k : Bank) → Fields k → (o p : ℕ) → FrameOk (frameOf k 
 unfolding frameOf noBoard frameAt
 frameOf-ok k ok o p =
     elim (decLt o (length (k .boards))) [
-      | yes h ↦ frameOk-at (boardAt k o .working .frames) p (fields-at k ok o h .frames)
+      | yes h ↦ frameOk-at (boardAt k o .working .frames) p (fields-at k ok o h .working .frames)
       | no n ↦ rw (boardAt-out k o (omega arith)) frameOk-empty
     ]
 

@@ -1,28 +1,24 @@
--- An area by itself: its fields read off its bytes, and that a record appended, a frame or the head written is one or two splices of them and leaves
--- a valid area. Assumes nothing.
+-- An area by itself: its fields read off its bytes, and that a record appended, a frame or the head written is one or two splices of them.
+-- Assumes nothing.
 use mathlib.Core.Path.{_≡_, refl, sym, _∙_}
 use Prim.Native.Nat.{ℕ, _+_, _*_, _≤_, _<_}
 use native.Mathlib.Omega.{arith}
 use mathlib.Core.List.{List, [], _∷_, _++_, append-assoc}
-use lib.ListN.{length, getD, set, length-append}
+use lib.ListN.{length, getD, length-append}
 use Rattle.words.specs.LittleEndian.{bytesOf, numberOf}
 use Rattle.words.specs.LittleEndianLaws.{length-bytesOf, numberOf-bytesOf}
 use Rattle.types.specs.declared.Frame.{Frame}
 use Rattle.types.specs.declared.Record.{Record}
 use Rattle.model.specs.Definitions.Parts.{part, splice, encodeAll}
-use Rattle.model.specs.Definitions.Layout.{mostPages, slotCount, lastNumber, numberSize, frameSize, slotSize, areaNumberAt, areaCountAt, areaFramesAt}
-use Rattle.model.specs.Definitions.Layout.{areaSlotsAt}
+use Rattle.model.specs.Definitions.Layout.{numberSize, frameSize, slotSize, areaNumberAt, areaCountAt, areaFramesAt, areaSlotsAt}
 use Rattle.model.specs.Definitions.Bank.{Area, frameAt}
 use Rattle.model.specs.Definitions.Codec.{encodeFrame, decodeFrame, encodeRecord, decodeRecord, encodeLog, encodeArea}
 use Rattle.model.specs.Definitions.WellFormed.{FrameOk, RecordOk, AreaOk}
-use Rattle.model.specs.Definitions.Steps.{appended}
+use Rattle.model.specs.Definitions.Steps.{appended, withRecord, withAreaFrame, withHead}
 use Rattle.model.specs.Laws.Parts.{splice-front, splice-at, splice-amid, splice-behind, index-in}
 use Rattle.model.specs.Laws.WrittenTests.{log-count}
 use Rattle.model.specs.Laws.Codec.{area-number, area-frames, area-slots, length-encodeFrames, decode-encodeFrames, length-encodeFrame, decode-encodeLog}
 use Rattle.model.specs.Laws.CodecAt.{frame-read-at, record-read-at, encode-appended, encode-setFrame}
-use Rattle.model.specs.Laws.Keeps.NotedRecords.{logOk-appended}
-use Rattle.model.specs.Laws.Keeps.Checkpoint.{logOk-old}
-use Rattle.model.specs.Laws.Keeps.Accesses.{framesOk-set}
 
 -- ---- an area: its fields read
 
@@ -41,17 +37,6 @@ module _ (pages : ℕ) (a : Area) (ok : AreaOk pages a) where
       ∙ rw (area-slots pages a ok, decode-encodeLog pages (a .log) (ok .log))
 
 -- ---- an area: a record appended, a frame or the head written
-
-unfoldable pub withRecord : Record → Area → Area
-withRecord r a = record { number = a .number; frames = a .frames; log = appended r (a .log) }
-
-unfoldable pub withAreaFrame : ℕ → Frame → Area → Area
-withAreaFrame p f a = record { number = a .number; frames = set (a .frames) p f; log = a .log }
-
--- "one area head (number and stored count 0)"; the old slots stay as they are
-unfoldable pub withHead : ℕ → Area → Area
-withHead n a =
-    record { number = n; frames = a .frames; log = record { records = []; rest = encodeLog (a .log) } }
 
 -- number, count, frames, slots: the bytes of an area, whatever stands in each
 abbrev laid : ℕ → ℕ → List ℕ → List ℕ → List ℕ
@@ -98,7 +83,7 @@ module _ (pages : ℕ) (a : Area) (ok : AreaOk pages a) where
       → splice (splice (encodeArea a) (areaSlotsAt pages + length (a .log .records) * slotSize) (encodeRecord r)) areaCountAt
       ((length (a .log .records) + 1) ∷ [])
       ≡ encodeArea (withRecord r a)
-  unfolding withRecord encodeArea appended
+  unfolding encodeArea appended
   write-areaRecord r v =
       rw (
         slots-written (a .number) n bytes (encodeLog (a .log)) pages (n * slotSize) (encodeRecord r) length-bytes,
@@ -109,7 +94,7 @@ module _ (pages : ℕ) (a : Area) (ok : AreaOk pages a) where
 
   pub write-areaFrame : (p : ℕ) (f : Frame) → FrameOk f → p < pages
       → splice (encodeArea a) (areaFramesAt + p * frameSize) (encodeFrame f) ≡ encodeArea (withAreaFrame p f a)
-  unfolding withAreaFrame encodeArea
+  unfolding encodeArea
   write-areaFrame p f v h =
       let m : p * frameSize + frameSize ≤ pages * frameSize = index-in frameSize pages p h in
       let w : length (encodeFrame f) ≡ frameSize = length-encodeFrame f (v .size) in
@@ -119,18 +104,5 @@ module _ (pages : ℕ) (a : Area) (ok : AreaOk pages a) where
       )
 
   pub write-areaHead : (m : ℕ) → splice (encodeArea a) areaNumberAt (bytesOf numberSize m ++ (0 ∷ [])) ≡ encodeArea (withHead m a)
-  unfolding withHead encodeArea encodeLog encodeAll
+  unfolding encodeArea encodeLog encodeAll
   write-areaHead m = head-written (a .number) n bytes (encodeLog (a .log)) m 0
-
-  -- each leaves a valid area
-  pub areaOk-record : (r : Record) → RecordOk pages r → length (a .log .records) < slotCount → AreaOk pages (withRecord r a)
-  unfolding withRecord
-  areaOk-record r v h = record { number = ok .number; frames = ok .frames; log = logOk-appended (ok .log) v h }
-
-  pub areaOk-frame : (p : ℕ) (f : Frame) → FrameOk f → AreaOk pages (withAreaFrame p f a)
-  unfolding withAreaFrame
-  areaOk-frame p f v = record { number = ok .number; frames = framesOk-set (a .frames) p f (ok .frames) v; log = ok .log }
-
-  pub areaOk-head : (m : ℕ) → m ≤ lastNumber → pages ≤ mostPages → AreaOk pages (withHead m a)
-  unfolding withHead
-  areaOk-head m h few = record { number = h; frames = ok .frames; log = logOk-old (a .log) few (ok .log) }

@@ -13,14 +13,13 @@ use Rattle.types.specs.declared.Frame.{Frame}
 use Rattle.types.specs.declared.Record.{Record}
 use Rattle.types.specs.declared.State.{State}
 use Rattle.model.specs.Definitions.Parts.{part, splice, byteAt, encodeAll}
-use Rattle.model.specs.Definitions.Layout.{pageSize, noFuse, lastSince, lastNumber, frameSize, frameBytesAt, rightAt, slotSize, slotsSize, fuseSize}
-use Rattle.model.specs.Definitions.Layout.{numberSize, sinceSize, stateAt, selectorAt, fuseAt, numberAt, sinceAt, placeAt, volatileCountAt, framesAt}
-use Rattle.model.specs.Definitions.Layout.{slotsAt}
-use Rattle.model.specs.Definitions.Bank.{Log, Working, Board, emptyFrame, frameAt, onWorking, onFrames}
+use Rattle.model.specs.Definitions.Layout.{pageSize, frameSize, frameBytesAt, rightAt, slotSize, slotsSize, fuseSize, numberSize, sinceSize, stateAt}
+use Rattle.model.specs.Definitions.Layout.{selectorAt, fuseAt, numberAt, sinceAt, placeAt, volatileCountAt, framesAt, slotsAt}
+use Rattle.model.specs.Definitions.Bank.{Log, Board, emptyFrame, frameAt, withState, withNumber, withSince, withPlace, withLog, onWorking, onFrames}
 use Rattle.model.specs.Definitions.Codec.{rightByte, encodeFrame, decodeFrame, encodeRecord, decodeRecord, encodeLog, stateByte, selectorByte}
 use Rattle.model.specs.Definitions.Codec.{encodeFixed, encodeStable, encodeBoard}
 use Rattle.model.specs.Definitions.Steps.{withFuse, withFrame, withByte, cellByte}
-use Rattle.model.specs.Definitions.WellFormed.{LogOk, FramesOk, FieldsOk}
+use Rattle.model.specs.Definitions.WellFormed.{FramesOk, FieldsOk}
 use Rattle.model.specs.Laws.Lists.{each-imp, each-getD}
 use Rattle.model.specs.Laws.Parts.{part-part, part-append-left, part-end, splice-append-left, splice-append-right, splice-front, splice-at, splice-amid}
 use Rattle.model.specs.Laws.Parts.{splice-behind, splice-within, splice-one, byteAt-part, index-in, part-encodeAll, encodeAll-set}
@@ -28,28 +27,11 @@ use Rattle.model.specs.Laws.Codec.{length-encodeFrame, decode-encodeFram
 use Rattle.model.specs.Laws.Codec.{length-encodeRecords}
 use Rattle.model.specs.Laws.CodecBank.{switches, length-encodeFixed, fixed-state, fixed-selector, fixed-number, fixed-since, board-fixed, board-byte}
 use Rattle.model.specs.Laws.CodecBank.{board-frames, board-slots}
-use Rattle.model.specs.Laws.Keeps.Accesses.{frameOk-at}
+use Rattle.model.specs.Laws.Valid.{frameOk-at}
 
 -- a splice of the whole list
 pub splice-all : {A : Type 0} (l v : List A) → length l ≡ length v → splice l 0 v ≡ v
 splice-all l v e = simp append-nil at (splice-front l v [] e)
-
--- ---- one field changed
-
-unfoldable pub withState : State → Board → Board
-withState s x = record { state = s; fuse = x .fuse; working = x .working; stable = x .stable }
-
-unfoldable pub withNumber : ℕ → Working → Working
-withNumber n w = record { number = n; since = w .since; place = w .place; frames = w .frames; log = w .log }
-
-unfoldable pub withSince : ℕ → Working → Working
-withSince n w = record { number = w .number; since = n; place = w .place; frames = w .frames; log = w .log }
-
-unfoldable pub withPlace : ℕ → Working → Working
-withPlace n w = record { number = w .number; since = w .since; place = n; frames = w .frames; log = w .log }
-
-unfoldable pub withLog : Log → Working → Working
-withLog g w = record { number = w .number; since = w .since; place = w .place; frames = w .frames; log = g }
 
 -- ---- writing the fixed fields: for any board, whatever its values
 
@@ -78,7 +60,7 @@ number-fits a w n b h = rw (length-bytesOf w n) h
 
 module _ (x : Board) where
   pub write-state : (s : State) → splice (encodeBoard x) stateAt (stateByte s ∷ []) ≡ encodeBoard (withState s x)
-  unfolding encodeFixed splice withState
+  unfolding encodeFixed splice
   write-state s = write-fixed x (withState s x) stateAt (stateByte s ∷ []) (omega arith) refl refl
 
   -- the numbers behind the two bytes before the fuse
@@ -101,7 +83,7 @@ module _ (x : Board) where
       (splice-at (switches x) fuseBytes (bytesOf fuseSize n) (numberBytes ++ (sinceBytes ++ lastTwo)) fuseAt refl (same-width fuseSize (x .fuse) n)) refl
 
   pub write-number : (n : ℕ) → splice (encodeBoard x) numberAt (bytesOf numberSize n) ≡ encodeBoard (onWorking (withNumber n) x)
-  unfolding encodeFixed onWorking withNumber
+  unfolding encodeFixed onWorking
   write-number n =
       write-fixed x (onWorking (withNumber n) x) numberAt (bytesOf numberSize n) (number-fits numberAt numberSize n framesAt (omega arith))
       (splice-append-right (switches x) _ numberAt fuseSize (bytesOf numberSize n) refl
@@ -119,7 +101,7 @@ module _ (x : Board) where
       (splice-append-right numberBytes r (numberSize + b) b v (rw (length-bytesOf numberSize (x .working .number))))
 
   pub write-since : (n : ℕ) → splice (encodeBoard x) sinceAt (bytesOf sinceSize n) ≡ encodeBoard (onWorking (withSince n) x)
-  unfolding encodeFixed onWorking withSince
+  unfolding encodeFixed onWorking
   write-since n =
       write-fixed x (onWorking (withSince n) x) sinceAt (bytesOf sinceSize n) (number-fits sinceAt sinceSize n framesAt (omega arith))
       (behind-number (sinceBytes ++ lastTwo) sinceAt 0 (bytesOf sinceSize n) refl
@@ -135,13 +117,13 @@ module _ (x : Board) where
       ∙ rw (splice-append-right sinceBytes lastTwo (sinceSize + b) b v (rw (length-bytesOf sinceSize (x .working .since))))
 
   pub write-place : (n : ℕ) → splice (encodeBoard x) placeAt (n ∷ []) ≡ encodeBoard (onWorking (withPlace n) x)
-  unfolding encodeFixed onWorking withPlace splice
+  unfolding encodeFixed onWorking splice
   write-place n = write-fixed x (onWorking (withPlace n) x) placeAt (n ∷ []) (omega arith) (in-lastTwo placeAt 0 (n ∷ []) refl) refl
 
   -- the volatile count: the same slots, read as more or fewer records
   pub write-count : (g : Log) → encodeLog g ≡ encodeLog (x .working .log)
       → splice (encodeBoard x) volatileCountAt (length (g .records) ∷ []) ≡ encodeBoard (onWorking (withLog g) x)
-  unfolding encodeFixed onWorking withLog splice
+  unfolding encodeFixed onWorking splice
   write-count g e =
       write-fixed x (onWorking (withLog g) x) volatileCountAt (length (g .records) ∷ []) (omega arith)
       (in-lastTwo volatileCountAt 1 (length (g .records) ∷ []) refl) (rw e)
@@ -162,12 +144,12 @@ module _ (pages : ℕ) (x : Board) (ok : FieldsOk pages x) where
   pub read-number : numberOf (part (encodeBoard x) numberAt numberSize) ≡ x .working .number
   read-number =
       rw (board-fixed pages x ok numberAt numberSize (omega arith), fixed-number x)
-      (numberOf-bytesOf numberSize (x .working .number) (omega (arith, ok .number)))
+      (numberOf-bytesOf numberSize (x .working .number) (omega (arith, ok .working .number)))
 
   pub read-since : numberOf (part (encodeBoard x) sinceAt sinceSize) ≡ x .working .since
   read-since =
       rw (board-fixed pages x ok sinceAt sinceSize (omega arith), fixed-since x)
-      (numberOf-bytesOf sinceSize (x .working .since) (omega (arith, ok .since)))
+      (numberOf-bytesOf sinceSize (x .working .since) (omega (arith, ok .working .since)))
 
   -- ---- reading a frame: whole, its right, its bytes, one of them
 
@@ -176,11 +158,11 @@ module _ (pages : ℕ) (x : Board) (ok : FieldsOk pages x) where
   frame-part p h =
       sym (part-part (encodeBoard x) framesAt (pages * frameSize) (p * frameSize) frameSize (index-in frameSize pages p h))
       ∙ rw (board-frames pages x ok)
-      (part-encodeAll encodeFrame frameSize (x .working .frames) p emptyFrame (wide-frames (x .working .frames) (ok .frames))
-      (omega (arith, ok .frames .count)))
+      (part-encodeAll encodeFrame frameSize (x .working .frames) p emptyFrame (wide-frames (x .working .frames) (ok .working .frames))
+      (omega (arith, ok .working .frames .count)))
 
   pub read-frame : (p : ℕ) → p < pages → decodeFrame (part (encodeBoard x) (framesAt + p * frameSize) frameSize) ≡ frameAt (x .working .frames) p
-  read-frame p h = rw (frame-part p h) (decode-encodeFrame (frameAt (x .working .frames) p) (frameOk-at (x .working .frames) p (ok .frames)))
+  read-frame p h = rw (frame-part p h) (decode-encodeFrame (frameAt (x .working .frames) p) (frameOk-at (x .working .frames) p (ok .working .frames)))
 
   pub read-right : (p : ℕ) → p < pages → byteAt (encodeBoard x) (framesAt + p * frameSize + rightAt) ≡ rightByte (frameAt (x .working .frames) p .right)
   unfolding encodeFrame byteAt
@@ -193,7 +175,7 @@ module _ (pages : ℕ) (x : Board) (ok : FieldsOk pages x) where
       let f : Frame = frameAt (x .working .frames) p in
       sym (part-part (encodeBoard x) (framesAt + p * frameSize) frameSize frameBytesAt pageSize (omega arith))
       ∙ rw (frame-part p h)
-      (part-end (rightByte (f .right) ∷ []) (f .bytes) frameBytesAt pageSize refl (frameOk-at (x .working .frames) p (ok .frames) .size))
+      (part-end (rightByte (f .right) ∷ []) (f .bytes) frameBytesAt pageSize refl (frameOk-at (x .working .frames) p (ok .working .frames) .size))
 
   pub read-byte : (p o : ℕ) → p < pages → o < pageSize
       → byteAt (encodeBoard x) (framesAt + p * frameSize + frameBytesAt + o) ≡ cellByte (x .working .frames) (record { page = p; offset = o })
@@ -210,17 +192,17 @@ module _ (pages : ℕ) (x : Board) (ok : FieldsOk pages x) where
       let rs : List Record = x .working .log .records in
       let bytes : List ℕ = encodeAll encodeRecord rs in
       let m : i * slotSize + slotSize ≤ length rs * slotSize = index-in slotSize (length rs) i h in
-      let e : length bytes ≡ length rs * slotSize = length-encodeRecords pages rs (ok .log .records) in
-      sym (part-part (encodeBoard x) (slotsAt pages) slotsSize (i * slotSize) slotSize (omega (arith, ok .log .slots)))
+      let e : length bytes ≡ length rs * slotSize = length-encodeRecords pages rs (ok .working .log .records) in
+      sym (part-part (encodeBoard x) (slotsAt pages) slotsSize (i * slotSize) slotSize (omega (arith, ok .working .log .slots)))
       ∙ rw (board-slots pages x ok)
       (part-append-left bytes (x .working .log .rest) (i * slotSize) slotSize (omega arith)
-      ∙ part-encodeAll encodeRecord slotSize rs i d (each-imp rs (λ r o. length-encodeRecord r (o .size)) (ok .log .records)) h)
+      ∙ part-encodeAll encodeRecord slotSize rs i d (each-imp rs (λ r o. length-encodeRecord r (o .size)) (ok .working .log .records)) h)
 
   pub read-record : (i : ℕ) (d : Record) → i < length (x .working .log .records)
       → decodeRecord (part (encodeBoard x) (slotsAt pages + i * slotSize) slotSize) ≡ getD (x .working .log .records) i d
   read-record i d h =
       rw (slot-part i d h)
-      (decode-encodeRecord pages (getD (x .working .log .records) i d) (each-getD (x .working .log .records) i d (ok .log .records) h))
+      (decode-encodeRecord pages (getD (x .working .log .records) i d) (each-getD (x .working .log .records) i d (ok .working .log .records) h))
 
 -- ---- writing frames
 
@@ -307,7 +289,7 @@ pub write-slots : (pages : ℕ) (x : Board) (g : Log) (b : ℕ) (v : List ℕ) �
     → length (encodeLog (x .working .log)) ≡ slotsSize → b + length v ≤ slotsSize → length (g .records) ≡ length (x .working .log .records)
     → splice (encodeLog (x .working .log)) b v ≡ encodeLog g
     → splice (encodeBoard x) (slotsAt pages + b) v ≡ encodeBoard (onWorking (withLog g) x)
-unfolding encodeBoard encodeFixed onWorking withLog
+unfolding encodeBoard encodeFixed onWorking
 write-slots pages x g b v ok n h c e =
     let frames : List ℕ = encodeAll encodeFrame (x .working .frames) in
     let m : length frames ≡ pages * frameSize = length-encodeFrames pages (x .working .frames) ok in
@@ -322,46 +304,3 @@ pub write-all-slots : (pages : ℕ) (x : Board) (g : Log) → FramesOk pages (x 
 write-all-slots pages x g ok n m c =
     rw add-zero at
     (write-slots pages x g 0 (encodeLog g) ok n (omega arith) c (splice-all (encodeLog (x .working .log)) (encodeLog g) (n ∙ sym m)))
-
--- ---- fields in range stay in range
-
-module _ {pages : ℕ} {x : Board} (ok : FieldsOk pages x) where
-  pub withState-fields : (s : State) → FieldsOk pages (withState s x)
-  unfolding withState
-  withState-fields s =
-      record {
-        fuse = ok .fuse;
-        number = ok .number;
-        since = ok .since;
-        frames = ok .frames;
-        log = ok .log;
-        selected = ok .selected;
-        spare = ok .spare;
-      }
-
-  pub withFuse-fields : (n : ℕ) → n ≤ noFuse → FieldsOk pages (withFuse n x)
-  unfolding withFuse
-  withFuse-fields n h =
-      record {
-        fuse = h;
-        number = ok .number;
-        since = ok .since;
-        frames = ok .frames;
-        log = ok .log;
-        selected = ok .selected;
-        spare = ok .spare;
-      }
-
-  pub onWorking-fields : (f : Working → Working) → f (x .working) .number ≤ lastNumber → f (x .working) .since ≤ lastSince
-      → FramesOk pages (f (x .working) .frames) → LogOk pages (f (x .working) .log) → FieldsOk pages (onWorking f x)
-  unfolding onWorking
-  onWorking-fields f n s fs g =
-      record {
-        fuse = ok .fuse;
-        number = n;
-        since = s;
-        frames = fs;
-        log = g;
-        selected = ok .selected;
-        spare = ok .spare;
-      }

@@ -15,16 +15,15 @@ use Rattle.types.specs.declared.Kind.the-variants.{Shown}
 use Rattle.types.specs.declared.Record.{Record}
 use Rattle.model.specs.Definitions.Parts.{zeros}
 use Rattle.model.specs.Definitions.Layout.{slotCount, slotSize, noFuse}
-use Rattle.model.specs.Definitions.Bank.{Log, Area, Board, onWorking}
+use Rattle.model.specs.Definitions.Bank.{Log, Area, Board, withAreaLog, withLog, onWorking, onSelected}
 use Rattle.model.specs.Definitions.WellFormed.{RecordOk, LogOk, AreaOk, FieldsOk, RoomOk}
-use Rattle.model.specs.Definitions.Steps.{withFuse, burnt, appended, movedRecord, storedRecord}
+use Rattle.model.specs.Definitions.Steps.{withFuse, burnt, appended, movedRecord, storedRecord, withRecord}
 use Rattle.model.specs.Laws.Logic.{byBool, byEq}
 use Rattle.model.specs.Laws.Lists.{each-append, each-drop, each-take}
 use Rattle.model.specs.Laws.Fresh.{zeros-bytes, zeros-length}
-use Rattle.model.specs.Laws.BlockFields.{withLog, onWorking-fields}
 use Rattle.model.specs.Laws.BlockWorking.{flushedLog, flushedLog-none, next-record, next-working}
-use Rattle.model.specs.Laws.BlockAreas.{withRecord}
-use Rattle.model.specs.Laws.BlockStable.{onSelected, onSelected-fields}
+use Rattle.model.specs.Laws.BoardFields.{onWorking-fields, onSelected-fields}
+use Rattle.model.specs.Laws.Valid.{areaOk-log, workingOk-log}
 
 -- ---- records appended
 
@@ -33,7 +32,7 @@ unfoldable pub appendedAll : List Record → Log → Log
 appendedAll rs l = record { records = l .records ++ rs; rest = drop (length rs * slotSize) (l .rest) }
 
 unfoldable pub withRecords : List Record → Area → Area
-withRecords rs a = record { number = a .number; frames = a .frames; log = appendedAll rs (a .log) }
+withRecords rs a = withAreaLog (appendedAll rs (a .log)) a
 
 pub appendedAll-none : (l : Log) → appendedAll [] l ≡ l
 unfolding appendedAll
@@ -52,23 +51,19 @@ withRecords-none a = rw appendedAll-none
 -- the next record of a list
 pub withRecords-next : (rs : List Record) (j : ℕ) (d : Record) (a : Area) → j < length rs
     → withRecords (take (suc j) rs) a ≡ withRecord (getD rs j d) (withRecords (take j rs) a)
-unfolding withRecords withRecord
+unfolding withRecords
 withRecords-next rs j d a h = rw (take-suc rs j d h, appendedAll-next)
 
 pub areaOk-records : (pages : ℕ) (rs : List Record) (a : Area) → AreaOk pages a → Each (RecordOk pages) rs
     → length (a .log .records) + length rs ≤ slotCount → AreaOk pages (withRecords rs a)
 unfolding withRecords appendedAll
 areaOk-records pages rs a ok v h =
-    record {
-      number = ok .number;
-      frames = ok .frames;
-      log =
-          record {
-            records = each-append (a .log .records) rs (ok .log .records) v;
-            bytes = each-drop (length rs * slotSize) (a .log .rest) (ok .log .bytes);
-            slots = rw (length-append (a .log .records) rs, length-drop (length rs * slotSize) (a .log .rest)) (omega (arith, ok .log .slots));
-          };
-    }
+    areaOk-log ok
+    (record {
+      records = each-append (a .log .records) rs (ok .log .records) v;
+      bytes = each-drop (length rs * slotSize) (a .log .rest) (ok .log .bytes);
+      slots = rw (length-append (a .log .records) rs, length-drop (length rs * slotSize) (a .log .rest)) (omega (arith, ok .log .slots));
+    })
 
 -- ---- the board that the bytes show between the stores
 
@@ -94,8 +89,9 @@ module _ (pages : ℕ) (x : Board) (ok : FieldsOk pages x) (room : RoomOk x) whe
   unfolding flushing
   flushing-fields j =
       let rs : List Record = x .working .log .records in
-      onSelected-fields pages x ok (withRecords (take j rs))
-      (areaOk-records pages (take j rs) (x .stable .selected) (ok .selected) (each-take j rs (ok .log .records)) (rw (length-take j rs) (omega arith)))
+      onSelected-fields ok (withRecords (take j rs))
+      (areaOk-records pages (take j rs) (x .stable .selected) (ok .selected) (each-take j rs (ok .working .log .records))
+      (rw (length-take j rs) (omega arith)))
 
 -- ---- the board after j stores
 
@@ -109,7 +105,7 @@ anyRecord = record { count = 0; kind = Shown 0; bytes = [] }
 -- each store takes the next of the records that were volatile at first
 pub storedRecords-parts : (j : ℕ) (x : Board) → j ≤ length (x .working .log .records)
     → storedRecords j x ≡ onWorking (withLog (flushedLog j (x .working .log))) (flushing j x)
-unfolding storedRecords onWorking withLog flushing onSelected movedRecord withRecord
+unfolding storedRecords onWorking flushing onSelected movedRecord
 storedRecords-parts zero x h = rw (flushedLog-none (x .working .log), withRecords-none (x .stable .selected))
 storedRecords-parts (suc j) x h =
     let g : Log = x .working .log in
@@ -129,7 +125,7 @@ working-storedRecords j x h = ap (λ (y : Board). y .working) (storedRecords-par
 
 -- the bytes between the stores are those of this board with the volatile log of before the flush
 pub flushing-log : (j : ℕ) (x : Board) → j ≤ length (x .working .log .records) → onWorking (withLog (x .working .log)) (storedRecords j x) ≡ flushing j x
-unfolding onWorking withLog flushing onSelected
+unfolding onWorking flushing onSelected
 flushing-log j x h = rw (storedRecords-parts j x h)
 
 module _ (pages : ℕ) (x : Board) (ok : FieldsOk pages x) (room : RoomOk x) where
@@ -137,19 +133,18 @@ module _ (pages : ℕ) (x : Board) (ok : FieldsOk pages x) (room : RoomOk x) whe
   unfolding flushedLog
   flushedLog-ok j h =
       record {
-        records = each-drop j (x .working .log .records) (ok .log .records);
-        bytes = each-append (zeros (j * slotSize)) (x .working .log .rest) (zeros-bytes (j * slotSize)) (ok .log .bytes);
+        records = each-drop j (x .working .log .records) (ok .working .log .records);
+        bytes = each-append (zeros (j * slotSize)) (x .working .log .rest) (zeros-bytes (j * slotSize)) (ok .working .log .bytes);
         slots =
             rw (length-drop j (x .working .log .records), length-append (zeros (j * slotSize)) (x .working .log .rest), zeros-length (j * slotSize))
-            (omega (arith, ok .log .slots));
+            (omega (arith, ok .working .log .slots));
       }
 
   pub storedRecords-fields : (j : ℕ) → j ≤ length (x .working .log .records) → FieldsOk pages (storedRecords j x)
-  unfolding flushing onSelected withLog
+  unfolding flushing onSelected
   storedRecords-fields j h =
       rw (storedRecords-parts j x h)
-      (onWorking-fields (flushing-fields pages x ok room j) (withLog (flushedLog j (x .working .log))) (ok .number) (ok .since) (ok .frames)
-      (flushedLog-ok j h))
+      (onWorking-fields (flushing-fields pages x ok room j) (withLog (flushedLog j (x .working .log))) (workingOk-log (ok .working) (flushedLog-ok j h)))
 
 -- ---- the fuse, lowered after each store
 

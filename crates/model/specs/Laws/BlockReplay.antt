@@ -1,25 +1,24 @@
--- Restart, replay and the end of replay as writes into a board's block; frames that a loop replaces page by page. Assumes nothing.
+-- Restart and replay as writes into a board's block; frames that a loop replaces page by page. Assumes nothing.
 use mathlib.Core.Path.{_≡_, refl, sym, _∙_}
 use Prim.Native.Nat.{ℕ, suc, _+_, _*_, _≤_, _<_}
 use native.Mathlib.Omega.{arith}
-use mathlib.Core.Bool.{Bool}
 use mathlib.Core.List.{List, [], _∷_, _++_, append-nil}
 use lib.ListN.{length, getD, set, take, drop, length-append, length-drop, drop-of-length-le}
 use lib.Seq.{drop-cons, take-suc, append-snoc, set-at, getD-at, take-all, length-take-le}
 use Rattle.words.specs.LittleEndian.{bytesOf}
 use Rattle.types.specs.declared.Frame.{Frame}
-use Rattle.types.specs.declared.State.the-variants.{Up, Replaying}
-use Rattle.model.specs.Definitions.Parts.{splice, each}
+use Rattle.types.specs.declared.State.the-variants.{Replaying}
+use Rattle.model.specs.Definitions.Parts.{splice}
 use Rattle.model.specs.Definitions.Layout.{pageSize, frameSize, numberSize, sinceSize, stateAt, numberAt, sinceAt, placeAt, framesAt}
-use Rattle.model.specs.Definitions.Bank.{Board, emptyFrame, frameAt, onWorking, onFrames}
+use Rattle.model.specs.Definitions.Bank.{Board, emptyFrame, frameAt, withState, withNumber, withSince, withPlace, onWorking, onFrames}
 use Rattle.model.specs.Definitions.Codec.{encodeFrame, stateByte, encodeBoard}
 use Rattle.model.specs.Definitions.Steps.{withFrame}
-use Rattle.model.specs.Definitions.Replay.{loaded, used, settledFrame, settled}
+use Rattle.model.specs.Definitions.Replay.{loaded, used}
 use Rattle.model.specs.Definitions.WellFormed.{FramesOk, FieldsOk}
-use Rattle.model.specs.Laws.Lists.{each-append, each-take, each-drop, each-each, length-each}
-use Rattle.model.specs.Laws.BlockFields.{withState, withNumber, withSince, withPlace, write-state, write-number, write-since, write-place, write-frame}
-use Rattle.model.specs.Laws.BlockFields.{withState-fields, onWorking-fields}
-use Rattle.model.specs.Laws.Keeps.Replay.{frameOk-settled}
+use Rattle.model.specs.Laws.Lists.{each-append, each-take, each-drop}
+use Rattle.model.specs.Laws.BlockFields.{write-state, write-number, write-since, write-place, write-frame}
+use Rattle.model.specs.Laws.Valid.{workingOk-number, workingOk-since, workingOk-place, workingOk-frames}
+use Rattle.model.specs.Laws.BoardFields.{withState-fields, onWorking-fields, withWorking-fields}
 
 -- ---- elements replaced one by one
 
@@ -82,7 +81,7 @@ module _ (pages : ℕ) (x : Board) (gs : List Frame) (old : FramesOk pages (x .w
 
   pub replacing-fields : FieldsOk pages x → (p : ℕ) → p ≤ pages → FieldsOk pages (replacing p gs x)
   unfolding onFrames
-  replacing-fields ok p h = onWorking-fields ok (onFrames (replaced p gs)) (ok .number) (ok .since) (replaced-ok p h) (ok .log)
+  replacing-fields ok p h = onWorking-fields ok (onFrames (replaced p gs)) (workingOk-frames (ok .working) (replaced-ok p h))
 
   module _ (p : ℕ) (h : p < pages) where
     inside : p < length (x .working .frames)
@@ -105,7 +104,7 @@ unfoldable pub restarting : Board → Board
 restarting x = onWorking (withPlace 0) (onWorking (withSince 0) (onWorking (withNumber (x .stable .selected .number)) (withState Replaying x)))
 
 pub restarting-loaded : (x : Board) → onWorking (onFrames (λ fs. x .stable .selected .frames)) (restarting x) ≡ loaded x
-unfolding restarting withState withPlace withSince withNumber onWorking onFrames loaded
+unfolding restarting onWorking onFrames loaded
 restarting-loaded x = refl
 
 -- state, number, since, place
@@ -126,24 +125,10 @@ restarting-bytes x =
 
 module _ (pages : ℕ) (x : Board) (ok : FieldsOk pages x) where
   pub restarting-fields : FieldsOk pages (restarting x)
-  unfolding restarting withState withPlace withSince withNumber onWorking
+  unfolding restarting onWorking
   restarting-fields =
-      record {
-        fuse = ok .fuse;
-        number = ok .selected .number;
-        since = omega arith;
-        frames = ok .frames;
-        log = ok .log;
-        selected = ok .selected;
-        spare = ok .spare;
-      }
-
-  pub loaded-fields : FieldsOk pages (loaded x)
-  unfolding onFrames
-  loaded-fields =
-      rw (← restarting-loaded x)
-      (onWorking-fields restarting-fields (onFrames (λ fs. x .stable .selected .frames)) (restarting-fields .number) (restarting-fields .since)
-      (ok .selected .frames) (restarting-fields .log))
+      withWorking-fields (withState-fields ok Replaying)
+      (workingOk-place (workingOk-since (workingOk-number (ok .working) (x .stable .selected .number) (ok .selected .number)) 0 (omega arith)) 0)
 
 -- ---- a stored record used
 
@@ -153,7 +138,7 @@ useWritten x = splice (splice (encodeBoard x) placeAt ((x .working .place + 1) �
 
 -- a shown
 pub used-shown : (x : Board) → useWritten x ≡ encodeBoard (onWorking (λ w. used (w .frames) w) x)
-unfolding onWorking withPlace withSince used
+unfolding onWorking used
 used-shown x = rw (write-place x (x .working .place + 1)) (write-since (onWorking (withPlace (x .working .place + 1)) x) 0)
 
 module _ (pages : ℕ) (x : Board) (ok : FieldsOk pages x) (p : ℕ) (h : p < pages) where
@@ -161,47 +146,4 @@ module _ (pages : ℕ) (x : Board) (ok : FieldsOk pages x) (p : ℕ) (h : p < pa
   pub used-frame : (f : Frame) → length (f .bytes) ≡ pageSize
       → splice (useWritten x) (framesAt + p * frameSize) (encodeFrame f) ≡ encodeBoard (onWorking (λ w. used (set (w .frames) p f) w) x)
   unfolding onWorking onFrames withFrame used
-  used-frame f e = rw (used-shown x) (write-frame pages (onWorking (λ w. used (w .frames) w) x) p f (ok .frames) e h)
-
-pub used-fields : {pages : ℕ} {x : Board} → FieldsOk pages x → (fs : List Frame) → FramesOk pages fs → FieldsOk pages (onWorking (used fs) x)
-unfolding used
-used-fields ok fs h = onWorking-fields ok (used fs) (ok .number) (omega arith) h (ok .log)
-
--- ---- the end of replay
-
--- the frames as the end of replay leaves them
-abbrev settledFrames : (ℕ → Bool) → List Frame → List Frame
-settledFrames owned fs = each (λ p f. settledFrame (owned p) f) fs
-
-settledFrames-ok : {pages : ℕ} (owned : ℕ → Bool) (fs : List Frame) → FramesOk pages fs → FramesOk pages (settledFrames owned fs)
-settledFrames-ok owned fs ok =
-    record {
-      count = length-each (λ p f. settledFrame (owned p) f) fs ∙ ok .count;
-      frames = each-each (λ p f. settledFrame (owned p) f) fs (ok .frames) (λ p f h. frameOk-settled (owned p) f h);
-    }
-
--- all of the end but its frames
-unfoldable pub ending : Board → Board
-ending x = onWorking (withPlace 0) (withState Up x)
-
--- with the first p frames settled
-unfoldable pub settledFirst : (ℕ → Bool) → ℕ → Board → Board
-settledFirst owned p x = replacing p (settledFrames owned (x .working .frames)) (ending x)
-
-module _ (pages : ℕ) (owned : ℕ → Bool) (x : Board) (ok : FieldsOk pages x) where
-  pub settled-all : settledFirst owned pages x ≡ settled owned x
-  unfolding settledFirst ending onWorking onFrames withState withPlace settled
-  settled-all =
-      rw (replaced-all pages (settledFrames owned (x .working .frames)) (x .working .frames)
-      (settledFrames-ok owned (x .working .frames) (ok .frames) .count) (ok .frames .count))
-
-  ending-fields : FieldsOk pages (ending x)
-  unfolding ending withState withPlace
-  ending-fields = onWorking-fields (withState-fields ok Up) (withPlace 0) (ok .number) (ok .since) (ok .frames) (ok .log)
-
-  abbrev new : FramesOk pages (settledFrames owned (x .working .frames))
-  new = settledFrames-ok owned (x .working .frames) (ok .frames)
-
-  pub settledFirst-fields : (p : ℕ) → p ≤ pages → FieldsOk pages (settledFirst owned p x)
-  unfolding settledFirst ending onWorking withState withPlace
-  settledFirst-fields p h = replacing-fields pages (ending x) (settledFrames owned (x .working .frames)) (ok .frames) new ending-fields p h
+  used-frame f e = rw (used-shown x) (write-frame pages (onWorking (λ w. used (w .frames) w) x) p f (ok .working .frames) e h)

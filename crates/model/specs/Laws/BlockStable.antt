@@ -12,22 +12,22 @@ use Rattle.words.specs.LittleEndian.{bytesOf}
 use Rattle.types.specs.declared.Frame.{Frame}
 use Rattle.types.specs.declared.Record.{Record}
 use Rattle.model.specs.Definitions.Parts.{part, splice, byteAt, encodeAll}
-use Rattle.model.specs.Definitions.Layout.{mostPages, slotCount, numberSize, frameSize, slotSize, slotsSize, areaNumberAt, areaCountAt, areaFramesAt}
-use Rattle.model.specs.Definitions.Layout.{areaSlotsAt, areaSize, selectorAt, slotsAt, areaAt, blockSize}
-use Rattle.model.specs.Definitions.Bank.{Area, Stable, Board, frameAt, onSpare}
+use Rattle.model.specs.Definitions.Layout.{slotCount, numberSize, frameSize, slotSize, slotsSize, areaNumberAt, areaCountAt, areaFramesAt, areaSlotsAt}
+use Rattle.model.specs.Definitions.Layout.{areaSize, selectorAt, slotsAt, areaAt, blockSize}
+use Rattle.model.specs.Definitions.Bank.{Area, Stable, Board, frameAt, onSelected, onSpare}
 use Rattle.model.specs.Definitions.Codec.{encodeFrame, encodeRecord, encodeLog, encodeArea, stateByte, selectorByte, encodeFixed, encodeStable}
 use Rattle.model.specs.Definitions.Codec.{encodeBoard}
-use Rattle.model.specs.Definitions.WellFormed.{FrameOk, RecordOk, AreaOk, FieldsOk}
-use Rattle.model.specs.Definitions.Steps.{storedFrame, storedHead, storedSelector}
+use Rattle.model.specs.Definitions.WellFormed.{FrameOk, RecordOk, FieldsOk, WorkingOk}
+use Rattle.model.specs.Definitions.Steps.{storedFrame, storedHead, storedSelector, withRecord, withAreaFrame, withHead}
 use Rattle.model.specs.Laws.Parts.{length-part, part-append-right, part-front, part-end, length-splice, part-splice, splice-append-right, splice-front}
 use Rattle.model.specs.Laws.Parts.{splice-at, splice-within, splice-again, index-in}
 use Rattle.model.specs.Laws.Codec.{areaHead, length-areaHead, length-encodeArea, length-encodeFrames, length-encodeFrame, length-encodeRecord}
 use Rattle.model.specs.Laws.Codec.{length-encodeLog}
 use Rattle.model.specs.Laws.CodecBank.{length-encodeFixed, length-encodeBoard, eqb-selectorByte}
-use Rattle.model.specs.Laws.Keeps.Accesses.{frameOk-at}
 use Rattle.model.specs.Laws.BlockFields.{read-selector}
-use Rattle.model.specs.Laws.BlockAreas.{withRecord, withAreaFrame, withHead, write-areaRecord, write-areaFrame, write-areaHead, areaOk-record}
-use Rattle.model.specs.Laws.BlockAreas.{areaOk-frame, areaOk-head}
+use Rattle.model.specs.Laws.BlockAreas.{write-areaRecord, write-areaFrame, write-areaHead}
+use Rattle.model.specs.Laws.Valid.{frameOk-at, areaOk-record}
+use Rattle.model.specs.Laws.BoardFields.{onSelected-fields}
 
 -- ---- a part changed by two splices and put back
 
@@ -82,16 +82,6 @@ before-areas : (x : Board) → encodeBoard x ≡ before x ++ encodeStable (x .st
 unfolding encodeBoard
 before-areas x = simp append-assoc
 
--- a board with another selected area; onSpare is the same for the spare one
-unfoldable pub onSelected : (Area → Area) → Board → Board
-onSelected f x =
-    record {
-      state = x .state;
-      fuse = x .fuse;
-      working = x .working;
-      stable = record { second = x .stable .second; selected = f (x .stable .selected); spare = x .stable .spare };
-    }
-
 module _ (pages : ℕ) (x : Board) (ok : FieldsOk pages x) where
   abbrev l : List ℕ
   l = encodeBoard x
@@ -104,7 +94,8 @@ module _ (pages : ℕ) (x : Board) (ok : FieldsOk pages x) where
 
   length-before : length (before x) ≡ slotsAt pages + slotsSize
   length-before =
-      simp (length-append, length-encodeFixed, length-encodeFrames pages (x .working .frames) (ok .frames), length-encodeLog pages (x .working .log) (ok .log))
+      let w : WorkingOk pages (x .working) = ok .working in
+      simp (length-append, length-encodeFixed, length-encodeFrames pages (x .working .frames) (w .frames), length-encodeLog pages (x .working .log) (w .log))
       (omega arith)
 
   wide-selected : length (encodeArea (x .stable .selected)) ≡ areaSize pages
@@ -198,7 +189,7 @@ module _ (pages : ℕ) (x : Board) (ok : FieldsOk pages x) where
     frame = frameAt (x .working .frames) p
 
     frame-ok : FrameOk frame
-    frame-ok = frameOk-at (x .working .frames) p (ok .frames)
+    frame-ok = frameOk-at (x .working .frames) p (ok .working .frames)
 
     frame-in : areaFramesAt + p * frameSize + length (encodeFrame frame) ≤ areaSize pages
     frame-in =
@@ -212,7 +203,7 @@ module _ (pages : ℕ) (x : Board) (ok : FieldsOk pages x) where
     pub storedFrame-bytes : splice (encodeBoard x) (areaAt pages (selectorByte (not (x .stable .second))) + (areaFramesAt + p * frameSize))
         (encodeFrame (frameAt (x .working .frames) p))
         ≡ encodeBoard (storedFrame p x)
-    unfolding storedFrame withAreaFrame
+    unfolding storedFrame
     storedFrame-bytes = in-spare (withAreaFrame p frame) (areaFramesAt + p * frameSize) (encodeFrame frame) frame-in frame-written
 
   -- "one area head (number and stored count 0)"
@@ -225,7 +216,7 @@ module _ (pages : ℕ) (x : Board) (ok : FieldsOk pages x) where
   pub storedHead-bytes : splice (encodeBoard x) (areaAt pages (selectorByte (not (x .stable .second))) + areaNumberAt)
       (bytesOf numberSize (x .working .number) ++ (0 ∷ []))
       ≡ encodeBoard (storedHead x)
-  unfolding storedHead withHead
+  unfolding storedHead
   storedHead-bytes =
       in-spare (withHead (x .working .number)) areaNumberAt (areaHead head) head-in (write-areaHead pages (t .spare) (ok .spare) (x .working .number))
 
@@ -250,7 +241,7 @@ module _ (pages : ℕ) (x : Board) (ok : FieldsOk pages x) where
     withRecord-part =
         write-selected-part (withRecord r) (λ s. splice (splice s (areaSlotsAt pages + stored * slotSize) (encodeRecord r)) areaCountAt ((stored + 1) ∷ []))
         (write-areaRecord pages (t .selected) (ok .selected) r v)
-        (length-encodeArea pages (withRecord r (t .selected)) (areaOk-record pages (t .selected) (ok .selected) r v h))
+        (length-encodeArea pages (withRecord r (t .selected)) (areaOk-record (ok .selected) v h))
 
     pub withRecord-bytes : splice
         (splice (encodeBoard x) (areaAt pages (selectorByte (x .stable .second)) + (areaSlotsAt pages + length (x .stable .selected .log .records) * slotSize))
@@ -265,58 +256,6 @@ module _ (pages : ℕ) (x : Board) (ok : FieldsOk pages x) where
         (omega arith) (omega arith) (fits-in (t .second)))
         ∙ withRecord-part
 
-  -- ---- every field stays in range
-
-  pub onSelected-fields : (f : Area → Area) → AreaOk pages (f (x .stable .selected)) → FieldsOk pages (onSelected f x)
-  unfolding onSelected
-  onSelected-fields f a =
-      record {
-        fuse = ok .fuse;
-        number = ok .number;
-        since = ok .since;
-        frames = ok .frames;
-        log = ok .log;
-        selected = a;
-        spare = ok .spare;
-      }
-
-  pub onSpare-fields : (f : Area → Area) → AreaOk pages (f (x .stable .spare)) → FieldsOk pages (onSpare f x)
-  unfolding onSpare
-  onSpare-fields f a =
-      record {
-        fuse = ok .fuse;
-        number = ok .number;
-        since = ok .since;
-        frames = ok .frames;
-        log = ok .log;
-        selected = ok .selected;
-        spare = a;
-      }
-
   pub withRecord-fields : (r : Record) → RecordOk pages r → length (x .stable .selected .log .records) < slotCount
       → FieldsOk pages (onSelected (withRecord r) x)
-  withRecord-fields r v h = onSelected-fields (withRecord r) (areaOk-record pages (t .selected) (ok .selected) r v h)
-
-  pub storedFrame-fields : (p : ℕ) → FieldsOk pages (storedFrame p x)
-  unfolding storedFrame withAreaFrame
-  storedFrame-fields p =
-      let f : Frame = frameAt (x .working .frames) p in
-      onSpare-fields (withAreaFrame p f) (areaOk-frame pages (t .spare) (ok .spare) p f (frameOk-at (x .working .frames) p (ok .frames)))
-
-  pub storedHead-fields : pages ≤ mostPages → FieldsOk pages (storedHead x)
-  unfolding storedHead withHead
-  storedHead-fields few =
-      onSpare-fields (withHead (x .working .number)) (areaOk-head pages (t .spare) (ok .spare) (x .working .number) (ok .number) few)
-
-  pub storedSelector-fields : FieldsOk pages (storedSelector x)
-  unfolding storedSelector
-  storedSelector-fields =
-      record {
-        fuse = ok .fuse;
-        number = ok .number;
-        since = ok .since;
-        frames = ok .frames;
-        log = ok .log;
-        selected = ok .spare;
-        spare = ok .selected;
-      }
+  withRecord-fields r v h = onSelected-fields ok (withRecord r) (areaOk-record (ok .selected) v h)

@@ -5,7 +5,7 @@ use Prim.Native.Nat.{ℕ, suc, _+_, _-_, _*_, _≤_, _<_}
 use native.Mathlib.Omega.{arith}
 use native.Mathlib.Nat.{add-zero}
 use mathlib.Core.List.{List, [], _∷_, _++_, map, append-assoc}
-use lib.ListN.{length, getD, drop, length-append, length-map, replicate-append-replicate}
+use lib.ListN.{length, getD, drop, length-append, replicate-append-replicate}
 use lib.Seq.{drop-cons, drop-length}
 use borrow.Author.Tests.{eq-eqb}
 use Rattle.words.specs.LittleEndian.{bytesOf}
@@ -14,23 +14,20 @@ use Rattle.types.specs.declared.Kind.{Kind}
 use Rattle.types.specs.declared.Record.{Record}
 use Rattle.types.specs.declared.State.the-variants.{Down}
 use Rattle.model.specs.Definitions.Parts.{splice, zeros, encodeAll}
-use Rattle.model.specs.Definitions.Layout.{slotCount, noFuse, lastSince, lastNumber, frameSize, slotSize, slotsSize, fuseSize, numberSize, sinceSize}
-use Rattle.model.specs.Definitions.Layout.{stateAt, fuseAt, numberAt, sinceAt, placeAt, volatileCountAt, framesAt, slotsAt}
-use Rattle.model.specs.Definitions.Bank.{Log, Board, emptyFrame, emptyLog, onWorking, onFrames}
+use Rattle.model.specs.Definitions.Layout.{slotCount, noFuse, frameSize, slotSize, slotsSize, fuseSize, numberSize, sinceSize, stateAt, fuseAt, numberAt}
+use Rattle.model.specs.Definitions.Layout.{sinceAt, placeAt, volatileCountAt, framesAt, slotsAt}
+use Rattle.model.specs.Definitions.Bank.{Log, Board, emptyFrame, emptyLog, withState, withNumber, withSince, withPlace, withLog, onWorking, onFrames}
 use Rattle.model.specs.Definitions.Codec.{rightByte, encodeFrame, encodeRecord, encodeLog, stateByte, encodeBoard}
-use Rattle.model.specs.Definitions.Steps.{poweredOff, withFuse, burnt, appended, recorded, movedRecord, storedRecord, restedWorking, Access, Read}
-use Rattle.model.specs.Definitions.Steps.{cellsWritten, withBytes, accessed}
+use Rattle.model.specs.Definitions.Steps.{poweredOff, withFuse, burnt, appended, recorded, movedRecord, storedRecord, restedWorking, Read, cellsWritten}
+use Rattle.model.specs.Definitions.Steps.{withBytes, accessed}
 use Rattle.model.specs.Definitions.WellFormed.{RecordOk, LogOk, FramesOk, FieldsOk}
 use Rattle.model.specs.Laws.Parts.{splice-front, splice-append-right, splice-apart, splice-next}
 use Rattle.model.specs.Laws.Codec.{length-encodeRecord, length-encodeRecords, length-encodeLog}
 use Rattle.model.specs.Laws.CodecAt.{encode-appended}
-use Rattle.model.specs.Laws.Lists.{each-map}
-use Rattle.model.specs.Laws.Keeps.Stores.{frameOk-empty}
-use Rattle.model.specs.Laws.Keeps.Accesses.{Writable, framesOk-withBytes}
-use Rattle.model.specs.Laws.Fresh.{zeros-length, emptyLog-ok}
-use Rattle.model.specs.Laws.BlockFields.{withState, withNumber, withSince, withPlace, withLog, write-state, write-fuse, write-number, write-since}
-use Rattle.model.specs.Laws.BlockFields.{write-place, write-count, write-slots, write-all-frames, write-all-slots, fixed-inside, frames-inside}
-use Rattle.model.specs.Laws.BlockFields.{onWorking-fields}
+use Rattle.model.specs.Laws.Fresh.{zeros-length}
+use Rattle.model.specs.Laws.BlockFields.{write-state, write-fuse, write-number, write-since, write-place, write-count, write-slots, write-all-frames}
+use Rattle.model.specs.Laws.BlockFields.{write-all-slots, fixed-inside, frames-inside}
+use Rattle.model.specs.Laws.Valid.{emptyFrames-ok}
 
 -- ---- zero bytes
 
@@ -91,19 +88,20 @@ encode-slotWritten pages r g ok =
 module _ (pages : ℕ) (x : Board) (ok : FieldsOk pages x) (kind : Kind) (bytes : List ℕ) (v : RecordOk pages (noted kind bytes x))
     (room : length (x .working .log .records) < slotCount) where
   pub recorded-bytes : recordWritten pages (noted kind bytes x) x ≡ encodeBoard (onWorking (recorded kind bytes) x)
-  unfolding onWorking recorded withSince withLog appended slotWritten
+  unfolding onWorking recorded appended slotWritten
   recorded-bytes =
       let g : Log = x .working .log in
       let r : Record = noted kind bytes x in
       let n : length (encodeRecord r) ≡ slotSize = length-encodeRecord r (v .size) in
       let c : length (g .records) + 1 ≡ length (appended r g .records) = sym (length-append (g .records) (r ∷ [])) in
-      let w : splice (encodeLog g) (length (g .records) * slotSize) (encodeRecord r) ≡ encodeLog (slotWritten r g) = encode-slotWritten pages r g (ok .log) in
+      let w : splice (encodeLog g) (length (g .records) * slotSize) (encodeRecord r) ≡ encodeLog (slotWritten r g)
+      = encode-slotWritten pages r g (ok .working .log) in
       let y : Board = onWorking (withLog (slotWritten r g)) x in
       rw (
-        write-slots pages x (slotWritten r g) (length (g .records) * slotSize) (encodeRecord r) (ok .frames) (length-encodeLog pages g (ok .log))
-            (omega arith) refl w,
+        write-slots pages x (slotWritten r g) (length (g .records) * slotSize) (encodeRecord r) (ok .working .frames)
+            (length-encodeLog pages g (ok .working .log)) (omega arith) refl w,
         c,
-        write-count y (appended r g) (encode-appended pages r g v (ok .log .records) ∙ w),
+        write-count y (appended r g) (encode-appended pages r g v (ok .working .log .records) ∙ w),
       )
       (write-since (onWorking (withLog (appended r g)) y) 0)
 
@@ -117,19 +115,13 @@ unfoldable counted : Board → Board
 counted x = onWorking (withSince (x .working .since + 1)) (onWorking (withNumber (x .working .number + 1)) x)
 
 counted-bytes : (x : Board) → countersWritten x ≡ encodeBoard (counted x)
-unfolding onWorking withNumber counted
+unfolding onWorking counted
 counted-bytes x =
     rw (write-number x (x .working .number + 1)) (write-since (onWorking (withNumber (x .working .number + 1)) x) (x .working .since + 1))
 
 pub accessed-read : (x : Board) (p o : ℕ) → countersWritten x ≡ encodeBoard (onWorking (accessed (Read p o)) x)
-unfolding onWorking withNumber withSince accessed withBytes cellsWritten counted
+unfolding onWorking accessed withBytes cellsWritten counted
 accessed-read x p o = counted-bytes x
-
-pub accessed-fields : {pages : ℕ} {x : Board} → FieldsOk pages x → (a : Access) → Writable (x .working .frames) (cellsWritten a)
-    → x .working .number < lastNumber → x .working .since < lastSince → FieldsOk pages (onWorking (accessed a) x)
-unfolding accessed
-accessed-fields {x} ok a w n s =
-    onWorking-fields ok (accessed a) (omega arith) (omega arith) (framesOk-withBytes (cellsWritten a) (x .working .frames) (ok .frames) w) (ok .log)
 
 -- ---- a checkpoint's end: since 0, count 0, all volatile slots zero
 
@@ -155,24 +147,17 @@ write-zero-slots pages x ok n c =
 
 module _ (pages : ℕ) (x : Board) (ok : FieldsOk pages x) where
   length-uncounted : length (encodeLog (uncounted (x .working .log))) ≡ slotsSize
-  length-uncounted = rw (encode-uncounted (x .working .log)) (length-encodeLog pages (x .working .log) (ok .log))
+  length-uncounted = rw (encode-uncounted (x .working .log)) (length-encodeLog pages (x .working .log) (ok .working .log))
 
   pub rested-bytes : splice (splice (splice (encodeBoard x) sinceAt (bytesOf sinceSize 0)) volatileCountAt (0 ∷ [])) (slotsAt pages) (zeros slotsSize)
       ≡ encodeBoard (onWorking restedWorking x)
-  unfolding onWorking withSince withLog uncounted restedWorking
+  unfolding onWorking uncounted restedWorking
   rested-bytes =
       let y : Board = onWorking (withSince 0) x in
       let z : Board = onWorking (withLog (uncounted (x .working .log))) y in
-      rw (write-since x 0, write-empty y) (write-zero-slots pages z (ok .frames) length-uncounted refl)
-
-  pub rested-fields : FieldsOk pages (onWorking restedWorking x)
-  unfolding restedWorking
-  rested-fields = onWorking-fields ok restedWorking (ok .number) (omega arith) (ok .frames) (emptyLog-ok pages)
+      rw (write-since x 0, write-empty y) (write-zero-slots pages z (ok .working .frames) length-uncounted refl)
 
 -- ---- a power loss
-
-emptyFrames-ok : {pages : ℕ} (fs : List Frame) → FramesOk pages fs → FramesOk pages (map (λ f. emptyFrame) fs)
-emptyFrames-ok fs ok = record { count = length-map fs (λ f. emptyFrame) ∙ ok .count; frames = each-map (λ f. emptyFrame) fs (λ f. frameOk-empty) }
 
 -- frames and slots stand side by side: zero both in one run, under count 0
 write-zero-run : (pages : ℕ) (x : Board) → FramesOk pages (x .working .frames) → length (encodeLog (x .working .log)) ≡ slotsSize
@@ -202,7 +187,7 @@ fixedCleared x =
 
 module _ (pages : ℕ) (x : Board) (ok : FieldsOk pages x) where
   pub poweredOff-bytes : splice (fixedCleared x) framesAt (zeros (pages * frameSize + slotsSize)) ≡ encodeBoard (poweredOff x)
-  unfolding onWorking onFrames withState withFuse withNumber withSince withPlace withLog uncounted poweredOff
+  unfolding onWorking onFrames withFuse uncounted poweredOff
   poweredOff-bytes =
       let a : Board = withFuse noFuse (withState Down x) in
       let b : Board = onWorking (withPlace 0) (onWorking (withSince 0) (onWorking (withNumber 0) a)) in
@@ -215,7 +200,7 @@ module _ (pages : ℕ) (x : Board) (ok : FieldsOk pages x) where
         write-place (onWorking (withSince 0) (onWorking (withNumber 0) a)) 0,
         write-empty b,
       )
-      (write-zero-run pages c (ok .frames) (length-uncounted pages x ok) refl)
+      (write-zero-run pages c (ok .working .frames) (length-uncounted pages x ok) refl)
 
 -- ---- a store: a set fuse is lowered, and one that is none stays
 
@@ -249,7 +234,7 @@ module _ (g : Log) (j : ℕ) (d : Record) (y : Board) (e : y .working .log ≡ f
       ap (λ (l : List Record). elim l [ [] ↦ y | q ∷ qs ↦ movedRecord q qs y ]) r
 
   pub next-working : storedRecord y .working ≡ withLog (flushedLog (suc j) g) (y .working)
-  unfolding flushedLog withLog movedRecord
+  unfolding flushedLog movedRecord
   next-working =
       let q : zeros slotSize ++ y .working .log .rest ≡ zeros (suc j * slotSize) ++ g .rest
       = ap (λ (l : Log). zeros slotSize ++ l .rest) e ∙ zeros-slot j (g .rest) in
@@ -258,7 +243,7 @@ module _ (g : Log) (j : ℕ) (d : Record) (y : Board) (e : y .working .log ≡ f
 
 -- a power loss between two stores: how the volatile slots look makes no difference
 pub poweredOff-log : (g : Log) (y : Board) → poweredOff (onWorking (withLog g) y) ≡ poweredOff y
-unfolding poweredOff onWorking withLog
+unfolding poweredOff onWorking
 poweredOff-log g y = refl
 
 -- the records' bytes zero, under count 0
@@ -278,7 +263,7 @@ module _ (pages : ℕ) (x : Board) (fs : FramesOk pages (x .working .frames)) (o
 
   pub flushed-bytes : splice (splice (encodeBoard x) (slotsAt pages) (zeros (length (log .records) * slotSize))) volatileCountAt (0 ∷ [])
       ≡ encodeBoard (onWorking (withLog (flushedLog (length (log .records)) log)) x)
-  unfolding onWorking withLog flushedLog uncounted
+  unfolding onWorking flushedLog uncounted
   flushed-bytes =
       let n : ℕ = length (log .records) * slotSize in
       let y : Board = onWorking (withLog (uncounted log)) x in

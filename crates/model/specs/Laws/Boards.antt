@@ -8,8 +8,8 @@ use mathlib.Core.Bool.{Bool, true, false, _&&_, _||_, not}
 use mathlib.Core.List.{List, [], _∷_, map}
 use lib.ListN.{length, getD, set, length-map, List·getD-eq-default}
 use lib.Seq.{getD-set-same, getD-set-other}
-use lib.Dec.{eqb}
-use borrow.Author.Tests.{eq-eqb, ne-eqb}
+use lib.Dec.{eqb, ltb}
+use borrow.Author.Tests.{eq-eqb, ne-eqb, ltb-true, ltb-false}
 use Rattle.types.specs.declared.Right.the-variants.{None, Copy, Own}
 use Rattle.types.specs.declared.Frame.{Frame}
 use Rattle.types.specs.declared.CopyOrOwn.the-variants.{GotCopy}
@@ -18,10 +18,11 @@ use Rattle.types.specs.declared.Kind.the-variants.{Got}
 use Rattle.model.specs.Definitions.Parts.{update, each, member, withMember}
 use Rattle.model.specs.Definitions.Bank.{Entry, Board, Bank, emptyFrame, noBoard, boardAt, entryAt, frameAt, onBoard, onEntry, onWorking, noEntry}
 use Rattle.model.specs.Definitions.Steps.{poweredOff, forgotten, powerOff, recorded, note, movedRecord, storedRecord, withFrame, frameOf, giveCopy}
-use Rattle.model.specs.Definitions.Steps.{dropped, dropAt, dropCopies, passOwnership}
-use Rattle.model.specs.Definitions.Replay.{settled}
+use Rattle.model.specs.Definitions.Steps.{dropped, dropAt, dropCopies, passOwnership, Access}
+use Rattle.model.specs.Definitions.Replay.{usedUp, due, tookDue, replayed}
 use Rattle.words.specs.Bytes.{Each, each-nil, each-cons}
 use Rattle.model.specs.Definitions.WellFormed.{rightIn}
+use Rattle.model.specs.Laws.Logic.{byBool, casesOption}
 use Rattle.model.specs.Laws.Lists.{each-head, each-tail, length-update, getD-update-same, getD-update-other, length-each, getD-each}
 
 -- ---- lists: what the laws of Lists leave out
@@ -98,6 +99,10 @@ pub boardAt-out : (k : Bank) (b : ℕ) → length (k .boards) ≤ b → boardAt 
 unfolding boardAt
 boardAt-out k b h = List·getD-eq-default (k .boards) noBoard {n = b} h
 
+-- a board is there or not
+pub byBoard : {X : Type 0} (k : Bank) (c : ℕ) → (c < length (k .boards) → X) → (length (k .boards) ≤ c → X) → X
+byBoard k c f g = byBool (ltb c (length (k .boards))) (λ t. f (ltb-true c (length (k .boards)) t)) (λ t. g (ltb-false c (length (k .boards)) t))
+
 module _ (b : ℕ) (f : Board → Board) (k : Bank) where
   pub boards-onBoard : length (onBoard b f k .boards) ≡ length (k .boards)
   unfolding onBoard
@@ -106,10 +111,6 @@ module _ (b : ℕ) (f : Board → Board) (k : Bank) where
   pub directory-onBoard : onBoard b f k .directory ≡ k .directory
   unfolding onBoard
   directory-onBoard = refl
-
-  pub entryAt-onBoard : (p : ℕ) → entryAt (onBoard b f k) p ≡ entryAt k p
-  unfolding entryAt onBoard
-  entryAt-onBoard p = refl
 
   pub boardAt-same : b < length (k .boards) → boardAt (onBoard b f k) b ≡ f (boardAt k b)
   unfolding boardAt onBoard
@@ -292,8 +293,12 @@ module _ (o w p : ℕ) (k : Bank) where
   unfolding onBoard dropAt ownedBy
   entryAt-passOwnership-same h = rw passOwnership-parts (entryAt-same p (ownedBy w) (onBoard w taken (dropAt gives p k)) h)
 
--- ---- the end of a replay, before its checkpoint
+-- ---- a repeated access leaves its board's state
 
--- "pages the directory gives to others lose their right; those it gives this board are own; place 0; state up"
-unfoldable pub settle : ℕ → Bank → Bank
-settle b k = onBoard b (settled (λ p. eqb (entryAt k p .owner) b)) k
+pub tookDue-state : (a : Access) (x : Board) → tookDue a x .state ≡ x .state
+unfolding tookDue onWorking
+tookDue-state a x = casesOption (λ (y : Board). y .state ≡ x .state) (due x) (λ n. refl) (λ r e. refl)
+
+pub replayed-state : (a : Access) (x : Board) → replayed a x .state ≡ x .state
+unfolding replayed usedUp onWorking
+replayed-state a x = refl

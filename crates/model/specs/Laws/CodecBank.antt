@@ -128,10 +128,10 @@ encodeBoard-split x = rw encodeStable-split
 
 module _ (pages : ℕ) (x : Board) (ok : FieldsOk pages x) where
   length-frames : length (framesOf x) ≡ pages * frameSize
-  length-frames = length-encodeFrames pages (x .working .frames) (ok .frames)
+  length-frames = length-encodeFrames pages (x .working .frames) (ok .working .frames)
 
   length-slots : length (slotsOf x) ≡ slotsSize
-  length-slots = length-encodeLog pages (x .working .log) (ok .log)
+  length-slots = length-encodeLog pages (x .working .log) (ok .working .log)
 
   pub area0-ok : AreaOk pages (area0 (x .stable))
   unfolding area0
@@ -190,13 +190,14 @@ module _ (pages : ℕ) (x : Board) (ok : FieldsOk pages x) where
   working-back =
       let y : Board = decodeBoard pages (encodeBoard x) in
       let n : y .working .number ≡ x .working .number
-      = rw (board-fixed numberAt numberSize (omega arith), fixed-number x) (numberOf-bytesOf numberSize (x .working .number) (omega (arith, ok .number))) in
+      = rw (board-fixed numberAt numberSize (omega arith), fixed-number x)
+      (numberOf-bytesOf numberSize (x .working .number) (omega (arith, ok .working .number))) in
       let s : y .working .since ≡ x .working .since
-      = rw (board-fixed sinceAt sinceSize (omega arith), fixed-since x) (numberOf-bytesOf sinceSize (x .working .since) (omega (arith, ok .since))) in
+      = rw (board-fixed sinceAt sinceSize (omega arith), fixed-since x) (numberOf-bytesOf sinceSize (x .working .since) (omega (arith, ok .working .since))) in
       let p : y .working .place ≡ x .working .place = board-byte placeAt (omega arith) ∙ fixed-place x in
-      let f : y .working .frames ≡ x .working .frames = rw board-frames (decode-encodeFrames pages (x .working .frames) (ok .frames)) in
+      let f : y .working .frames ≡ x .working .frames = rw board-frames (decode-encodeFrames pages (x .working .frames) (ok .working .frames)) in
       let g : y .working .log ≡ x .working .log
-      = rw (board-byte volatileCountAt (omega arith), fixed-volatile x, board-slots) (decode-encodeLog pages (x .working .log) (ok .log)) in
+      = rw (board-byte volatileCountAt (omega arith), fixed-volatile x, board-slots) (decode-encodeLog pages (x .working .log) (ok .working .log)) in
       λ i. record { number = n i; since = s i; place = p i; frames = f i; log = g i }
 
   stable-back : decodeBoard pages (encodeBoard x) .stable ≡ x .stable

@@ -7,8 +7,6 @@ pub mod Needs
 pub mod Rows
 pub mod Cases
 pub mod Ends
-pub mod Power
-pub mod Unfused
 pub mod Losses
 use mathlib.Core.Path.{_≡_, refl, ap}
 use mathlib.Core.Logic.{_≢_, inl, inr, _↔_}

@@ -1,112 +1,99 @@
 -- No call makes more stores than two flushes and a checkpoint. Assumes nothing.
-use mathlib.Core.Path.{_≡_, refl}
-use Prim.Native.Nat.{ℕ, zero, suc, _+_, _*_, _≤_, _<_}
+use mathlib.Core.Path.{_≡_, refl, ap, _∙_}
+use Prim.Native.Nat.{ℕ, _+_, _*_, _≤_, _<_}
 use native.Mathlib.Omega.{arith}
-use native.Mathlib.Decide.{decLt}
 use mathlib.Core.Bool.{Bool, false}
 use mathlib.Core.Option.{none}
-use mathlib.Core.List.{List}
-use lib.ListN.{length}
-use lib.Dec.{eqb}
+use mathlib.Core.List.{List, [], _∷_}
+use lib.ListN.{length, length-append}
 use Rattle.types.specs.declared.CopyOrOwn.{CopyOrOwn}
 use Rattle.types.specs.declared.CopyOrOwn.the-variants.{GotCopy, GotOwn}
+use Rattle.types.specs.declared.Kind.{Kind}
 use Rattle.types.specs.declared.Kind.the-variants.{Got, Shown}
 use Rattle.types.specs.declared.Answer.{Answer}
 use Rattle.model.specs.Definitions.Parts.{zeros}
 use Rattle.model.specs.Definitions.Layout.{mostPages, pageSize, slotCount}
-use Rattle.model.specs.Definitions.Bank.{Board, Bank, noBoard, emptyLog, boardAt, entryAt, onBoard}
-use Rattle.model.specs.Definitions.Codec.{decode, pageOf}
-use Rattle.model.specs.Definitions.WellFormed.{isGot, isReplaying, WellFormed}
+use Rattle.model.specs.Definitions.Bank.{Board, Bank, boardAt, onBoard, onWorking}
+use Rattle.model.specs.Definitions.Codec.{decode}
+use Rattle.model.specs.Definitions.WellFormed.{isReplaying, WellFormed}
 use Rattle.model.specs.Definitions.Check.{wellFormed}
-use Rattle.types.specs.declared.State.the-variants.{Up, Replaying}
-use Rattle.model.specs.Definitions.Steps.{Run, start, Access, Read, Write, valueOf, access, pageNamed, takes, frameOf, giveCopy, passOwnership}
-use Rattle.model.specs.Definitions.Steps.{dropCopies, powerOff, withFuse, step, store, storedRecord, storedFrame, storedHead, storedSelector, note}
-use Rattle.model.specs.Definitions.Steps.{storeRecords, flush, storeFrames, checkpoint, show, giver, readFetch, writeFetch, fetch}
-use Rattle.model.specs.Definitions.Replay.{loaded, usedUp, differs, tookDue, replayed, settled, replayOver, endReplay, endIfOver}
+use Rattle.types.specs.declared.State.the-variants.{Replaying}
+use Rattle.model.specs.Definitions.Steps.{Run, start, recorded, appended, Access, valueOf, access, pageNamed, takes, frameOf, giveCopy, passOwnership}
+use Rattle.model.specs.Definitions.Steps.{dropCopies, powerOff, withFuse, step, store, storeAll, note, recordStores, flush, checkpointStores}
+use Rattle.model.specs.Definitions.Steps.{restedWorking, checkpoint, show, giver, readFetch, writeFetch, fetch}
+use Rattle.model.specs.Definitions.Replay.{settle, loaded, usedUp, differs, tookDue, replayed, replayOver, endReplay, endIfOver}
 use Rattle.model.specs.Definitions.Calls.{Result, firstOf, unless, finished, lackingOf, copiesOut, liveRefusals, prepared, performed, live, liveAfterEnd}
-use Rattle.model.specs.Definitions.Calls.{replaying, accessRefusals, accessBank, checkpointBank, cutBank, fuseBank, restartBank, Call, Reading, Writing}
-use Rattle.model.specs.Definitions.Calls.{Checkpointing, Cutting, Fusing, Restarting, callBank, Reply, refused, replyOf, call}
-use Rattle.model.specs.Laws.Logic.{cases, casesOption}
-use Rattle.model.specs.Laws.Runs.{step-cases, store-cases, follows-step, sizes-onBoard}
-use Rattle.model.specs.Laws.Boards.{boardAt-out}
+use Rattle.model.specs.Definitions.Calls.{replaying, accessRefusals, accessWithin, accessBank, checkpointBank, cutBank, fuseBank, restartBank, Call}
+use Rattle.model.specs.Definitions.Calls.{Accessing, Checkpointing, Cutting, Fusing, Restarting, callBank, Reply, refused, replyOf, call}
+use Rattle.model.specs.Laws.Logic.{byOption, cases, casesOption}
+use Rattle.model.specs.Laws.Runs.{store-cases, step-going, follows-step, follows-note-flush, follows-show, sizes-onBoard, step-stores}
+use Rattle.model.specs.Laws.Runs.{length-recordStores, length-checkpointStores, finished-run}
+use Rattle.model.specs.Laws.Boards.{boardAt-same}
 use Rattle.model.specs.Contracts.{RoomFor, CanAccess, CanFetch, Entered, mostStores}
-use Rattle.model.specs.Laws.Keeps.NotedRecords.{recordable-plain, note-keeps}
-use Rattle.model.specs.Laws.Keeps.Stores.{step-keeps}
 use Rattle.model.specs.Laws.Keeps.Live.{can-fetch, isReplaying-replaying}
-use Rattle.model.specs.Laws.Keeps.Replay.{endReplay-keeps}
-use Rattle.model.specs.Laws.Keeps.Calls.{entered-live, below-taken, taken-inReplay, live-can, entered, fitting}
+use Rattle.model.specs.Laws.Keeps.Entered.{entered-live, below-taken, taken-inReplay, live-can, entered, fitting}
+use Rattle.model.specs.Laws.Keeps.Clauses.{up-below}
 use Rattle.model.specs.Laws.WellFormedTest.{wellFormed-sound}
-use Rattle.model.specs.Laws.Codes.Losses.{finished-run}
-use Rattle.model.specs.Laws.Keeps.Fetches.{room-shower, room-owner, gave-keeps, noted-keeps}
+use Rattle.model.specs.Laws.Keeps.Fetches.{room-shower, room-owner, room-taker, writer-same}
+use Rattle.model.specs.Laws.Moves.Stores.{endReplay-keeps}
 
 -- ---- a run
-
-step-stores : (f : Bank → Bank) (r : Run) → step f r .stores ≡ r .stores
-step-stores f r = step-cases (λ s. s .stores ≡ r .stores) f r (λ c e. refl) (λ e. refl)
 
 store-few : (b : ℕ) (f : Board → Board) (r : Run) → store b f r .stores ≤ r .stores + 1
 store-few b f r = store-cases (λ s. s .stores ≤ r .stores + 1) b f r (λ c e. omega arith) (λ e z. omega arith) (λ e z. omega arith)
 
-records-few : (n b : ℕ) (r : Run) → storeRecords n b r .stores ≤ r .stores + n
-unfolding storeRecords
-records-few zero b r = omega arith
-records-few (suc n) b r = omega (arith, records-few n b (store b storedRecord r), store-few b storedRecord r)
-
-frames-few : (p n b : ℕ) (r : Run) → storeFrames p n b r .stores ≤ r .stores + n
-unfolding storeFrames
-frames-few p zero b r = omega arith
-frames-few p (suc n) b r = omega (arith, frames-few (suc p) n b (store b (storedFrame p) r), store-few b (storedFrame p) r)
+storeAll-few : (b : ℕ) (fs : List (Board → Board)) (r : Run) → storeAll b fs r .stores ≤ r .stores + length fs
+unfolding storeAll
+storeAll-few b [] r = omega arith
+storeAll-few b (f ∷ fs) r = omega (arith, storeAll-few b fs (store b f r), store-few b f r)
 
 checkpoint-few : (b : ℕ) (r : Run) → checkpoint b r .stores ≤ r .stores + (length (r .bank .directory) + 2)
 unfolding checkpoint
 checkpoint-few b r =
-    let s₁ : Run = storeFrames 0 (length (r .bank .directory)) b r in
-    let s₂ : Run = store b storedHead s₁ in
-    rw (step-stores _ (store b storedSelector s₂))
-    (omega (arith, frames-few 0 (length (r .bank .directory)) b r, store-few b storedHead s₁, store-few b storedSelector s₂))
-
--- a log has 32 slots
-volatile-few : (k : Bank) → WellFormed k → (b : ℕ) → length (boardAt k b .working .log .records) ≤ slotCount
-unfolding noBoard emptyLog
-volatile-few k w b =
-    elim (decLt b (length (k .boards))) [
-      | yes h ↦ omega (arith, w .boards b h .room)
-      | no n ↦ rw (boardAt-out k b (omega arith)) (omega arith)
-    ]
-
-flush-few : (b : ℕ) (r : Run) → WellFormed (r .bank) → flush b r .stores ≤ r .stores + slotCount
-unfolding flush
-flush-few b r w = omega (arith, records-few (length (boardAt (r .bank) b .working .log .records)) b r, volatile-few (r .bank) w b)
+    let fs : List (Board → Board) = checkpointStores (length (r .bank .directory)) in
+    rw (step-stores (onBoard b (onWorking restedWorking)) (storeAll b fs r))
+    (omega (arith, storeAll-few b fs r, length-checkpointStores (length (r .bank .directory))))
 
 -- ---- a fetch: two flushes
 
+-- a record noted where there is room for it, and flushed: as many stores as the board has volatile records then
+noted-few : (b : ℕ) (kind : Kind) (bytes : Bank → List ℕ) (r : Run) → (r .lost ≡ none → RoomFor 1 (boardAt (r .bank) b)) → b < length (r .bank .boards)
+    → flush b (step (λ k. note b kind (bytes k) k) r) .stores ≤ r .stores + slotCount
+unfolding flush note onWorking recorded appended
+noted-few b kind bytes r m l =
+    let f : Bank → Bank = λ k. note b kind (bytes k) k in
+    let g : Board → Board = onWorking (recorded kind (bytes (r .bank))) in
+    byOption (r .lost)
+    (λ n.
+    let y : Board = boardAt (step f r .bank) b in
+    let e : length (y .working .log .records) ≡ length (boardAt (r .bank) b .working .log .records) + 1 =
+    ap (λ (k : Bank). length (boardAt k b .working .log .records)) (step-going f r n)
+    ∙ ap (λ (x : Board). length (x .working .log .records)) (boardAt-same b g (r .bank) l)
+    ∙ length-append (boardAt (r .bank) b .working .log .records) _ in
+    omega (arith, m n, e, storeAll-few b (recordStores y) (step f r), length-recordStores y, step-stores f r))
+    (λ c e. rw (follows-note-flush b kind bytes r .lost c e) (omega arith))
+
 -- "owner records shown and flushes"
-show-few : (o p : ℕ) (r : Run) → WellFormed (r .bank) → boardAt (r .bank) o .state ≡ Up → RoomFor 1 (boardAt (r .bank) o) → p < length (r .bank .directory)
-    → show o p r .stores ≤ r .stores + slotCount
-unfolding show pageOf isGot
-show-few o p r w u m l =
-    let noted : Bank → Bank = note o (Shown p) (zeros pageSize) in
-    let v : WellFormed (step noted r .bank)
-    = step-keeps noted r w (λ e. note-keeps o (Shown p) (zeros pageSize) (r .bank) w u m (recordable-plain (Shown p) refl l)) in
-    omega (arith, flush-few o (step noted r) v, step-stores noted r)
+show-few : (o p : ℕ) (r : Run) → RoomFor 1 (boardAt (r .bank) o) → o < length (r .bank .boards) → show o p r .stores ≤ r .stores + slotCount
+unfolding show
+show-few o p r m l = noted-few o (Shown p) (λ k. zeros pageSize) r (λ n. m) l
 
 fetch-few : (g : CopyOrOwn) (b p : ℕ) (r : Run) → WellFormed (r .bank) → CanFetch g b p (r .bank) → fetch g b p r .stores ≤ r .stores + 2 * slotCount
 unfolding fetch readFetch writeFetch
 fetch-few GotCopy b p r w c =
     let o : ℕ = giver (r .bank) p in
-    omega (arith, show-few o p r w (c .owner) (room-shower b p r w c) (c .page), step-stores (giveCopy o b p) (show o p r))
+    omega (arith, show-few o p r (room-shower b p r w c) (up-below (r .bank) o (c .owner)), step-stores (giveCopy o b p) (show o p r))
 fetch-few GotOwn b p r w c =
     let o : ℕ = giver (r .bank) p in
     let gave : Run = show o p r in
-    let noted : Bank → Bank = λ k. note b (Got GotOwn p) (frameOf k o p .bytes) k in
-    let v : WellFormed (step noted gave .bank) = step-keeps noted gave (gave-keeps b p r w c) (noted-keeps b p r w c) in
+    let bytes : Bank → List ℕ = λ k. frameOf k o p .bytes in
     let m : RoomFor 1 (boardAt (r .bank) o) = omega (arith, room-owner b p r w c) in
+    let l : b < length (gave .bank .boards) = rw (follows-show o p r .sizes .boards) (up-below (r .bank) b (c .taker)) in
     omega (
       arith,
-      show-few o p r w (c .owner) m (c .page),
-      step-stores noted gave,
-      flush-few b (step noted gave) v,
-      step-stores (passOwnership o b p) (flush b (step noted gave)),
+      show-few o p r m (up-below (r .bank) o (c .owner)),
+      noted-few b (Got GotOwn p) bytes gave (λ n. rw (writer-same b p r w c n) (room-taker GotOwn b p (r .bank) c)) l,
+      step-stores (passOwnership o b p) (flush b (step (λ k. note b (Got GotOwn p) (bytes k) k) gave)),
     )
 
 -- ---- an access
@@ -137,10 +124,10 @@ live-few b a r w can =
 -- ---- a replay's end: one checkpoint
 
 end-few : (b : ℕ) (r : Run) → endReplay b r .stores ≤ r .stores + (length (r .bank .directory) + 2)
-unfolding endReplay
+unfolding endReplay settle
 end-few b r =
-    let f : Bank → Bank = λ k. onBoard b (settled (λ p. eqb (entryAt k p .owner) b)) k in
-    let e : length (step f r .bank .directory) ≡ length (r .bank .directory) = follows-step {By = λ c. Unit} f r (sizes-onBoard b _ (r .bank)) .sizes .pages in
+    let f : Bank → Bank = settle b in
+    let e : length (step f r .bank .directory) ≡ length (r .bank .directory) = follows-step f r (sizes-onBoard b _ (r .bank)) .sizes .pages in
     omega (arith, checkpoint-few b (step f r), step-stores f r)
 
 endIfOver-few : (b : ℕ) (r : Run) → endIfOver b r .stores ≤ r .stores + (length (r .bank .directory) + 2)
@@ -180,7 +167,7 @@ module _ (b : ℕ) (a : Access) (k : Bank) (w : WellFormed k) (i : Entered b a k
 
 module _ (b : ℕ) (k : Bank) (w : WellFormed k) where
   access-few : (a : Access) → accessBank b a k .run .stores ≤ mostStores
-  unfolding accessBank start
+  unfolding accessWithin start
   access-few a =
       unless-few (accessRefusals b a k) (start k) _ mostStores (omega arith)
       (λ e.
@@ -216,8 +203,7 @@ module _ (b : ℕ) (k : Bank) (w : WellFormed k) where
 
 bank-few : (c : Call) (k : Bank) → WellFormed k → callBank c k .run .stores ≤ mostStores
 unfolding callBank
-bank-few (Reading b p o) k w = access-few b k w (Read p o)
-bank-few (Writing b p o v) k w = access-few b k w (Write p o v)
+bank-few (Accessing b a) k w = access-few b k w a
 bank-few (Checkpointing b) k w = checkpointBank-few b k w
 bank-few (Cutting b) k w = cutBank-few b k w
 bank-few (Fusing b n) k w = fuseBank-few b k w n

@@ -9,22 +9,23 @@ use mathlib.Core.List.{List}
 use lib.ListN.{length, length-replicate}
 use lib.Dec.{eqb, lit<, lit≤}
 use Rattle.words.specs.Bytes.{Each, each-nil, Bytes}
+use Rattle.types.specs.declared.Frame.{Frame}
 use Rattle.types.specs.declared.Right.{Right}
 use Rattle.types.specs.declared.Right.the-variants.{None, Own}
 use Rattle.types.specs.declared.Answer.the-variants.{Done}
 use Rattle.model.specs.Definitions.Parts.{zeros}
 use Rattle.model.specs.Definitions.Layout.{mostBoards, mostPages, pageSize, slotsSize, bankSize}
-use Rattle.model.specs.Definitions.Bank.{boardAt, entryAt, frameAt, emptyFrame, emptyLog, noBoard, freshFrames, freshBoard, fresh}
+use Rattle.model.specs.Definitions.Bank.{emptyFrame, emptyLog, zeroArea, zeroWorking, noBoard, boardAt, entryAt, frameAt, freshFrames, freshBoard, fresh}
 use Rattle.model.specs.Definitions.WellFormed.{SizesOk, FrameOk, LogOk, FramesOk, AreaOk, FieldsOk, PlaceOk, rightIn, BoardOk, EntryOk, WellFormed}
+use Rattle.model.specs.Definitions.WellFormed.{WorkingOk}
 use Rattle.model.specs.Definitions.Check.{wellFormed, sizesAllowed}
 use Rattle.model.specs.Definitions.Codec.{encode}
 use Rattle.model.specs.Definitions.Calls.{Reply, refused, make}
 use Rattle.model.specs.Laws.Logic.{cases, byBool}
 use Rattle.model.specs.Laws.Lists.{length-tabulate, getD-tabulate, each-tabulate, each-replicate}
 use Rattle.model.specs.Laws.Sets.{member-none}
-use Rattle.model.specs.Laws.CodecBank.{length-encode}
 use Rattle.model.specs.Laws.Tests.{says-and, says-lt, says-le}
-use Rattle.model.specs.Laws.WellFormedTest.{fields-of, wellFormed-complete}
+use Rattle.model.specs.Laws.WellFormedTest.{wellFormed-complete}
 
 -- ---- the parts of a fresh board
 
@@ -52,22 +53,17 @@ freshFrames-ok boards pages b =
       frames = each-tabulate pages _ (λ p. cases FrameOk (eqb (p % boards) b) (λ _. zeroFrame-ok Own) (λ _. zeroFrame-ok None));
     }
 
-freshArea-ok : (boards pages b : ℕ) → AreaOk pages (record { number = 0; frames = freshFrames boards pages b; log = emptyLog })
-freshArea-ok boards pages b =
-    record { number = lit≤ tt; frames = freshFrames-ok boards pages b; log = emptyLog-ok pages }
+pub zeroArea-ok : {pages : ℕ} {fs : List Frame} → FramesOk pages fs → AreaOk pages (zeroArea fs)
+zeroArea-ok {pages} h = record { number = lit≤ tt; frames = h; log = emptyLog-ok pages }
+
+pub zeroWorking-ok : {pages : ℕ} {fs : List Frame} → FramesOk pages fs → WorkingOk pages (zeroWorking fs)
+zeroWorking-ok {pages} h = record { number = lit≤ tt; since = lit≤ tt; frames = h; log = emptyLog-ok pages }
 
 freshBoard-fields : (boards pages b : ℕ) → FieldsOk pages (freshBoard boards pages b)
 unfolding freshBoard
 freshBoard-fields boards pages b =
-    record {
-      fuse = lit≤ tt;
-      number = lit≤ tt;
-      since = lit≤ tt;
-      frames = freshFrames-ok boards pages b;
-      log = emptyLog-ok pages;
-      selected = freshArea-ok boards pages b;
-      spare = freshArea-ok boards pages b;
-    }
+    let h : FramesOk pages (freshFrames boards pages b) = freshFrames-ok boards pages b in
+    record { fuse = lit≤ tt; working = zeroWorking-ok h; selected = zeroArea-ok h; spare = zeroArea-ok h }
 
 -- ---- the bank: what stands at a page and at a board
 

@@ -1,4 +1,4 @@
--- Every step and every call keeps a well-formed bank well formed: one lemma for each micro-step, with the guards that it needs.
+-- Each micro-step keeps a well-formed bank well formed, with the guards that it needs (calls: Laws/Moves); and what the tests of a call leave.
 pub mod Clauses
 pub mod NotedRecords
 pub mod Stores
@@ -8,4 +8,4 @@ pub mod Rights
 pub mod Fetches
 pub mod Replay
 pub mod Live
-pub mod Calls
+pub mod Entered

@@ -7,7 +7,7 @@ use native.Mathlib.Nat.{le-of-suc-le-suc, not-suc-le-zero, zero-lt-suc, add-suc,
 use native.Mathlib.Omega.{arith}
 use mathlib.Core.Bool.{Bool, true, false}
 use mathlib.Core.Option.{none, some}
-use mathlib.Core.List.{List, [], _∷_, _++_, map}
+use mathlib.Core.List.{List, [], _∷_, _++_, map, foldl}
 use lib.ListN.{length, getD, set, drop, take, replicate}
 use Rattle.model.specs.Definitions.Parts.{update, eachFrom, each, tabulateFrom, tabulate, every, everyFrom, everyBelow, firstFrom, firstBelow}
 use Rattle.words.specs.Bytes.{Each, each-nil, each-cons}
@@ -86,6 +86,16 @@ module _ {A : Type 0} where
   getD-tabulate n j f d h = rw (getD-tabulateFrom 0 n j f d h, zero-add)
 
   -- ---- Each: what holds of every element
+
+  -- what each step of a fold keeps, of one fold or between two
+  pub foldl-keeps : {B : Type 0} (Q : B → Type 0) (g : B → A → B) (xs : List A) → Each (λ x. (b : B) → Q b → Q (g b x)) xs → (b : B) → Q b → Q (foldl g b xs)
+  foldl-keeps Q g [] e b q = q
+  foldl-keeps Q g (x ∷ xs) (each-cons p ps) b q = foldl-keeps Q g xs ps (g b x) (p b q)
+
+  pub foldl-both : {B : Type 0} (Q : B → B → Type 0) (g : B → A → B) (xs : List A) → Each (λ x. (b c : B) → Q b c → Q (g b x) (g c x)) xs
+      → (b c : B) → Q b c → Q (foldl g b xs) (foldl g c xs)
+  foldl-both Q g [] e b c q = q
+  foldl-both Q g (x ∷ xs) (each-cons p ps) b c q = foldl-both Q g xs ps (g b x) (g c x) (p b c q)
 
   module _ {P : A → Type 0} where
     pub each-head : {x : A} {xs : List A} → Each P (x ∷ xs) → P x

@@ -169,10 +169,13 @@ fields-ok pages l e b r =
     let q : AreaOk pages y = area-part-ok pages l (areaAt pages 1) (omega arith) b (r .area1) in
     record {
       fuse = number-below l fuseAt fuseSize noFuse (omega arith) b fuse-width;
-      number = number-below l numberAt numberSize lastNumber (omega arith) b number-width;
-      since = number-below l sinceAt sinceSize lastSince (omega arith) b since-width;
-      frames = frames-part-ok pages l framesAt (omega arith) b (r .frames);
-      log = log-part-ok pages (byteAt l volatileCountAt) l (slotsAt pages) (omega arith) b (r .log);
+      working =
+          record {
+            number = number-below l numberAt numberSize lastNumber (omega arith) b number-width;
+            since = number-below l sinceAt sinceSize lastSince (omega arith) b since-width;
+            frames = frames-part-ok pages l framesAt (omega arith) b (r .frames);
+            log = log-part-ok pages (byteAt l volatileCountAt) l (slotsAt pages) (omega arith) b (r .log);
+          };
       selected = selected-ok pages second x y p q;
       spare = spare-ok pages second x y p q;
     }

@@ -2,10 +2,10 @@
 -- are answered beside. Assumes nothing.
 use mathlib.Core.Path.{_≡_, refl, sym, ap, _∙_}
 use mathlib.Core.Logic.{_≢_, _⊎_, inl, inr}
-use Prim.Native.Nat.{ℕ, zero, suc, _+_, _≤_}
+use Prim.Native.Nat.{ℕ, _+_, _≤_}
 use native.Mathlib.Omega.{arith}
 use mathlib.Core.Option.{none}
-use mathlib.Core.List.{List}
+use mathlib.Core.List.{List, [], _∷_}
 use lib.ListN.{length}
 use lib.Dec.{eqb}
 use Rattle.types.specs.declared.State.the-variants.{Replaying}
@@ -14,14 +14,13 @@ use Rattle.model.specs.Definitions.Bank.{Board, Bank, boardAt, entryAt, 
 use Rattle.model.specs.Definitions.Codec.{encode, decode}
 use Rattle.model.specs.Definitions.Check.{wellFormed, sizesAllowed}
 use Rattle.model.specs.Definitions.Answers.{code}
-use Rattle.model.specs.Definitions.Steps.{Run, start, step, store, storedFrame, storedHead, storedSelector, restedWorking, storeFrames, checkpoint}
-use Rattle.model.specs.Definitions.Steps.{Access, Read, Write}
-use Rattle.model.specs.Definitions.Replay.{tookDue, settled, endReplay}
-use Rattle.model.specs.Definitions.Calls.{Result, finished, refused, Call, Reading, Writing, Checkpointing, Cutting, Fusing, Restarting, callBank, Reply}
+use Rattle.model.specs.Definitions.Steps.{Run, start, step, store, storeAll, checkpointStores, restedWorking, checkpoint, Access}
+use Rattle.model.specs.Definitions.Replay.{tookDue, settled, settle, endReplay}
+use Rattle.model.specs.Definitions.Calls.{Result, finished, refused, Call, Accessing, Checkpointing, Cutting, Fusing, Restarting, callBank, Reply}
 use Rattle.model.specs.Definitions.Calls.{replyOf, call, make}
 use Rattle.model.specs.Laws.Logic.{cases, casesOption}
 use Rattle.model.specs.Laws.CodecBankBack.{encode-decode}
-use Rattle.model.specs.Laws.Runs.{lost-not, step-cases, step-none, store-cases, follows-none, follows-storeFrames}
+use Rattle.model.specs.Laws.Runs.{lost-not, step-none, step-stores, store-cases, follows-none, follows-storeAll, length-checkpointStores}
 use Rattle.model.specs.Laws.Codes.Statement.{OfAccess, boardNamed, afterReplay}
 use Rattle.model.specs.Laws.Codes.{answerTo}
 use Rattle.model.specs.Laws.Codes.Ends.{Ends, refusedFirst, refusedLate, ran, ReplayEnd, LateIn, call-ended}
@@ -64,8 +63,7 @@ late-run b k Late t (ran v r) p q e = ran-code v r (omega arith) q
 
 late-replaying : (c : Call) (k : Bank) (r : Run) → LateIn c k r → boardAt k (boardNamed c) .state ≡ Replaying
 unfolding OfAccess boardNamed
-late-replaying (Reading b p o) k r l = l .state
-late-replaying (Writing b p o v) k r l = l .state
+late-replaying (Accessing b a) k r l = l .state
 late-replaying (Checkpointing b) k r l = absurd l
 late-replaying (Cutting b) k r l = absurd l
 late-replaying (Fusing b n) k r l = absurd l
@@ -75,8 +73,7 @@ late-replaying (Restarting b) k r l = absurd l
 
 of-access : {P Q : ℕ → Access → Type 0} (c : Call) → ((b : ℕ) (a : Access) → P b a → Q b a) → OfAccess P c → OfAccess Q c
 unfolding OfAccess
-of-access (Reading b p o) f l = f b (Read p o) l
-of-access (Writing b p o v) f l = f b (Write p o v) l
+of-access (Accessing b a) f l = f b a l
 of-access (Checkpointing b) f l = l
 of-access (Cutting b) f l = l
 of-access (Fusing b n) f l = l
@@ -146,37 +143,23 @@ store-count b f r n =
     (λ e z m. refl)
     n
 
-step-count : (f : Bank → Bank) (r : Run) → step f r .stores ≡ r .stores
-step-count f r = step-cases (λ (q : Run). q .stores ≡ r .stores) f r (λ c e. refl) (λ n. refl)
-
-store-none : (b : ℕ) (f : Board → Board) (r : Run) → store b f r .lost ≡ none → r .lost ≡ none
-store-none b f r = store-cases (λ (q : Run). q .lost ≡ none → r .lost ≡ none) b f r (λ c e m. m) (λ e z m. e) (λ e z m. e)
-
-storeFrames-none : (p n b : ℕ) (r : Run) → storeFrames p n b r .lost ≡ none → r .lost ≡ none
-storeFrames-none p n b r e = follows-none (follows-storeFrames {By = λ c. c ≡ b} p n b r refl) e
-
-storeFrames-count : (p n b : ℕ) (r : Run) → storeFrames p n b r .lost ≡ none → storeFrames p n b r .stores ≡ r .stores + n
-unfolding storeFrames
-storeFrames-count p zero b r e = omega arith
-storeFrames-count p (suc n) b r e =
-    let q : Run = store b (storedFrame p) r in
-    omega (arith, storeFrames-count (suc p) n b q e, store-count b (storedFrame p) r (storeFrames-none (suc p) n b q e))
+storeAll-count : (b : ℕ) (fs : List (Board → Board)) (r : Run) → storeAll b fs r .lost ≡ none → storeAll b fs r .stores ≡ r .stores + length fs
+unfolding storeAll
+storeAll-count b [] r e = omega arith
+storeAll-count b (f ∷ fs) r e =
+    let q : Run = store b f r in
+    omega (arith, storeAll-count b fs q e, store-count b f r (follows-none (follows-storeAll b fs q) e))
 
 checkpoint-count : (b : ℕ) (r : Run) → checkpoint b r .lost ≡ none → checkpoint b r .stores ≡ r .stores + (length (r .bank .directory) + 2)
 unfolding checkpoint
 checkpoint-count b r e =
-    let n : ℕ = length (r .bank .directory) in
-    let r₁ : Run = storeFrames 0 n b r in
-    let r₂ : Run = store b storedHead r₁ in
-    let r₃ : Run = store b storedSelector r₂ in
-    let e₃ : r₃ .lost ≡ none = step-none (onBoard b (onWorking restedWorking)) r₃ e in
-    let e₂ : r₂ .lost ≡ none = store-none b storedSelector r₂ e₃ in
-    let e₁ : r₁ .lost ≡ none = store-none b storedHead r₁ e₂ in
-    let n₁ : r₁ .stores ≡ r .stores + n = storeFrames-count 0 n b r e₁ in
-    omega (arith, step-count (onBoard b (onWorking restedWorking)) r₃, store-count b storedSelector r₂ e₃, store-count b storedHead r₁ e₂)
+    let f : Bank → Bank = onBoard b (onWorking restedWorking) in
+    let fs : List (Board → Board) = checkpointStores (length (r .bank .directory)) in
+    let s : Run = storeAll b fs r in
+    omega (arith, step-stores f s, storeAll-count b fs r (step-none f s e), length-checkpointStores (length (r .bank .directory)))
 
 pub end-stores : (b : ℕ) (a : Access) (k : Bank) → afterReplay b a k .lost ≡ none → afterReplay b a k .stores ≡ length (k .directory) + 2
-unfolding afterReplay endReplay step start onBoard
+unfolding afterReplay endReplay settle step start onBoard
 end-stores b a k e =
     let settle : Bank → Bank = λ j. onBoard b (settled (λ p. eqb (entryAt j p .owner) b)) j in
     omega (arith, checkpoint-count b (step settle (start (onBoard b (tookDue a) k))) e)

@@ -125,10 +125,10 @@ block-valid pages x ok =
     record {
       state = rw (board-byte pages x ok stateAt (lit< tt), fixed-state x) (state-le (x .state));
       selector = rw (board-byte pages x ok selectorAt (lit< tt), fixed-selector x) (selector-le (x .stable .second));
-      frames = rw (board-frames pages x ok) (frames-valid pages (x .working .frames) (ok .frames));
+      frames = rw (board-frames pages x ok) (frames-valid pages (x .working .frames) (ok .working .frames));
       log =
           rw (board-byte pages x ok volatileCountAt (lit< tt), fixed-volatile x, board-slots pages x ok)
-          (log-valid pages (x .working .log) (ok .log));
+          (log-valid pages (x .working .log) (ok .working .log));
       area0 = rw (board-area0 pages x ok) (area-valid pages (area0 (x .stable)) (area0-ok pages x ok));
       area1 = rw (board-area1 pages x ok) (area-valid pages (area1 (x .stable)) (area1-ok pages x ok));
     }
@@ -155,13 +155,13 @@ bytes-frame : (f : Frame) → FrameOk f → Bytes (encodeFrame f)
 unfolding encodeFrame rightByte
 bytes-frame f ok = byte (rightByte (f .right)) (omega (arith, right-le (f .right))) (ok .bytes)
 
-pub mark0-byte : (k : Kind) → mark0 k < byteValues
+mark0-byte : (k : Kind) → mark0 k < byteValues
 unfolding mark0
 mark0-byte (Got g p) = lit< tt
 mark0-byte (Shown p) = lit< tt
 mark0-byte (Dropped p) = lit< tt
 
-pub mark1-byte : (k : Kind) → mark1 k < byteValues
+mark1-byte : (k : Kind) → mark1 k < byteValues
 unfolding mark1
 mark1-byte (Got GotCopy p) = lit< tt
 mark1-byte (Got GotOwn p) = lit< tt
@@ -177,7 +177,7 @@ module _ (pages : ℕ) (few : pages ≤ mostPages) where
       (byte (pageOf (r .kind)) (omega (arith, ok .page))
       (byte 0 (lit< tt) (each-append (bytesOf sinceSize (r .count)) (r .bytes) (bytes-bytesOf sinceSize (r .count)) (ok .bytes)))))
 
-  bytes-log : (l : Log) → LogOk pages l → Bytes (encodeLog l)
+  pub bytes-log : (l : Log) → LogOk pages l → Bytes (encodeLog l)
   unfolding encodeLog
   bytes-log l ok =
       each-append (encodeAll encodeRecord (l .records)) (l .rest)
@@ -199,14 +199,15 @@ module _ (pages : ℕ) (few : pages ≤ mostPages) where
       (each-append (bytesOf fuseSize (x .fuse)) _ (bytes-bytesOf fuseSize (x .fuse))
       (each-append (bytesOf numberSize (x .working .number)) _ (bytes-bytesOf numberSize (x .working .number))
       (each-append (bytesOf sinceSize (x .working .since)) _ (bytes-bytesOf sinceSize (x .working .since))
-      (byte (x .working .place) h (byte (length (x .working .log .records)) (omega (arith, log-count pages (x .working .log) (ok .log))) each-nil))))))
+      (byte (x .working .place) h
+      (byte (length (x .working .log .records)) (omega (arith, log-count pages (x .working .log) (ok .working .log))) each-nil))))))
 
   pub bytes-board : (x : Board) → FieldsOk pages x → x .working .place < byteValues → Bytes (encodeBoard x)
   unfolding encodeBoard
   bytes-board x ok h =
       each-append (encodeFixed x) _ (bytes-fixed x ok h)
-      (each-append (encodeAll encodeFrame (x .working .frames)) _ (bytes-encodeAll encodeFrame (x .working .frames) (ok .frames .frames) bytes-frame)
-      (each-append (encodeLog (x .working .log)) _ (bytes-log (x .working .log) (ok .log))
+      (each-append (encodeAll encodeFrame (x .working .frames)) _ (bytes-encodeAll encodeFrame (x .working .frames) (ok .working .frames .frames) bytes-frame)
+      (each-append (encodeLog (x .working .log)) _ (bytes-log (x .working .log) (ok .working .log))
       (rw (encodeStable-split (x .stable))
       (each-append (encodeArea (area0 (x .stable))) _ (bytes-area (area0 (x .stable)) (area0-ok pages x ok))
       (bytes-area (area1 (x .stable)) (area1-ok pages x ok))))))

@@ -12,7 +12,8 @@ use Rattle.lines.specs.declared.tally.Tally.{Tally}
 use Rattle.model.specs.Definitions.Parts.{zeros}
 use Rattle.model.specs.Definitions.Layout.{bankSize}
 use Rattle.model.specs.Definitions.Answers.{code}
-use Rattle.model.specs.Definitions.Calls.{Reading, Writing, Checkpointing, Cutting, Fusing, Restarting, Reply, call, make}
+use Rattle.model.specs.Definitions.Steps.{Read as ReadAccess, Write as WriteAccess}
+use Rattle.model.specs.Definitions.Calls.{Accessing, Checkpointing, Cutting, Fusing, Restarting, Reply, call, make}
 use Rattle.lines.specs.Definitions.Lines.{request}
 use Rattle.lines.specs.Definitions.Output.{newline, printedOf, unreadable, lineOf, lastLine}
 use Rattle.lines.specs.Definitions.Tally.{counted, mostLines}
@@ -38,8 +39,8 @@ made t = record { printed = printedOf (t .outcome); bank = elim (eqb (code (t .o
 -- line i, which asks for this, on this bank
 unfoldable pub work : ℕ → Request → List ℕ → Worked
 work i (Make n p) s = elim (eqb i 1) [ true ↦ made (make n p (zeros (bankSize n p))) | false ↦ unread s ]
-work i (Read b p o) s = worked (call (Reading b p o) s)
-work i (Write b p o v) s = worked (call (Writing b p o v) s)
+work i (Read b p o) s = worked (call (Accessing b (ReadAccess p o)) s)
+work i (Write b p o v) s = worked (call (Accessing b (WriteAccess p o v)) s)
 work i (Checkpoint b) s = worked (call (Checkpointing b) s)
 work i (Cut b) s = worked (call (Cutting b) s)
 work i (Fuse b k) s = worked (call (Fusing b k) s)

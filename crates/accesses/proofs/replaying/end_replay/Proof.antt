@@ -1,19 +1,19 @@
 -- `accesses::replaying::end_replay` meets its contract: the end of replay in the board's block, which is lent, and the directory where power was lost. Assumes
 -- nothing.
 use Rattle.accesses.specs.Ends.{endReplay-told}
-use Rattle.replay.specs.Settle.{settled-fields}
 use Rattle.exchange.specs.LentRuns.{run-of, run-going, run-lost}
 use Rattle.exchange.specs.Progress.{running}
 use Rattle.exchange.specs.Banks.{lent-of}
 use Rattle.stores.specs.Lifted.{lifted}
 use Rattle.stores.specs.RunFields.{checkpointOn-fields}
-use Rattle.stores.specs.BoardRuns.{BoardRun, checkpointOn}
 use Rattle.steps.specs.BankBlocks.{LentBlock, lent-in, lent-fields, lent-block}
 use Rattle.model.specs.Definitions.Replay.{settled, endReplay}
 use Rattle.model.specs.Definitions.WellFormed.{FieldsOk}
 use Rattle.model.specs.Definitions.Codec.{decode}
 use Rattle.model.specs.Definitions.Bank.{Board, boardAt}
 use Rattle.model.specs.Definitions.Parts.{member}
+use Rattle.model.specs.Definitions.BoardRuns.{BoardRun, checkpointOn}
+use Rattle.model.specs.Laws.BoardFields.{settled-fields}
 use native.Mathlib.Omega.{arith}
 use mathlib.Core.Path.{_≡_}
 use Prim.Native.Nat.{ℕ}
@@ -45,7 +45,7 @@ is-run : (c : tie.After-block-size) (n : ℕ)
 is-run c n =
     let start = c .before .before .before .before .before in
     endReplay-told (start .args .board) n (decode (start .args .bank .now)) (start .pre .0 .board) (start .args .pages) (c .before .before .owned-pages .result)
-    (start .pre .0 .count) (lent-fields (lent c) .frames .count) (c .before .before .owned-pages .ensures)
+    (start .pre .0 .count) (lent-fields (lent c) .working .frames .count) (c .before .before .owned-pages .ensures)
 
 owned-pages-requires : tie.Need-owned-pages-requires
 owned-pages-requires c κs = search needs

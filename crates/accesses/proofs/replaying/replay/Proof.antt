@@ -5,7 +5,7 @@ use Rattle.accesses.specs.Asks.{asked}
 use Rattle.accesses.specs.declared.blocks.Replayed.the-variants.{Live, Last, Going}
 use Rattle.exchange.specs.Progress.{running}
 use Rattle.exchange.specs.Banks.{OfBank, holds-decode, holds-of}
-use Rattle.model.specs.Laws.Keeps.Calls.{taken-inReplay, live-can, replayed-keeps}
+use Rattle.model.specs.Laws.Keeps.Entered.{taken-inReplay, live-can, replayed-keeps}
 use Rattle.model.specs.Laws.Boards.{boards-onBoard, directory-onBoard}
 use Rattle.model.specs.Definitions.Replay.{endReplay}
 use Rattle.model.specs.Definitions.Steps.{Run, start}

@@ -1,10 +1,10 @@
 -- `engine::access::access` meets its contract: each return is one way through the call. Assumes nothing.
-use mathlib.Core.Path.{_≡_, sym, ap, _∙_}
+use mathlib.Core.Path.{_≡_, refl, sym, ap, _∙_}
 use mathlib.Core.Bool.{true}
 use native.Mathlib.Omega.{arith}
 use Rattle.model.specs.Definitions.WellFormed.{isReplaying}
-use Rattle.model.specs.Definitions.Calls.{callOf}
-use Rattle.model.specs.Laws.Calls.{callOf-board, callOf-bank}
+use Rattle.model.specs.Definitions.Calls.{Accessing, callBank}
+use Rattle.model.specs.Laws.Codes.Statement.{boardNamed}
 use Rattle.steps.specs.Blocks.{readOrWrite}
 use Rattle.validity.specs.Search.{failed, passed}
 use Rattle.checks.specs.Findings.{OnBoard, on-small, board-says}
@@ -99,18 +99,19 @@ same-length-3 : tie.Need-same-length-3
 same-length-3 c = search needs
 
 returns-4 : tie.Need-returns-4
+unfolding boardNamed
 returns-4 c =
-    found-replied (callOf _ (readOrWrite _ _ _ _)) _ (callOf-board _ _) (c .before .before .before .before .enter .ensures)
+    found-replied (Accessing _ (readOrWrite _ _ _ _)) _ refl (c .before .before .before .before .enter .ensures)
     (c .before .before .refusal .given .1) (c .refuse-entry .ensures)
 
 same-length-4 : tie.Need-same-length-4
 same-length-4 c = search needs
 
 returns-3 : tie.Need-returns-3
+unfolding callBank
 returns-3 c =
-    let n = c .before .before .before .before .before .before .before .before .before .before .before .before .before .before .before .before .before .args in
     let on = found (c .before .before .before .before .before .before .before .before .before .before .before .before) in
-    answered-replied _ (on .formed) (callOf _ (readOrWrite _ _ _ _)) _ (callOf-bank (n .board) (readOrWrite (n .writes) (n .page) (n .offset) (n .value)) _)
+    answered-replied _ (on .formed) (Accessing _ (readOrWrite _ _ _ _)) _ refl
     (c .before .before .access-board .ensures)
 
 pub access-spec : {M : Type 1} → statement M

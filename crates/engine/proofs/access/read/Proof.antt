@@ -1,5 +1,4 @@
 -- `engine::access::read` meets its contract: the access by its flag. Assumes nothing.
-use Rattle.model.specs.Definitions.Calls.{callOf}
 use Rattle.steps.specs.Blocks.{readOrWrite}
 use borrow.Author.Needs.{needs}
 use Rattle.engine.proofs.access.read.Statement.{statement}
@@ -12,7 +11,7 @@ same-length : tie.Need-same-length
 same-length c = search needs
 
 returns : tie.Need-returns
-unfolding callOf readOrWrite
+unfolding readOrWrite
 returns c = c .before .before .access .ensures
 
 pub read-spec : {M : Type 1} → statement M

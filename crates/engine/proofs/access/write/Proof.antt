@@ -1,7 +1,6 @@
 -- `engine::access::write` meets its contract: the access by its flag. Assumes nothing.
 use mathlib.Core.Path.{refl}
 use Rattle.model.specs.Laws.Logic.{clash}
-use Rattle.model.specs.Definitions.Calls.{callOf}
 use Rattle.steps.specs.Blocks.{readOrWrite}
 use borrow.Author.Needs.{needs}
 use Rattle.engine.proofs.access.write.Statement.{statement}
@@ -14,7 +13,7 @@ same-length : tie.Need-same-length
 same-length c = search needs
 
 returns : tie.Need-returns
-unfolding callOf readOrWrite
+unfolding readOrWrite
 returns c = c .before .before .access .ensures
 
 pub write-spec : {M : Type 1} → statement M

@@ -2,7 +2,7 @@
 use native.Mathlib.Omega.{arith}
 use Rattle.model.specs.Definitions.Codec.{decode}
 use Rattle.model.specs.Definitions.Steps.{withFuse}
-use Rattle.model.specs.Laws.BlockFields.{withFuse-fields}
+use Rattle.model.specs.Laws.BoardFields.{withFuse-fields}
 use Rattle.steps.specs.BankBlocks.{LentBlock, lent-in, lent-fields, lent-block, lent-step}
 use Rattle.exchange.specs.Banks.{lent-of}
 use borrow.Author.Needs.{needs}

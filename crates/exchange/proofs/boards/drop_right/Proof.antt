@@ -10,8 +10,8 @@ use Rattle.model.specs.Definitions.Bank.{emptyFrame}
 use Rattle.model.specs.Definitions.Codec.{pageOf}
 use Rattle.model.specs.Definitions.WellFormed.{isGot}
 use Rattle.model.specs.Definitions.Steps.{dropped}
-use Rattle.model.specs.Laws.Keeps.NotedRecords.{recordable-plain}
 use Rattle.model.specs.Contracts.{Recordable}
+use Rattle.model.specs.Laws.Valid.{recordable-plain}
 use Rattle.exchange.specs.Blocks.{recorded-block, recorded-frame}
 use borrow.Author.Needs.{needs}
 use Rattle.exchange.proofs.boards.drop_right.Statement.{statement}

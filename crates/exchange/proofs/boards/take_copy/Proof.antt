@@ -1,7 +1,7 @@
 -- `exchange::boards::take_copy` meets its contract: the record, then the frame. Assumes nothing.
 use Rattle.types.specs.declared.CopyOrOwn.the-variants.{GotCopy}
 use Rattle.model.specs.Laws.Boards.{tookCopy}
-use Rattle.model.specs.Laws.Keeps.NotedRecords.{recordable-got}
+use Rattle.model.specs.Laws.Valid.{recordable-got}
 use Rattle.exchange.specs.Blocks.{recorded-block, recorded-frame}
 use borrow.Author.Needs.{needs}
 use Rattle.exchange.proofs.boards.take_copy.Statement.{statement}

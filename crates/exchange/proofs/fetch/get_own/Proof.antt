@@ -1,7 +1,7 @@
 -- `exchange::fetch::get_own` meets its contract: the page is read by value, and its bytes go into the record. Assumes nothing.
 use Rattle.types.specs.declared.CopyOrOwn.the-variants.{GotOwn}
 use Rattle.model.specs.Definitions.Steps.{step}
-use Rattle.model.specs.Laws.Keeps.NotedRecords.{recordable-got}
+use Rattle.model.specs.Laws.Valid.{recordable-got}
 use borrow.Author.Needs.{needs}
 use Rattle.exchange.proofs.fetch.get_own.Statement.{statement}
 use Rattle.exchange.proofs.fetch.get_own.Tie as tie

@@ -4,7 +4,7 @@ use Rattle.model.specs.Definitions.Parts.{zeros}
 use Rattle.model.specs.Definitions.Codec.{pageOf}
 use Rattle.model.specs.Definitions.WellFormed.{isGot}
 use Rattle.model.specs.Definitions.Steps.{show}
-use Rattle.model.specs.Laws.Keeps.NotedRecords.{recordable-plain}
+use Rattle.model.specs.Laws.Valid.{recordable-plain}
 use borrow.Author.Needs.{needs}
 use Rattle.exchange.proofs.fetch.show.Statement.{statement}
 use Rattle.exchange.proofs.fetch.show.Tie as tie

@@ -3,8 +3,8 @@ use native.Mathlib.Omega.{arith}
 use Rattle.model.specs.Definitions.Bank.{boardAt}
 use Rattle.model.specs.Definitions.Codec.{decode}
 use Rattle.model.specs.Definitions.WellFormed.{FieldsOk}
+use Rattle.model.specs.Definitions.BoardRuns.{checkpointOn}
 use Rattle.steps.specs.BankBlocks.{LentBlock, lent-in, lent-fields, lent-block}
-use Rattle.stores.specs.BoardRuns.{checkpointOn}
 use Rattle.stores.specs.RunFields.{checkpointOn-fields}
 use Rattle.stores.specs.Lifted.{checkpoint-lifted}
 use Rattle.exchange.specs.Banks.{lent-of}

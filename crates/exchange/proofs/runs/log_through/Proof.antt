@@ -4,8 +4,8 @@ use native.Mathlib.Omega.{arith}
 use Rattle.model.specs.Definitions.Bank.{boardAt}
 use Rattle.model.specs.Definitions.Codec.{decode}
 use Rattle.model.specs.Definitions.WellFormed.{FieldsOk}
+use Rattle.model.specs.Definitions.BoardRuns.{loggedOn}
 use Rattle.steps.specs.BankBlocks.{LentBlock, lent-in, lent-fields, lent-block, lent-board}
-use Rattle.stores.specs.BoardRuns.{loggedOn}
 use Rattle.stores.specs.RunFields.{loggedOn-fields}
 use Rattle.stores.specs.Lifted.{logged-lifted}
 use Rattle.exchange.specs.Banks.{lent-of}

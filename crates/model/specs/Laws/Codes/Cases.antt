@@ -7,13 +7,14 @@ use mathlib.Core.Option.{none, some}
 use mathlib.Core.List.{[], _∷_}
 use Rattle.types.specs.declared.Answer.{Answer}
 use Rattle.types.specs.declared.Answer.the-variants.{OutOfRange, WrongState, CountersFull, ReplayDiffers, OwnerNotUp, LogFull, PowerLost}
+use Rattle.model.specs.Definitions.Layout.{lastSince}
 use Rattle.model.specs.Definitions.Bank.{Board, Bank, boardAt, onBoard}
 use Rattle.model.specs.Definitions.WellFormed.{isUp, isDown, isReplaying}
 use Rattle.model.specs.Definitions.Answers.{code}
 use Rattle.model.specs.Definitions.Steps.{Run, start, Access, pageNamed, valueOf, giver}
 use Rattle.model.specs.Definitions.Replay.{differs, tookDue, replayOver, endIfOver, replayed}
 use Rattle.model.specs.Definitions.Calls.{Result, unless, finished, lackingOf, shortBoard, isSome, numberIn, liveRefusals, prepared, performed, live}
-use Rattle.model.specs.Definitions.Calls.{liveAfterEnd, replaying, accessInRange, countersFull, accessRefusals, accessBank}
+use Rattle.model.specs.Definitions.Calls.{liveAfterEnd, replaying, accessInRange, countersFull, refusalsWithin, accessWithin, accessBank}
 use Rattle.model.specs.Laws.Logic.{cases, casesOption}
 use Rattle.model.specs.Laws.Codes.Statement.{afterReplay}
 use Rattle.model.specs.Laws.Codes.Order.{unless-test, unless-go}
@@ -69,12 +70,12 @@ module _ (P : Result → Type 0) where
         → (isDown (boardAt k b .state) ≡ false → isReplaying (boardAt k b .state) ≡ true → P (replaying b a k))
         → (isDown (boardAt k b .state) ≡ false → isReplaying (boardAt k b .state) ≡ false → P (live b a (start k)))
         → P (accessBank b a k)
-    unfolding accessBank accessRefusals code
+    unfolding accessWithin refusalsWithin code
     access-cases k refusal replay on =
         let x : Board = boardAt k b in
         let go : Result = elim (isReplaying (x .state)) [ true ↦ replaying b a k | false ↦ live b a (start k) ] in
         let t5 : Bool × Answer = (isReplaying (x .state) && differs a x, ReplayDiffers b) in
-        let t4 : Bool × Answer = (countersFull x, CountersFull b) in
+        let t4 : Bool × Answer = (countersFull lastSince x, CountersFull b) in
         let t3 : Bool × Answer = (isDown (x .state), WrongState b) in
         unless-test P (not (accessInRange b a k)) OutOfRange (t3 ∷ t4 ∷ t5 ∷ []) (start k) go
         (λ t. refusal OutOfRange (omega arith) (omega arith))

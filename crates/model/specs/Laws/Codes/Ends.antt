@@ -16,10 +16,10 @@ use Rattle.model.specs.Definitions.Layout.{noFuse}
 use Rattle.model.specs.Definitions.Bank.{Bank, boardAt, onBoard}
 use Rattle.model.specs.Definitions.WellFormed.{isUp, isDown}
 use Rattle.model.specs.Definitions.Answers.{code}
-use Rattle.model.specs.Definitions.Steps.{Run, start, step, powerOff, withFuse, checkpoint, Access, Read, Write, valueOf, access}
+use Rattle.model.specs.Definitions.Steps.{Run, start, step, powerOff, withFuse, checkpoint, Access, valueOf, access}
 use Rattle.model.specs.Definitions.Replay.{loaded, usedUp, tookDue, endIfOver, replayed}
 use Rattle.model.specs.Definitions.Calls.{Result, unless, finished, prepared, performed, live, replaying, accessBank, checkpointBank, cutBank, fuseBank}
-use Rattle.model.specs.Definitions.Calls.{restartBank, Call, Reading, Writing, Checkpointing, Cutting, Fusing, Restarting, callBank}
+use Rattle.model.specs.Definitions.Calls.{restartBank, Call, Accessing, Checkpointing, Cutting, Fusing, Restarting, callBank}
 use Rattle.model.specs.Laws.Logic.{casesOption}
 use Rattle.model.specs.Laws.Codes.Statement.{OfAccess, boardNamed, afterReplay}
 use Rattle.model.specs.Laws.Tests.{says-replaying}
@@ -78,8 +78,7 @@ LateIn c k r = OfAccess (λ b a. ReplayEnd b a k r) c
 
 pub call-ended : (c : Call) (k : Bank) → Ends (boardNamed c) k (LateIn c k) (callBank c k)
 unfolding callBank OfAccess boardNamed checkpointBank cutBank fuseBank restartBank
-call-ended (Reading b p o) k = access-ended b (Read p o) k
-call-ended (Writing b p o v) k = access-ended b (Write p o v) k
+call-ended (Accessing b a) k = access-ended b a k
 call-ended (Checkpointing b) k =
     plain-ended k (λ r. ⊥) b (not (ltb b (length (k .boards)))) (not (isUp (boardAt k b .state))) 0 (checkpoint b (start k))
 call-ended (Cutting b) k =
@@ -120,8 +119,7 @@ ended-loss d k Late t f (ran v r) = loss-finished v r
 
 late-not-lost : (c : Call) (k : Bank) (r : Run) → LateIn c k r → r .lost ≡ none
 unfolding OfAccess
-late-not-lost (Reading b p o) k r l = l .lost
-late-not-lost (Writing b p o v) k r l = l .lost
+late-not-lost (Accessing b a) k r l = l .lost
 late-not-lost (Checkpointing b) k r l = absurd l
 late-not-lost (Cutting b) k r l = absurd l
 late-not-lost (Fusing b n) k r l = absurd l

@@ -13,15 +13,15 @@ use Rattle.types.specs.declared.State.{State}
 use Rattle.types.specs.declared.State.the-variants.{Up, Down, Replaying}
 use Rattle.types.specs.declared.Answer.{Answer}
 use Rattle.types.specs.declared.Answer.the-variants.{OutOfRange, WrongState, CountersFull, ReplayDiffers, OwnerNotUp, LogFull, PowerLost}
-use Rattle.model.specs.Definitions.Layout.{noFuse}
+use Rattle.model.specs.Definitions.Layout.{noFuse, lastSince}
 use Rattle.model.specs.Definitions.Bank.{Board, Bank, boardAt, entryAt, onBoard}
 use Rattle.model.specs.Definitions.WellFormed.{WellFormed, PlaceOk, isUp, isDown, isReplaying}
 use Rattle.model.specs.Definitions.Answers.{code, value, who}
 use Rattle.model.specs.Definitions.Steps.{Run, start, step, powerOff, withFuse, checkpoint, Access, Read, Write, valueOf, access, giver}
 use Rattle.model.specs.Definitions.Replay.{loaded, usedUp, differs, tookDue, replayOver, endIfOver, replayed}
 use Rattle.model.specs.Definitions.Calls.{Result, unless, finished, lackingOf, shortBoard, isSome, numberIn, liveRefusals, prepared, performed, live}
-use Rattle.model.specs.Definitions.Calls.{liveAfterEnd, replaying, accessInRange, countersFull, accessRefusals, accessBank, checkpointBank, cutBank}
-use Rattle.model.specs.Definitions.Calls.{fuseBank, restartBank, Call, Reading, Writing, Checkpointing, Cutting, Fusing, Restarting, callBank}
+use Rattle.model.specs.Definitions.Calls.{liveAfterEnd, replaying, accessInRange, countersFull, refusalsWithin, accessWithin, accessBank, checkpointBank}
+use Rattle.model.specs.Definitions.Calls.{cutBank, fuseBank, restartBank, Call, Accessing, Checkpointing, Cutting, Fusing, Restarting, callBank}
 use Rattle.model.specs.Laws.Logic.{cases, casesOption}
 use Rattle.model.specs.Laws.Boards.{boardAt-same}
 use Rattle.model.specs.Laws.Runs.Stores.{endReplay-changed}
@@ -169,12 +169,12 @@ is-up Down d r = absurd (d refl)
 is-up Replaying d r = absurd (r refl)
 
 access-judged : (b : ℕ) (a : Access) (k : Bank) → WellFormed k → Judged Ran 2 (accessRows b a k) (accessBank b a k .answer)
-unfolding accessBank accessRefusals accessRows start code who value
+unfolding accessWithin refusalsWithin accessRows start code who value
 access-judged b a k w =
     let x : Board = boardAt k b in
     let go : Result = elim (isReplaying (x .state)) [ true ↦ replaying b a k | false ↦ live b a (start k) ] in
     let t5 : Bool × Answer = (isReplaying (x .state) && differs a x, ReplayDiffers b) in
-    let t4 : Bool × Answer = (countersFull x, CountersFull b) in
+    let t4 : Bool × Answer = (countersFull lastSince x, CountersFull b) in
     let t3 : Bool × Answer = (isDown (x .state), WrongState b) in
     judged-test (not (accessInRange b a k)) OutOfRange (t3 ∷ t4 ∷ t5 ∷ []) (start k) go
     (record { says = access-out b a k; code = refl; who = λ t. refl; value = refl })
@@ -182,7 +182,7 @@ access-judged b a k w =
     judged-test (isDown (x .state)) (WrongState b) (t4 ∷ t5 ∷ []) (start k) go
     (record { says = says-down (x .state); code = refl; who = λ t. refl; value = refl })
     (λ n3.
-    judged-test (countersFull x) (CountersFull b) (t5 ∷ []) (start k) go
+    judged-test (countersFull lastSince x) (CountersFull b) (t5 ∷ []) (start k) go
     (record { says = counters-end x; code = refl; who = λ t. refl; value = refl })
     (λ n4.
     judged-test (isReplaying (x .state) && differs a x) (ReplayDiffers b) [] (start k) go
@@ -228,8 +228,7 @@ plain-judged c k out wrong v r other d2 d3 =
 pub rows-judged : (c : Call) (k : Bank) → WellFormed k → Judged Ran 2 (refusalRows c k) (callBank c k .answer)
 unfolding callBank refusalRows OfAccess NumbersOut StateOut CountersOut ReplayOut OwnerOut RoomOut boardNamed accessRows liveRows checkpointBank cutBank
     fuseBank restartBank
-rows-judged (Reading b p o) k w = access-judged b (Read p o) k w
-rows-judged (Writing b p o v) k w = access-judged b (Write p o v) k w
+rows-judged (Accessing b a) k w = access-judged b a k w
 rows-judged (Checkpointing b) k w =
     plain-judged (Checkpointing b) k (not (ltb b (length (k .boards)))) (not (isUp (boardAt k b .state))) 0 (checkpoint b (start k))
     (λ P u. u) (says-not-lt b (length (k .boards))) (not-up (boardAt k b .state))

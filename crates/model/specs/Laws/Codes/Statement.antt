@@ -22,7 +22,7 @@ use Rattle.model.specs.Definitions.Codec.{decode}
 use Rattle.model.specs.Definitions.Check.{wellFormed}
 use Rattle.model.specs.Definitions.Steps.{Run, start, Access, Read, Write, pageNamed}
 use Rattle.model.specs.Definitions.Replay.{tookDue, endReplay}
-use Rattle.model.specs.Definitions.Calls.{Call, Reading, Writing, Checkpointing, Cutting, Fusing, Restarting, callBank}
+use Rattle.model.specs.Definitions.Calls.{Call, Accessing, Checkpointing, Cutting, Fusing, Restarting, callBank}
 use Rattle.model.specs.Contracts.{storedCount, volatileCount}
 
 -- ==== rows, and their order
@@ -53,8 +53,7 @@ WhoIn (r ∷ rs) (suc i) w = WhoIn rs i w
 
 -- the board that a call names
 unfoldable pub boardNamed : Call → ℕ
-boardNamed (Reading b p o) = b
-boardNamed (Writing b p o v) = b
+boardNamed (Accessing b a) = b
 boardNamed (Checkpointing b) = b
 boardNamed (Cutting b) = b
 boardNamed (Fusing b n) = b
@@ -62,8 +61,7 @@ boardNamed (Restarting b) = b
 
 -- what only an access can meet
 unfoldable pub OfAccess : (ℕ → Access → Type 0) → Call → Type 0
-OfAccess P (Reading b p o) = P b (Read p o)
-OfAccess P (Writing b p o v) = P b (Write p o v)
+OfAccess P (Accessing b a) = P b a
 OfAccess P (Checkpointing b) = ⊥
 OfAccess P (Cutting b) = ⊥
 OfAccess P (Fusing b n) = ⊥
@@ -77,8 +75,7 @@ AccessOut b (Write p o v) k = (length (k .boards) ≤ b) ⊎ (length (k .directo
 
 -- "Fuse k, 1 to 65,534"
 unfoldable pub NumbersOut : Call → Bank → Type 0
-NumbersOut (Reading b p o) k = AccessOut b (Read p o) k
-NumbersOut (Writing b p o v) k = AccessOut b (Write p o v) k
+NumbersOut (Accessing b a) k = AccessOut b a k
 NumbersOut (Checkpointing b) k = length (k .boards) ≤ b
 NumbersOut (Cutting b) k = length (k .boards) ≤ b
 NumbersOut (Fusing b n) k = (length (k .boards) ≤ b) ⊎ (n ≡ 0) ⊎ (noFuse ≤ n)
@@ -87,8 +84,7 @@ NumbersOut (Restarting b) k = length (k .boards) ≤ b
 -- ==== 3: "dark and not restart; restart and not dark; checkpoint while replaying"
 
 unfoldable pub StateOut : Call → Bank → Type 0
-StateOut (Reading b p o) k = boardAt k b .state ≡ Down
-StateOut (Writing b p o v) k = boardAt k b .state ≡ Down
+StateOut (Accessing b a) k = boardAt k b .state ≡ Down
 StateOut (Checkpointing b) k = (boardAt k b .state ≡ Down) ⊎ (boardAt k b .state ≡ Replaying)
 StateOut (Cutting b) k = boardAt k b .state ≡ Down
 StateOut (Fusing b n) k = boardAt k b .state ≡ Down
@@ -216,8 +212,7 @@ pub record LowestShort (b : ℕ) (a : Access) (k : Bank) (c : ℕ) : Type 0 wher
 -- ==== 8: "a fuse blew in this call": a board went down, and no cut was called
 
 unfoldable pub IsCut : Call → Type 0
-IsCut (Reading b p o) = ⊥
-IsCut (Writing b p o v) = ⊥
+IsCut (Accessing b a) = ⊥
 IsCut (Checkpointing b) = ⊥
 IsCut (Cutting b) = Unit
 IsCut (Fusing b n) = ⊥

@@ -42,7 +42,7 @@ access-out b (Write p o v) k =
     (says-not-lt p (length (k .directory)))
     (says-not-and (ltb o pageSize) (ltb v byteValues) (says-not-lt o pageSize) (says-not-lt v byteValues)))
 
-pub counters-end : (x : Board) → Says (countersFull x) (CountersEnd x)
+pub counters-end : (x : Board) → Says (countersFull lastSince x) (CountersEnd x)
 unfolding countersFull
 counters-end x =
     says-or (eqb (x .working .since) lastSince) (eqb (x .working .number) lastNumber)

@@ -3,19 +3,17 @@
 use mathlib.Core.Path.{_≡_, refl, sym, ap, _∙_}
 use mathlib.Core.Logic.{_≢_}
 use Prim.Native.Nat.{ℕ, _≤_, _<_}
-use mathlib.Core.Bool.{false}
 use mathlib.Core.List.{List}
-use lib.ListN.{length, getD}
+use lib.ListN.{length}
 use native.Mathlib.Omega.{arith}
 use native.Mathlib.Decide.{decLt}
 use Rattle.types.specs.declared.State.{State}
 use Rattle.types.specs.declared.State.the-variants.{Up, Down, Replaying}
 use Rattle.words.specs.Bytes.{Each}
 use Rattle.model.specs.Definitions.Parts.{member}
-use Rattle.model.specs.Definitions.Bank.{Entry, Working, Board, Bank, noBoard, boardAt, entryIn, entryAt, frameAt, onBoard}
-use Rattle.model.specs.Definitions.WellFormed.{AreaOk, FieldsOk, FuseOk, RoomOk, PlaceOk, ReplayingOk, Blank, DownOk, rightIn, BoardOk, EntryOk, SizesOk}
-use Rattle.model.specs.Definitions.WellFormed.{WellFormed}
-use Rattle.model.specs.Contracts.{Alone, Agreed, Fits, InReplay, WellFormedBut}
+use Rattle.model.specs.Definitions.Bank.{Entry, Working, Board, Bank, noBoard, boardAt, entryIn, entryAt, onBoard}
+use Rattle.model.specs.Definitions.WellFormed.{FieldsOk, FuseOk, RoomOk, PlaceOk, Blank, rightIn, BoardOk, EntryOk, SizesOk, WellFormed}
+use Rattle.model.specs.Contracts.{Alone, Fits, WellFormedBut}
 use Rattle.model.specs.Laws.Logic.{byEq}
 use Rattle.model.specs.Laws.Lists.{length-update}
 use Rattle.model.specs.Laws.Boards.{boardAt-out, boardAt-same, boardAt-other}
@@ -33,12 +31,6 @@ module _ {X : Type 0} {s : State} where
   down-not-replaying p q = let z : _≡_ {A = ℕ} 0 1 = cc in absurd (omega arith)
 
 -- ---- the clauses of one board
-
--- what a power loss needs of its board
-pub record Stored (d : List Entry) (b : ℕ) (x : Board) : Type 0 where
-  pub frames : length (x .working .frames) ≡ length d
-  pub selected : AreaOk (length d) (x .stable .selected)
-  pub spare : AreaOk (length d) (x .stable .spare)
 
 -- a step that leaves the place alone and takes no stored record away
 pub place-kept : (s : State) (x y : Board) → PlaceOk s x → y .working .place ≡ x .working .place
@@ -75,6 +67,20 @@ blank-same x y h w f =
       volatile = ap (λ (v : Working). v .log .records) w ∙ h .volatile;
       frames = rw w (h .frames);
       fuse = f ∙ h .fuse;
+    }
+
+-- of an up board the clauses about the other states say nothing
+pub alone-up : {pages : ℕ} {x : Board} → x .state ≡ Up → FieldsOk pages x → FuseOk x → RoomOk x → Alone pages x
+alone-up u v f r = record { fields = v; fuse = f; room = r; replaying = λ e. up-not-replaying u e; down = λ e. up-not-down u e }
+
+-- a step that leaves state, place and frames alone and takes no stored record away
+pub fits-kept : {d : List Entry} {b : ℕ} (x y : Board) → Fits d b x → Alone (length d) y → y .state ≡ x .state → y .working .place ≡ x .working .place
+    → y .working .frames ≡ x .working .frames → length (x .stable .selected .log .records) ≤ length (y .stable .selected .log .records) → Fits d b y
+fits-kept x y h a s p f l =
+    record {
+      alone = a;
+      place = place-kept (y .state) x y (rw s (h .place)) p l;
+      agreed = record { rights = λ u. rw f (h .agreed .rights (sym s ∙ u)); copies = λ n. h .agreed .copies (λ u. n (s ∙ u)) };
     }
 
 -- ---- the bank

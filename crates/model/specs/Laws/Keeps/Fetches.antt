@@ -1,4 +1,4 @@
--- The two fetches keep a bank well formed, under what code 6 and code 7 tested; and what they leave of the taker. Assumes nothing.
+-- What the two fetches find and leave of the boards, under what code 6 and code 7 tested. Assumes nothing.
 use mathlib.Core.Path.{_≡_, refl, sym, ap, _∙_}
 use mathlib.Core.Logic.{_≢_}
 use Prim.Native.Nat.{ℕ, _+_, _<_}
@@ -18,22 +18,19 @@ use Rattle.types.specs.declared.Kind.the-variants.{Got, Shown}
 use Rattle.types.specs.declared.State.the-variants.{Up}
 use Rattle.model.specs.Definitions.Parts.{zeros, member}
 use Rattle.model.specs.Definitions.Layout.{pageSize}
-use Rattle.model.specs.Definitions.Bank.{Entry, Board, Bank, boardAt, entryAt, frameAt, onWorking, onFrames}
-use Rattle.model.specs.Definitions.Codec.{pageOf}
-use Rattle.model.specs.Definitions.WellFormed.{isGot, WellFormed}
+use Rattle.model.specs.Definitions.Bank.{Board, Bank, boardAt, entryAt, frameAt, onWorking, onFrames}
+use Rattle.model.specs.Definitions.WellFormed.{WellFormed}
 use Rattle.model.specs.Definitions.Steps.{Run, step, appended, recorded, note, flush, withFrame, frameOf, giver, show, giveCopy, passOwnership, readFetch}
 use Rattle.model.specs.Definitions.Steps.{writeFetch, fetch}
 use Rattle.model.specs.Definitions.Replay.{rightGot}
 use Rattle.model.specs.Definitions.Calls.{fetchNeed}
 use Rattle.model.specs.Laws.Logic.{byEq}
 use Rattle.model.specs.Laws.Boards.{frameAt-same, tookCopy, tookOwn, boardAt-giveCopy-same, boardAt-passOwnership-same}
-use Rattle.model.specs.Laws.Runs.{step-done, step-none, Changed, entryAt-changed, follows-none, follows-note-flush}
+use Rattle.model.specs.Laws.Runs.{step-done, step-none, Changed, follows-none, follows-note-flush}
 use Rattle.model.specs.Laws.Runs.Stores.{recordsOf, FlushedWith, note-flush-changed, show-changed}
 use Rattle.model.specs.Laws.Keeps.Clauses.{fits, up-below}
 use Rattle.model.specs.Contracts.{RoomFor, CanFetch}
-use Rattle.model.specs.Laws.Keeps.NotedRecords.{recordable-plain, recordable-got, note-keeps}
-use Rattle.model.specs.Laws.Keeps.Stores.{step-keeps, flush-keeps}
-use Rattle.model.specs.Laws.Keeps.Rights.{or-cases, frameOk-of, giveCopy-keeps, passOwnership-keeps}
+use Rattle.model.specs.Laws.Keeps.Rights.{or-cases}
 
 -- ---- rooms
 
@@ -53,17 +50,6 @@ room-noted n kind bytes x y f m =
       length-records (onWorking (recorded kind bytes) x),
       length-append (x .working .log .records) (record { count = x .working .since; kind = kind; bytes = bytes } ∷ []),
     )
-
--- ---- what a fetch needs
-
--- "owner records shown and flushes": an up board with room for one record
-pub show-keeps : (o p : ℕ) (r : Run) → WellFormed (r .bank) → (r .lost ≡ none → boardAt (r .bank) o .state ≡ Up)
-    → (r .lost ≡ none → RoomFor 1 (boardAt (r .bank) o)) → (r .lost ≡ none → p < length (r .bank .directory)) → WellFormed (show o p r .bank)
-unfolding show pageOf isGot
-show-keeps o p r w u m l =
-    let noted : Bank → Bank = note o (Shown p) (zeros pageSize) in
-    flush-keeps o (step noted r)
-    (step-keeps noted r w (λ e. note-keeps o (Shown p) (zeros pageSize) (r .bank) w (u e) (m e) (recordable-plain (Shown p) refl (l e))))
 
 -- ---- a read fetch
 
@@ -90,7 +76,7 @@ right-put : (fs : List Frame) (p : ℕ) (f : Frame) → p < length fs → frameA
 right-put fs p f l = ap (λ (g : Frame). g .right) (frameAt-same fs p f l)
 
 page-frame : {k : Bank} → WellFormed k → (b p : ℕ) → b < length (k .boards) → p < length (k .directory) → p < length (boardAt k b .working .frames)
-page-frame {k} w b p i l = rw (fits w b i .alone .fields .frames .count) l
+page-frame {k} w b p i l = rw (fits w b i .alone .fields .working .frames .count) l
 
 -- "Read fetch: ..", and the reader after it
 module _ (b p : ℕ) (r : Run) (w : WellFormed (r .bank)) (c : CanFetch GotCopy b p (r .bank)) where
@@ -103,25 +89,9 @@ module _ (b p : ℕ) (r : Run) (w : WellFormed (r .bank)) (c : CanFetch GotCopy 
       let e : fetchNeed GotCopy (r .bank) b o p o ≡ 1 = cc (ne-eqb o b (c .other), eq-eqb o o refl) in
       rw e at (c .room o (up-below (r .bank) o (c .owner)))
 
-  pub shown-keeps : WellFormed (show o p r .bank)
-  shown-keeps = show-keeps o p r w (λ e. c .owner) (λ e. room-shower) (λ e. c .page)
-
   -- the owner's flush leaves the reader alone
   pub reader-same : show o p r .lost ≡ none → boardAt (show o p r .bank) b ≡ boardAt (r .bank) b
   reader-same e = show-changed o p r e .others b (λ i. c .other (sym i))
-
-  pub readFetch-keeps : WellFormed (readFetch b p r .bank)
-  unfolding readFetch giver
-  readFetch-keeps =
-      let s : Run = show o p r in
-      step-keeps (giveCopy o b p) s shown-keeps
-      (λ e.
-      let d : Changed o (FlushedWith (Shown p) (zeros pageSize)) (r .bank) (s .bank) = show-changed o p r e in
-      giveCopy-keeps o b p (s .bank) shown-keeps
-      (rw (reader-same e) (c .taker))
-      (rw (reader-same e) (room-taker GotCopy b p (r .bank) c))
-      (rw (d .directory) (c .page))
-      (rw (entryAt-changed d p) (c .other)))
 
   pub readFetch-taken : readFetch b p r .lost ≡ none → Taken GotCopy p (boardAt (r .bank) b) (boardAt (readFetch b p r .bank) b)
   unfolding readFetch tookCopy withFrame onWorking onFrames recorded rightGot
@@ -173,9 +143,6 @@ module _ (w p : ℕ) (r : Run) (wf : WellFormed (r .bank)) (c : CanFetch GotOwn 
   abbrev pub got : Run
   got = flush w noted
 
-  pub gave-keeps : WellFormed (gave .bank)
-  gave-keeps = show-keeps from p r wf (λ e. c .owner) (λ e. omega (arith, room-owner)) (λ e. c .page)
-
   pub gave-changed : gave .lost ≡ none → Changed from (FlushedWith (Shown p) (zeros pageSize)) (r .bank) (gave .bank)
   gave-changed e = show-changed from p r e
 
@@ -183,21 +150,11 @@ module _ (w p : ℕ) (r : Run) (wf : WellFormed (r .bank)) (c : CanFetch GotOwn 
   pub writer-same : gave .lost ≡ none → boardAt (gave .bank) w ≡ boardAt (r .bank) w
   writer-same e = gave-changed e .others w (λ i. c .other (sym i))
 
-  pub noted-keeps : gave .lost ≡ none → WellFormed (note w (Got GotOwn p) (gotBytes (gave .bank)) (gave .bank))
-  noted-keeps e =
-      note-keeps w (Got GotOwn p) (gotBytes (gave .bank)) (gave .bank) gave-keeps
-      (rw (writer-same e) (c .taker))
-      (rw (writer-same e) (room-taker GotOwn w p (r .bank) c))
-      (recordable-got GotOwn (frameOk-of gave-keeps from p) (rw (gave-changed e .directory) (c .page)))
-
-  pub got-keeps : WellFormed (got .bank)
-  got-keeps = flush-keeps w noted (step-keeps (λ k. note w (Got GotOwn p) (gotBytes k) k) gave gave-keeps noted-keeps)
-
   pub got-changed : got .lost ≡ none → Changed w (FlushedWith (Got GotOwn p) (gotBytes (gave .bank))) (gave .bank) (got .bank)
   got-changed e = note-flush-changed w (Got GotOwn p) gotBytes gave e
 
   pub gave-none : got .lost ≡ none → gave .lost ≡ none
-  gave-none e = follows-none (follows-note-flush {By = λ h. h ≡ w} w (Got GotOwn p) gotBytes gave refl) e
+  gave-none e = follows-none (follows-note-flush w (Got GotOwn p) gotBytes gave) e
 
   -- whoever gives its right up has room left for that record
   pub room-got : (h : ℕ) → got .lost ≡ none → h < length (r .bank .boards) → h ≢ w → (eqb h from || member h (entryAt (r .bank) p .copies)) ≡ true
@@ -210,21 +167,6 @@ module _ (w p : ℕ) (r : Run) (wf : WellFormed (r .bank)) (c : CanFetch GotOwn 
       (byEq h from
       (λ i. rw i (room-noted 1 (Shown p) (zeros pageSize) (boardAt (r .bank) from) (boardAt (gave .bank) from) (g .this (rw i at l)) room-owner))
       (λ m. rw (g .others h m) (room-holder h l n m (held m))))
-
-  pub writeFetch-keeps : WellFormed (writeFetch w p r .bank)
-  unfolding writeFetch giver onWorking
-  writeFetch-keeps =
-      step-keeps (passOwnership from w p) got got-keeps
-      (λ e.
-      let g : Changed from (FlushedWith (Shown p) (zeros pageSize)) (r .bank) (gave .bank) = gave-changed (gave-none e) in
-      let t : Changed w (FlushedWith (Got GotOwn p) (gotBytes (gave .bank))) (gave .bank) (got .bank) = got-changed e in
-      let entry : entryAt (got .bank) p ≡ entryAt (r .bank) p = entryAt-changed t p ∙ entryAt-changed g p in
-      passOwnership-keeps from w p (got .bank) got-keeps
-      (rw (t .directory, g .directory) (c .page))
-      (ap (λ (x : Entry). x .owner) entry)
-      (rw (t .others from (c .other)) (g .this (up-below (r .bank) from (c .owner)) .state ∙ c .owner))
-      (t .this (rw (g .boards) (up-below (r .bank) w (c .taker))) .state ∙ ap (λ (x : Board). x .state) (writer-same (gave-none e)) ∙ c .taker)
-      (λ h l n m. room-got h e (rw (t .boards, g .boards) at l) n (rw entry at m)))
 
   pub writeFetch-taken : writeFetch w p r .lost ≡ none → Taken GotOwn p (boardAt (r .bank) w) (boardAt (writeFetch w p r .bank) w)
   unfolding writeFetch giver tookOwn withFrame onWorking onFrames recorded rightGot
@@ -245,11 +187,6 @@ module _ (w p : ℕ) (r : Run) (wf : WellFormed (r .bank)) (c : CanFetch GotOwn 
             right-put (y .working .frames) p (record { right = Own; bytes = frameOf (got .bank) from p .bytes })
             (rw (f .frames) (page-frame wf w p i (c .page)));
       })
-
-pub fetch-keeps : (g : CopyOrOwn) (b p : ℕ) (r : Run) → WellFormed (r .bank) → CanFetch g b p (r .bank) → WellFormed (fetch g b p r .bank)
-unfolding fetch
-fetch-keeps GotCopy b p r w c = readFetch-keeps b p r w c
-fetch-keeps GotOwn b p r w c = writeFetch-keeps b p r w c
 
 pub fetch-taken : (g : CopyOrOwn) (b p : ℕ) (r : Run) → WellFormed (r .bank) → CanFetch g b p (r .bank) → fetch g b p r .lost ≡ none
     → Taken g p (boardAt (r .bank) b) (boardAt (fetch g b p r .bank) b)

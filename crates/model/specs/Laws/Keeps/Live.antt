@@ -1,11 +1,11 @@
--- An access of an up board keeps a bank well formed: what codes 6 and 7 let pass can be fetched, and the access finds its right. Assumes nothing.
+-- An access of an up board: what codes 6 and 7 let pass can be fetched, and the access finds its right. Assumes nothing.
 use mathlib.Core.Path.{_≡_, refl, sym, ap, _∙_}
 use mathlib.Core.Logic.{_≢_}
 use Prim.Native.Nat.{ℕ, _<_}
 use native.Mathlib.Omega.{arith}
 use mathlib.Core.Bool.{Bool, true, false, _&&_, not}
 use mathlib.Core.Option.{Option, none, some}
-use mathlib.Core.List.{List, _∷_}
+use mathlib.Core.List.{List, [], _∷_}
 use lib.ListN.{length}
 use borrow.Author.Tests.{ltb-false}
 use Rattle.types.specs.declared.Right.the-variants.{Copy, Own}
@@ -14,23 +14,21 @@ use Rattle.types.specs.declared.State.the-variants.{Up, Down, Replaying}
 use Rattle.types.specs.declared.Answer.{Answer}
 use Rattle.words.specs.Bytes.{Each}
 use Rattle.model.specs.Definitions.Parts.{member}
-use Rattle.model.specs.Definitions.Layout.{byteValues, slotCount, lastSince, lastNumber}
-use Rattle.model.specs.Definitions.Bank.{Board, Bank, boardAt, entryAt, frameAt}
+use Rattle.model.specs.Definitions.Layout.{slotCount}
+use Rattle.model.specs.Definitions.Bank.{Bank, boardAt, entryAt, frameAt}
 use Rattle.model.specs.Definitions.WellFormed.{rightIn, isUp, isDown, isReplaying, WellFormed}
-use Rattle.model.specs.Definitions.Steps.{Run, step, Access, Read, Write, pageNamed, cellsWritten, lacks, takes, access, giver, dropCopies, fetch}
+use Rattle.model.specs.Definitions.Steps.{Run, Access, Read, Write, pageNamed, lacks, takes, giver, dropCopies, fetch}
 use Rattle.model.specs.Definitions.Replay.{lacking}
-use Rattle.model.specs.Definitions.Calls.{Result, firstOf, unless, finished, copiesOut, fetchNeed, dropNeed, lackingOf, need, short, shortBoard, isSome}
-use Rattle.model.specs.Definitions.Calls.{liveRefusals, prepared, performed, live}
-use Rattle.model.specs.Laws.Logic.{cases, casesOption, byBool, clash, and-both, true-not}
-use Rattle.model.specs.Laws.Lists.{firstBelow-none}
+use Rattle.model.specs.Definitions.Calls.{firstOf, copiesOut, fetchNeed, dropNeed, lackingOf, need, short, shortBoard, isSome, liveRefusals, prepared}
+use Rattle.model.specs.Laws.Logic.{cases, byBool, clash, and-both, true-not}
+use Rattle.model.specs.Laws.Lists.{firstBelow-none, each-head, each-tail}
 use Rattle.model.specs.Laws.Boards.{droppedIf, boardAt-dropCopies, rightIn-owner, rightIn-copy}
 use Rattle.model.specs.Laws.Runs.{lost-not, step-done}
 use Rattle.model.specs.Laws.Keeps.Clauses.{up-below, up-not-down, down-not-replaying, fits}
 use Rattle.model.specs.Contracts.{RoomFor, CanFetch, CanAccess, Ready}
-use Rattle.model.specs.Laws.Keeps.Stores.{step-keeps}
-use Rattle.model.specs.Laws.Keeps.Accesses.{access-keeps, writable, takes-enough}
-use Rattle.model.specs.Laws.Keeps.Rights.{entry-at, dropCopies-keeps}
-use Rattle.model.specs.Laws.Keeps.Fetches.{Taken, fetch-keeps, fetch-taken}
+use Rattle.model.specs.Laws.Keeps.Accesses.{takes-enough}
+use Rattle.model.specs.Laws.Keeps.Rights.{entry-at}
+use Rattle.model.specs.Laws.Keeps.Fetches.{Taken, fetch-taken}
 
 -- ---- tests and what follows them
 
@@ -44,15 +42,14 @@ unfolding firstOf
 firstOf-none true a ts h = lost-not h refl
 firstOf-none false a ts h = record { here = refl; rest = h }
 
--- a refusal leaves the bank, and so does an answer
-pub unless-keeps : (tests : List (Bool × Answer)) (r : Run) (go : Result) → WellFormed (r .bank) → (firstOf tests ≡ none → WellFormed (go .run .bank))
-    → WellFormed (unless tests r go .run .bank)
-unfolding unless
-unless-keeps tests r go w g = casesOption (λ (t : Result). WellFormed (t .run .bank)) (firstOf tests) g (λ a e. w)
-
-pub finished-keeps : (v : ℕ) (r : Run) → WellFormed (r .bank) → WellFormed (finished v r .run .bank)
-unfolding finished
-finished-keeps v r w = casesOption (λ (t : Result). WellFormed (t .run .bank)) (r .lost) (λ e. w) (λ b e. w)
+-- the first test that holds has one of the answers
+pub first-in : (P : Answer → Type 0) (ts : List (Bool × Answer)) (a : Answer) → Each (λ t. P (t .1)) ts → firstOf ts ≡ some a → P a
+unfolding firstOf
+first-in P [] a s e = let z : _≡_ {A = ℕ} 0 1 = cc in absurd (omega arith)
+first-in P (t ∷ ts) a s e =
+    byBool (t .0)
+    (λ b. let i : t .1 ≡ a = cc in rw i at (each-head s))
+    (λ b. first-in P ts a (each-tail s) (cc))
 
 pub isUp-up : (s : State) → isUp s ≡ true → s ≡ Up
 unfolding isUp
@@ -84,19 +81,6 @@ unfolding isReplaying
 up-left Up n h = refl
 up-left Down n h = absurd (n refl)
 up-left Replaying n h = clash refl h
-
--- ---- the access itself
-
-module _ (b : ℕ) (a : Access) (values : Each (λ w. w .1 < byteValues) (cellsWritten a)) where
-  pub performed-keeps : (r : Run) → WellFormed (r .bank) → (r .lost ≡ none → Ready a (boardAt (r .bank) b))
-      → WellFormed (performed b a r .run .bank)
-  unfolding performed
-  performed-keeps r w g =
-      finished-keeps _ (step (access b a) r)
-      (step-keeps (access b a) r w
-      (λ n.
-      let y : Ready a (boardAt (r .bank) b) = g n in
-      access-keeps b a (r .bank) w (y .power) (y .since) (y .number) (writable a (boardAt (r .bank) b .working .frames) (y .right) values)))
 
 -- ---- what comes before it
 
@@ -185,20 +169,6 @@ module _ (b : ℕ) (a : Access) (r : Run) (w : WellFormed (r .bank)) (can : CanA
     abbrev k : Bank
     k = r .bank
 
-    copies-gone : lackingOf b a k ≡ false → copiesOut a k ≡ true → WellFormed (dropCopies (pageNamed a) k)
-    copies-gone t o = dropCopies-keeps (pageNamed a) k w (can .page) (can-drop b a k w can passed t o)
-
-    -- a fetch, or copies dropped, or neither
-    pub prepared-keeps : WellFormed (prepared b a r .bank)
-    unfolding prepared
-    prepared-keeps =
-        cases (λ (s : Run). WellFormed (s .bank)) (lackingOf b a k)
-        (λ t. fetch-keeps (takes a) b (pageNamed a) r w (can-fetch b a k w can passed t))
-        (λ t.
-        cases (λ (s : Run). WellFormed (s .bank)) (copiesOut a k)
-        (λ o. step-keeps (dropCopies (pageNamed a)) r w (λ n. copies-gone t o))
-        (λ o. w))
-
     -- after it the access finds its right
     pub prepared-ready : prepared b a r .lost ≡ none → Ready a (boardAt (prepared b a r .bank) b)
     unfolding prepared lacking droppedIf
@@ -221,10 +191,3 @@ module _ (b : ℕ) (a : Access) (r : Run) (w : WellFormed (r .bank)) (can : CanA
         let e : boardAt (dropCopies p k) b ≡ boardAt k b = cc (boardAt-dropCopies p k b (up-below k b (can .up)), writer-none b a k w can passed t o) in
         rw (step-done (dropCopies p) r n, e) (ready-now t))
         (λ o n. ready-now t))
-
-  -- then the access
-  pub live-keeps : WellFormed (live b a r .run .bank)
-  unfolding live
-  live-keeps =
-      unless-keeps (liveRefusals b a (r .bank)) r _ w
-      (λ e. performed-keeps b a (can .values) (prepared b a r) (prepared-keeps e) (prepared-ready e))

@@ -5,37 +5,37 @@ use mathlib.Core.Logic.{_≢_}
 use Prim.Native.Nat.{ℕ, suc, _+_, _-_, _≤_, _<_}
 use native.Mathlib.Nat.{le-of-lt}
 use native.Mathlib.Omega.{arith}
-use mathlib.Core.Bool.{Bool, true, false, not}
-use mathlib.Core.Option.{Option, none, some}
+use mathlib.Core.Bool.{true, false, not}
+use mathlib.Core.Option.{Option, some}
 use mathlib.Core.List.{List, [], _∷_}
 use lib.ListN.{length, drop, set, length-drop}
 use lib.Dec.{eqb}
-use borrow.Author.Tests.{eqb-true, eqb-false, leb-false, not-false}
-use Rattle.types.specs.declared.Right.the-variants.{None, Own}
+use borrow.Author.Tests.{eqb-true, eqb-false, not-false}
+use Rattle.types.specs.declared.Right.the-variants.{None}
 use Rattle.types.specs.declared.Frame.{Frame}
 use Rattle.types.specs.declared.CopyOrOwn.{CopyOrOwn}
 use Rattle.types.specs.declared.CopyOrOwn.the-variants.{GotCopy, GotOwn}
 use Rattle.types.specs.declared.Kind.{Kind}
 use Rattle.types.specs.declared.Kind.the-variants.{Got, Shown, Dropped}
 use Rattle.types.specs.declared.Record.{Record}
-use Rattle.types.specs.declared.State.the-variants.{Up, Down, Replaying}
+use Rattle.types.specs.declared.State.the-variants.{Down, Replaying}
 use Rattle.words.specs.Bytes.{Each}
-use Rattle.model.specs.Definitions.Parts.{each, member}
+use Rattle.model.specs.Definitions.Parts.{member}
 use Rattle.model.specs.Definitions.Layout.{lastSince, lastNumber}
 use Rattle.model.specs.Definitions.Bank.{Entry, Log, Working, Board, Bank, emptyFrame, boardAt, entryAt, frameAt, onWorking, entryIn}
-use Rattle.model.specs.Definitions.WellFormed.{FrameOk, isGot, RecordOk, FramesOk, PlaceOk, rightIn, WellFormed}
-use Rattle.model.specs.Definitions.Steps.{Run, step, Access, pageNamed, cellsWritten, lacks, takes, accessed}
+use Rattle.model.specs.Definitions.WellFormed.{isGot, RecordOk, FramesOk, PlaceOk, rightIn, WellFormed, WorkingOk}
+use Rattle.model.specs.Definitions.Steps.{Access, pageNamed, cellsWritten, lacks, takes, accessed}
 use Rattle.model.specs.Definitions.Replay.{loaded, recordsLeft, used, useUp, usedUp, gotDue, due, sameGot, lacking, needsGot, differs, rightGot, tookGot}
-use Rattle.model.specs.Definitions.Replay.{tookDue, replayOver, settledFrame, settled, endReplay, endIfOver, replayed}
+use Rattle.model.specs.Definitions.Replay.{tookDue, settledFrame, settled, replayed, settle}
 use Rattle.model.specs.Laws.Logic.{cases, casesOption, byBool, clash, and-left, and-right}
-use Rattle.model.specs.Laws.Lists.{each-head, each-drop, each-each, length-each}
-use Rattle.model.specs.Laws.Boards.{rightIn-owner, rightIn-none, frameAt-same, frameAt-each, boardAt-same, settle}
-use Rattle.model.specs.Laws.Runs.{lost-not, step-cases}
-use Rattle.model.specs.Laws.Keeps.Clauses.{up-not-down, up-not-replaying, down-not-replaying, place-replaying, replaying-place, whole, onBoard-but}
+use Rattle.model.specs.Laws.Lists.{each-head, each-drop}
+use Rattle.model.specs.Laws.Boards.{rightIn-owner, rightIn-none, frameAt-same, frameAt-each}
+use Rattle.model.specs.Laws.Runs.{lost-not}
+use Rattle.model.specs.Laws.Keeps.Clauses.{up-not-down, up-not-replaying, down-not-replaying, replaying-place, whole, onBoard-but, alone-up}
 use Rattle.model.specs.Contracts.{Fits, InReplay, WellFormedBut}
-use Rattle.model.specs.Laws.Keeps.Stores.{copy-some, own-some, frameOk-empty, frameOk-right}
-use Rattle.model.specs.Laws.Keeps.Checkpoint.{checkpoint-keeps}
-use Rattle.model.specs.Laws.Keeps.Accesses.{framesOk-set, Writable, takes-enough, accessed-alone, accessed-agreed}
+use Rattle.model.specs.Laws.Keeps.Accesses.{takes-enough, accessed-alone, accessed-agreed}
+use Rattle.model.specs.Laws.Valid.{copy-some, own-some, frameOk-empty, framesOk-set, Writable, workingOk-used}
+use Rattle.model.specs.Laws.BoardFields.{loaded-fields, onWorking-fields, settled-fields}
 
 -- ---- restart
 
@@ -46,16 +46,7 @@ loaded-inReplay d b x h u =
     record {
       alone =
           record {
-            fields =
-                record {
-                  fuse = h .alone .fields .fuse;
-                  number = h .alone .fields .selected .number;
-                  since = omega arith;
-                  frames = h .alone .fields .selected .frames;
-                  log = h .alone .fields .log;
-                  selected = h .alone .fields .selected;
-                  spare = h .alone .fields .spare;
-                };
+            fields = loaded-fields (length d) x (h .alone .fields);
             fuse = h .alone .fuse;
             room = h .alone .room;
             replaying = λ e. h .alone .down u .volatile;
@@ -81,31 +72,28 @@ casesKind P (Dropped p) f g h = h p refl
 
 -- working memory v is w after at most n records were used
 pub record Used (pages n : ℕ) (w v : Working) : Type 0 where
-  pub number : v .number ≡ w .number
   pub log : v .log ≡ w .log
-  pub since : v .since ≤ lastSince
-  pub frames : FramesOk pages (v .frames)
   pub place : v .place ≤ w .place + n
+  pub ok : WorkingOk pages v
 
 -- one record used, then others
 used-then : {pages n : ℕ} (fs : List Frame) (w v : Working) → Used pages n (used fs w) v → Used pages (suc n) w v
 unfolding used
-used-then fs w v h =
-    record { number = h .number; log = h .log; since = h .since; frames = h .frames; place = omega (arith, h .place) }
+used-then fs w v h = record { log = h .log; place = omega (arith, h .place); ok = h .ok }
 
-pub useUp-used : {pages : ℕ} (rs : List Record) (w : Working) → FramesOk pages (w .frames) → w .since ≤ lastSince → Used pages (length rs) w (useUp rs w)
-unfolding useUp used
-useUp-used [] w f s = record { number = refl; log = refl; since = s; frames = f; place = omega arith }
-useUp-used {pages} (r ∷ rs) w f s =
-    let idle : Used pages (length (r ∷ rs)) w w = record { number = refl; log = refl; since = s; frames = f; place = omega arith } in
+pub useUp-used : {pages : ℕ} (rs : List Record) (w : Working) → WorkingOk pages w → Used pages (length rs) w (useUp rs w)
+unfolding useUp
+useUp-used [] w v = record { log = refl; place = omega arith; ok = v }
+useUp-used {pages} (r ∷ rs) w v =
+    let idle : Used pages (length (r ∷ rs)) w w = record { log = refl; place = omega arith; ok = v } in
+    let then : (fs : List Frame) → FramesOk pages fs → Used pages (length (r ∷ rs)) w (useUp rs (used fs w))
+    = λ fs h. used-then fs w (useUp rs (used fs w)) (useUp-used rs (used fs w) (workingOk-used v h)) in
     cases (Used pages (length (r ∷ rs)) w) (eqb (r .count) (w .since))
     (λ t.
     casesKind (Used pages (length (r ∷ rs)) w) (r .kind)
     (λ c p e. idle)
-    (λ p e. used-then (w .frames) w (useUp rs (used (w .frames) w)) (useUp-used rs (used (w .frames) w) f (omega arith)))
-    (λ p e.
-    let fs : List Frame = set (w .frames) p emptyFrame in
-    used-then fs w (useUp rs (used fs w)) (useUp-used rs (used fs w) (framesOk-set (w .frames) p emptyFrame f frameOk-empty) (omega arith))))
+    (λ p e. then (w .frames) (v .frames))
+    (λ p e. then (set (w .frames) p emptyFrame) (framesOk-set (w .frames) p emptyFrame (v .frames) frameOk-empty)))
     (λ t. idle)
 
 -- the working memory of a replaying board replaced: fewer records are left, and no right is looked at before the end
@@ -116,16 +104,7 @@ inReplay-used d b x v h u =
     record {
       alone =
           record {
-            fields =
-                record {
-                  fuse = h .alone .fields .fuse;
-                  number = rw (u .number) (h .alone .fields .number);
-                  since = u .since;
-                  frames = u .frames;
-                  log = rw (u .log) (h .alone .fields .log);
-                  selected = h .alone .fields .selected;
-                  spare = h .alone .fields .spare;
-                };
+            fields = onWorking-fields (h .alone .fields) (λ w. v) (u .ok);
             fuse = h .alone .fuse;
             room = rw (u .log) (h .alone .room);
             replaying = λ e. ap (λ (l : Log). l .records) (u .log) ∙ h .alone .replaying e;
@@ -143,7 +122,7 @@ usedUp-inReplay d b x h =
     let rs : List Record = x .stable .selected .log .records in
     let n : length (drop (x .working .place) rs) ≡ length rs - x .working .place = length-drop (x .working .place) rs in
     inReplay-used d b x (useUp (recordsLeft x) (x .working)) h
-    (rw n at (useUp-used (recordsLeft x) (x .working) (h .alone .fields .frames) (h .alone .fields .since)))
+    (rw n at (useUp-used (recordsLeft x) (x .working) (h .alone .fields .working)))
 
 -- ---- a got record used
 
@@ -187,13 +166,12 @@ tookDue-inReplay d b a x h =
     gotDue-some (drop (x .working .place) rs) (x .working .since) r e (each-drop (x .working .place) rs (h .alone .fields .selected .log .records)) in
     inReplay-used d b x (tookGot (pageNamed a) r (x .working)) h
     (record {
-      number = refl;
       log = refl;
-      since = omega arith;
-      frames =
-          framesOk-set (x .working .frames) (pageNamed a) (record { right = rightGot (r .kind); bytes = r .bytes }) (h .alone .fields .frames)
-          (record { size = g .valid .size; bytes = g .valid .bytes; empty = λ z. absurd (right-got (r .kind) (g .got) z) });
       place = omega (arith, g .left, length-drop (x .working .place) rs);
+      ok =
+          workingOk-used (h .alone .fields .working)
+          (framesOk-set (x .working .frames) (pageNamed a) (record { right = rightGot (r .kind); bytes = r .bytes }) (h .alone .fields .working .frames)
+          (record { size = g .valid .size; bytes = g .valid .bytes; empty = λ z. absurd (right-got (r .kind) (g .got) z) }));
     }))
 
 -- ---- an access in replay
@@ -256,11 +234,6 @@ replayed-inReplay d b a x h s n w = usedUp-inReplay d b (onWorking (accessed a) 
 
 -- ---- the end of replay
 
-pub frameOk-settled : (t : Bool) (f : Frame) → FrameOk f → FrameOk (settledFrame t f)
-unfolding settledFrame
-frameOk-settled true f h = frameOk-right Own own-some h
-frameOk-settled false f h = frameOk-empty
-
 right-settled : (e : Entry) (b : ℕ) (f : Frame) → member b (e .copies) ≡ false → settledFrame (eqb (e .owner) b) f .right ≡ rightIn e b
 unfolding settledFrame emptyFrame
 right-settled e b f m =
@@ -273,32 +246,9 @@ pub settled-fits : (d : List Entry) (b : ℕ) (x : Board) → InReplay d b x →
 unfolding settled PlaceOk
 settled-fits d b x h =
     let settle : ℕ → Frame → Frame = λ p f. settledFrame (eqb (entryIn d p .owner) b) f in
-    let n : length (each settle (x .working .frames)) ≡ length (x .working .frames) = length-each settle (x .working .frames) in
-    let count : length (x .working .frames) ≡ length d = h .alone .fields .frames .count in
+    let count : length (x .working .frames) ≡ length d = h .alone .fields .working .frames .count in
     record {
-      alone =
-          record {
-            fields =
-                record {
-                  fuse = h .alone .fields .fuse;
-                  number = h .alone .fields .number;
-                  since = h .alone .fields .since;
-                  frames =
-                      record {
-                        count = n ∙ count;
-                        frames =
-                            each-each settle (x .working .frames) (h .alone .fields .frames .frames)
-                            (λ p f v. frameOk-settled (eqb (entryIn d p .owner) b) f v);
-                      };
-                  log = h .alone .fields .log;
-                  selected = h .alone .fields .selected;
-                  spare = h .alone .fields .spare;
-                };
-            fuse = h .alone .fuse;
-            room = h .alone .room;
-            replaying = λ e. up-not-replaying refl e;
-            down = λ e. up-not-down refl e;
-          };
+      alone = alone-up refl (settled-fields (h .alone .fields) (λ p. eqb (entryIn d p .owner) b)) (h .alone .fuse) (h .alone .room);
       place = refl;
       agreed =
           record {
@@ -316,35 +266,3 @@ settle-restores b k w =
     whole {Kept = Fits}
     (onBoard-but b (settled (λ p. eqb (entryAt k p .owner) b)) k w (λ l h. settled-fits (k .directory) b (boardAt k b) h))
     (λ h. h)
-
-module _ (b : ℕ) (r : Run) (n : r .lost ≡ none) (l : b < length (r .bank .boards)) (w : WellFormedBut b InReplay (r .bank)) where
-  settled-wellFormed : WellFormed (step (settle b) r .bank)
-  settled-wellFormed = step-cases (λ s. WellFormed (s .bank)) (settle b) r (λ c e. lost-not n e) (λ e. settle-restores b (r .bank) w)
-
-  settled-up : boardAt (step (settle b) r .bank) b .state ≡ Up
-  unfolding settle settled
-  settled-up =
-      step-cases (λ s. boardAt (s .bank) b .state ≡ Up) (settle b) r
-      (λ c e. lost-not n e)
-      (λ e. ap (λ (x : Board). x .state) (boardAt-same b (settled (λ p. eqb (entryAt (r .bank) p .owner) b)) (r .bank) l))
-
-  -- "End of replay ..: ..; checkpoint."
-  pub endReplay-keeps : WellFormed (endReplay b r .bank)
-  unfolding endReplay settle
-  endReplay-keeps = checkpoint-keeps b (step (settle b) r) settled-wellFormed (λ e i. up-not-replaying settled-up i)
-
-  -- the end of replay, if no record is left; else the place is in range
-  pub endIfOver-keeps : WellFormed (endIfOver b r .bank)
-  unfolding endIfOver replayOver
-  endIfOver-keeps =
-      let x : Board = boardAt (r .bank) b in
-      cases (λ (s : Run). WellFormed (s .bank)) (replayOver x)
-      (λ t. endReplay-keeps)
-      (λ t.
-      whole w
-      (λ h.
-      record {
-        alone = h .alone;
-        place = place-replaying (x .state) x (h .state) (leb-false (length (x .stable .selected .log .records)) (x .working .place) t);
-        agreed = h .agreed;
-      }))

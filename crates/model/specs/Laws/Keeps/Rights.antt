@@ -29,11 +29,11 @@ use Rattle.model.specs.Laws.Boards.{boardAt-out, rightIn-owner, rightIn-
 use Rattle.model.specs.Laws.Boards.{droppedIf, withoutCopies, ownedBy, tookOwn, boardAt-giveCopy-same, boardAt-giveCopy-other, boardAt-dropCopies}
 use Rattle.model.specs.Laws.Boards.{boardAt-passOwnership-same, boardAt-passOwnership-other}
 use Rattle.model.specs.Laws.Runs.{SameSizes, sizes-giveCopy, sizes-dropCopies, sizes-passOwnership}
-use Rattle.model.specs.Laws.Keeps.Clauses.{up-not-down, up-not-replaying, SameFor, place-kept, fits, wellFormed-fits, fits-directory, up-below}
+use Rattle.model.specs.Laws.Keeps.Clauses.{up-not-down, up-not-replaying, SameFor, place-kept, fits, wellFormed-fits, fits-directory, up-below, alone-up}
 use Rattle.model.specs.Contracts.{Fits, RoomFor}
-use Rattle.model.specs.Laws.Keeps.NotedRecords.{recordable-plain, recordable-got, recorded-fits}
-use Rattle.model.specs.Laws.Keeps.Stores.{copy-some, own-some, frameOk-empty, frameOk-right}
-use Rattle.model.specs.Laws.Keeps.Accesses.{frameOk-at, framesOk-set}
+use Rattle.model.specs.Laws.Keeps.NotedRecords.{recorded-fits}
+use Rattle.model.specs.Laws.Valid.{copy-some, own-some, frameOk-empty, frameOk-right, frameOk-at, recordable-plain, recordable-got}
+use Rattle.model.specs.Laws.BoardFields.{withFrame-fields}
 
 -- ---- one entry changed
 
@@ -70,30 +70,14 @@ module _ (d : List Entry) (p : ℕ) (f : Entry → Entry) (l : p < length d) (b 
   exchanged-fits g u v r =
       record {
         alone =
-            rw (length-update p f d)
-            (record {
-              fields =
-                  record {
-                    fuse = h .alone .fields .fuse;
-                    number = h .alone .fields .number;
-                    since = h .alone .fields .since;
-                    frames = framesOk-set (x .working .frames) p g (h .alone .fields .frames) v;
-                    log = h .alone .fields .log;
-                    selected = h .alone .fields .selected;
-                    spare = h .alone .fields .spare;
-                  };
-              fuse = h .alone .fuse;
-              room = h .alone .room;
-              replaying = h .alone .replaying;
-              down = λ e. up-not-down u e;
-            });
+            rw (length-update p f d) (alone-up {x = withFrame p g x} u (withFrame-fields (h .alone .fields) p g v) (h .alone .fuse) (h .alone .room));
         place = place-kept (x .state) x (withFrame p g x) (h .place) refl (omega arith);
         agreed =
             record {
               rights =
                   λ e q m.
                   byEq q p
-                  (λ i. rw (i, entryIn-same d p f l, frameAt-same (x .working .frames) p g (rw (h .alone .fields .frames .count) l)) r)
+                  (λ i. rw (i, entryIn-same d p f l, frameAt-same (x .working .frames) p g (rw (h .alone .fields .working .frames .count) l)) r)
                   (λ n. rw (entryIn-other d p f q n, frameAt-other (x .working .frames) p q g n) (h .agreed .rights e q (rw (length-update p f d) at m)));
               copies = λ n. absurd (n u);
             };
@@ -132,7 +116,7 @@ pub frameOk-of : {k : Bank} → WellFormed k → (o p : ℕ) → FrameOk (frameO
 unfolding frameOf noBoard frameAt
 frameOk-of {k} w o p =
     elim (decLt o (length (k .boards))) [
-      | yes l ↦ frameOk-at (boardAt k o .working .frames) p (fits w o l .alone .fields .frames)
+      | yes l ↦ frameOk-at (boardAt k o .working .frames) p (fits w o l .alone .fields .working .frames)
       | no n ↦
           let e : boardAt k o ≡ noBoard = boardAt-out k o (omega arith) in
           rw e frameOk-empty

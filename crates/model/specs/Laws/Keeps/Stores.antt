@@ -1,7 +1,7 @@
--- A power loss, a fuse, a stable store and a flush keep a bank well formed. Assumes nothing.
-use mathlib.Core.Path.{_≡_, refl, sym, _∙_}
+-- A power loss, a fuse and a stable store keep a bank well formed. Assumes nothing.
+use mathlib.Core.Path.{_≡_, refl, _∙_}
 use mathlib.Core.Logic.{_≢_}
-use Prim.Native.Nat.{ℕ, zero, suc, _-_, _≤_, _<_}
+use Prim.Native.Nat.{ℕ, _-_, _≤_, _<_}
 use native.Mathlib.Omega.{arith}
 use mathlib.Core.Bool.{false}
 use mathlib.Core.Option.{none}
@@ -9,43 +9,23 @@ use mathlib.Core.List.{List, map}
 use lib.ListN.{length, length-map}
 use lib.Dec.{eqb}
 use borrow.Author.Tests.{eqb-false}
-use Rattle.types.specs.declared.Right.{Right}
-use Rattle.types.specs.declared.Right.the-variants.{None, Copy, Own}
-use Rattle.types.specs.declared.Frame.{Frame}
 use Rattle.types.specs.declared.State.the-variants.{Down}
 use Rattle.model.specs.Definitions.Parts.{member, withoutMember}
-use Rattle.model.specs.Definitions.Layout.{pageSize, noFuse}
+use Rattle.model.specs.Definitions.Layout.{noFuse}
 use Rattle.model.specs.Definitions.Bank.{Entry, Board, Bank, emptyFrame, emptyLog, boardAt, onBoard, noEntry, entryIn}
-use Rattle.model.specs.Definitions.WellFormed.{FrameOk, PlaceOk, EntryOk, WellFormed}
-use Rattle.model.specs.Definitions.Steps.{Run, step, poweredOff, forgotten, powerOff, withFuse, burnt, store, storedRecord, storeRecords, flush}
+use Rattle.model.specs.Definitions.WellFormed.{PlaceOk, EntryOk, WellFormed, FieldsOk}
+use Rattle.model.specs.Definitions.Steps.{Run, step, poweredOff, forgotten, powerOff, withFuse, burnt, store}
 use Rattle.model.specs.Laws.Logic.{byEq, cases}
 use Rattle.model.specs.Laws.Lists.{each-map}
 use Rattle.model.specs.Laws.Sets.{member-without-same, member-without-other, without-le}
 use Rattle.model.specs.Laws.WrittenTests.{log-count}
-use Rattle.model.specs.Laws.Fresh.{zeros-bytes, zeros-length, emptyLog-ok}
 use Rattle.model.specs.Laws.Boards.{getD-map-below, each-map-of, rightIn-same, boardAt-same, boards-powerOff, boardAt-powerOff-same}
 use Rattle.model.specs.Laws.Boards.{boardAt-powerOff-other, powerOff-onBoard}
 use Rattle.model.specs.Laws.Runs.{step-cases, store-cases}
 use Rattle.model.specs.Laws.Runs.Stores.{burnt-working, burnt-stable}
-use Rattle.model.specs.Laws.Keeps.Clauses.{up-not-down, Stored, SameFor, place-kept, but, wellFormed-fits, onBoard-keeps, fits-directory}
-use Rattle.model.specs.Contracts.{Fits, WellFormedBut}
-use Rattle.model.specs.Laws.Keeps.NotedRecords.{storedRecord-fits}
-
--- ---- frames
-
-pub copy-some : Copy ≢ None
-copy-some e = let z : _≡_ {A = ℕ} 0 1 = cc in absurd (omega arith)
-
-pub own-some : Own ≢ None
-own-some e = let z : _≡_ {A = ℕ} 0 1 = cc in absurd (omega arith)
-
-pub frameOk-empty : FrameOk emptyFrame
-unfolding emptyFrame
-frameOk-empty = record { size = zeros-length pageSize; bytes = zeros-bytes pageSize; empty = λ e. refl }
-
--- the same bytes under a right
-pub frameOk-right : {f : Frame} (r : Right) → r ≢ None → FrameOk f → FrameOk (record { right = r; bytes = f .bytes })
-frameOk-right r n h = record { size = h .size; bytes = h .bytes; empty = λ e. absurd (n e) }
+use Rattle.model.specs.Laws.Keeps.Clauses.{up-not-down, SameFor, wellFormed-fits, onBoard-keeps, fits-directory, fits, fits-kept}
+use Rattle.model.specs.Contracts.{Fits}
+use Rattle.model.specs.Laws.BoardFields.{poweredOff-fields, withFuse-fields}
 
 -- ---- a power loss
 
@@ -71,24 +51,14 @@ forgotten-same b c e n =
     record { right = rightIn-same e (forgotten b e) c refl m; copies = m }
 
 -- a board without power, in a directory that lists no copy of it
-poweredOff-fits : (d d′ : List Entry) (b : ℕ) (x : Board) → length d′ ≡ length d → Stored d b x
+poweredOff-fits : (d d′ : List Entry) (b : ℕ) (x : Board) → length d′ ≡ length d → FieldsOk (length d) x
     → ((p : ℕ) → p < length d′ → member b (entryIn d′ p .copies) ≡ false) → Fits d′ b (poweredOff x)
 unfolding poweredOff emptyLog emptyFrame PlaceOk
 poweredOff-fits d d′ b x l h absent =
-    let m : length (map (λ (f : Frame). emptyFrame) (x .working .frames)) ≡ length (x .working .frames) = length-map (x .working .frames) (λ f. emptyFrame) in
     record {
       alone =
           record {
-            fields =
-                record {
-                  fuse = omega arith;
-                  number = omega arith;
-                  since = omega arith;
-                  frames = record { count = m ∙ h .frames ∙ sym l; frames = each-map (λ f. emptyFrame) (x .working .frames) (λ f. frameOk-empty) };
-                  log = emptyLog-ok (length d′);
-                  selected = rw l (h .selected);
-                  spare = rw l (h .spare);
-                };
+            fields = rw l (poweredOff-fields h);
             fuse = omega arith;
             room = omega (arith, log-count (length d) (x .stable .selected .log) (h .selected .log));
             replaying = λ e. refl;
@@ -106,14 +76,10 @@ poweredOff-fits d d′ b x l h absent =
       agreed = record { rights = λ e. up-not-down e refl; copies = λ e. absent };
     }
 
-fits-stored : (d : List Entry) (b : ℕ) (x : Board) → Fits d b x → Stored d b x
-fits-stored d b x h =
-    record { frames = h .alone .fields .frames .count; selected = h .alone .fields .selected; spare = h .alone .fields .spare }
-
--- "Cut: ..": whatever the board's working memory, place and fuse are
-pub powerOff-restores : (b : ℕ) (k : Bank) → WellFormedBut b Stored k → WellFormed (powerOff b k)
+-- "Cut: .."
+pub powerOff-keeps : (b : ℕ) (k : Bank) → WellFormed k → WellFormed (powerOff b k)
 unfolding powerOff onBoard
-powerOff-restores b k w =
+powerOff-keeps b k w =
     let l : length (map (forgotten b) (k .directory)) ≡ length (k .directory) = length-map (k .directory) (forgotten b) in
     let entry : (p : ℕ) → p < length (k .directory) → entryIn (map (forgotten b) (k .directory)) p ≡ forgotten b (entryIn (k .directory) p) =
     λ p m. getD-map-below (forgotten b) (k .directory) p noEntry noEntry m in
@@ -126,16 +92,13 @@ powerOff-restores b k w =
     (λ e.
     let i : b < length (k .boards) = rw e at m in
     rw (e, boardAt-powerOff-same b k i)
-    (poweredOff-fits (k .directory) (map (forgotten b) (k .directory)) b (boardAt k b) l (w .this i)
+    (poweredOff-fits (k .directory) (map (forgotten b) (k .directory)) b (boardAt k b) l (fits w b i .alone .fields)
     (λ p j. rw (entry p (rw l at j)) (forgotten-none b (entryIn (k .directory) p)))))
     (λ n.
     rw (boardAt-powerOff-other b k c n)
     (fits-directory (k .directory) (map (forgotten b) (k .directory)) c (boardAt k c) l
     (λ p i. rw (entry p i) (forgotten-same b c (entryIn (k .directory) p) n))
-    (w .others c m n))))
-
-pub powerOff-keeps : (b : ℕ) (k : Bank) → WellFormed k → WellFormed (powerOff b k)
-powerOff-keeps b k w = powerOff-restores b k (but w (fits-stored (k .directory) b (boardAt k b)))
+    (fits w c m))))
 
 -- ---- a fuse
 
@@ -143,27 +106,15 @@ powerOff-keeps b k w = powerOff-restores b k (but w (fits-stored (k .directory) 
 withFuse-fits : (d : List Entry) (b n : ℕ) (x : Board) → Fits d b x → 0 < n → n ≤ noFuse → x .state ≢ Down → Fits d b (withFuse n x)
 unfolding withFuse
 withFuse-fits d b n x h p m u =
-    record {
-      alone =
-          record {
-            fields =
-                record {
-                  fuse = m;
-                  number = h .alone .fields .number;
-                  since = h .alone .fields .since;
-                  frames = h .alone .fields .frames;
-                  log = h .alone .fields .log;
-                  selected = h .alone .fields .selected;
-                  spare = h .alone .fields .spare;
-                };
-            fuse = p;
-            room = h .alone .room;
-            replaying = h .alone .replaying;
-            down = λ e. absurd (u e);
-          };
-      place = place-kept (x .state) x (withFuse n x) (h .place) refl (omega arith);
-      agreed = record { rights = h .agreed .rights; copies = h .agreed .copies };
-    }
+    fits-kept x (withFuse n x) h
+    (record {
+      fields = withFuse-fields (h .alone .fields) n m;
+      fuse = p;
+      room = h .alone .room;
+      replaying = h .alone .replaying;
+      down = λ e. absurd (u e);
+    })
+    refl refl refl (omega arith)
 
 -- "Fuse k .."
 pub withFuse-keeps : (b n : ℕ) (k : Bank) → WellFormed k → 0 < n → n ≤ noFuse → boardAt k b .state ≢ Down → WellFormed (onBoard b (withFuse n) k)
@@ -201,18 +152,3 @@ store-keeps b f r w g =
 -- a step that stores nothing
 pub step-keeps : (f : Bank → Bank) (r : Run) → WellFormed (r .bank) → (r .lost ≡ none → WellFormed (f (r .bank))) → WellFormed (step f r .bank)
 step-keeps f r w g = step-cases (λ s. WellFormed (s .bank)) f r (λ c e. w) g
-
--- ---- a flush
-
-storeRecords-keeps : (n b : ℕ) (r : Run) → WellFormed (r .bank) → WellFormed (storeRecords n b r .bank)
-unfolding storeRecords
-storeRecords-keeps zero b r w = w
-storeRecords-keeps (suc n) b r w =
-    storeRecords-keeps n b (store b storedRecord r)
-    (store-keeps b storedRecord r w
-    (λ e. onBoard-keeps b storedRecord (r .bank) w (λ l h. storedRecord-fits (r .bank .directory) b (boardAt (r .bank) b) h)))
-
--- "Flush ..", of any board at any time
-pub flush-keeps : (b : ℕ) (r : Run) → WellFormed (r .bank) → WellFormed (flush b r .bank)
-unfolding flush
-flush-keeps b r w = storeRecords-keeps (length (boardAt (r .bank) b .working .log .records)) b r w

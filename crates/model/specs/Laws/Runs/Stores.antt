@@ -1,26 +1,27 @@
 -- What a flush and a checkpoint that lost no power leave of the board that stored. Assumes nothing.
-use mathlib.Core.Path.{_≡_, refl, ap, _∙_}
+use mathlib.Core.Path.{_≡_, refl, sym, ap, _∙_}
 use Prim.Native.Nat.{ℕ, zero, suc, _≤_, _<_}
 use native.Mathlib.Nat.{not-suc-le-zero}
 use native.Mathlib.Omega.{arith}
 use mathlib.Core.Bool.{Bool}
 use mathlib.Core.Option.{none}
-use mathlib.Core.List.{List, [], _∷_, _++_, append-assoc}
-use lib.ListN.{length}
+use mathlib.Core.List.{List, [], _∷_, _++_, append-assoc, foldl-append}
+use lib.ListN.{length, replicate}
 use lib.Dec.{eqb}
 use Rattle.types.specs.declared.Kind.{Kind}
 use Rattle.types.specs.declared.Kind.the-variants.{Shown}
 use Rattle.types.specs.declared.Record.{Record}
-use Rattle.model.specs.Definitions.Parts.{zeros}
+use Rattle.model.specs.Definitions.Parts.{zeros, tabulate}
 use Rattle.model.specs.Definitions.Layout.{pageSize, noFuse}
-use Rattle.model.specs.Definitions.Bank.{Working, Stable, Board, Bank, boardAt, entryAt, onBoard, onWorking, onSpare}
-use Rattle.model.specs.Definitions.Steps.{Run, step, withFuse, burnt, store, appended, recorded, note, movedRecord, storedRecord, storeRecords, flush}
-use Rattle.model.specs.Definitions.Steps.{storedFrame, storedHead, storedSelector, restedWorking, storeFrames, checkpoint, show}
-use Rattle.model.specs.Definitions.Replay.{settled, endReplay}
+use Rattle.model.specs.Definitions.Bank.{Area, Working, Stable, Board, Bank, boardAt, entryAt, onBoard, onWorking, onSpare}
+use Rattle.model.specs.Definitions.Steps.{Run, step, withFuse, burnt, storeAll, appended, recorded, note, movedRecord, storedRecord, recordStores, flush}
+use Rattle.model.specs.Definitions.Steps.{storedFrame, storedHead, storedSelector, spareStores, checkpointStores, restedWorking, checkpoint, show}
+use Rattle.model.specs.Definitions.Replay.{settled, settle, endReplay}
 use Rattle.model.specs.Laws.Logic.{cases}
-use Rattle.model.specs.Laws.Boards.{storedRecord-cases, settle}
-use Rattle.model.specs.Laws.Runs.{sizes-onBoard, follows-none, follows-step, follows-store, follows-storeRecords, follows-flush, follows-storeFrames}
-use Rattle.model.specs.Laws.Runs.{follows-checkpoint, Changed, changed-refl, changed-trans, changed-onBoard, changed-step, changed-store}
+use Rattle.model.specs.Laws.Lists.{foldl-keeps}
+use Rattle.model.specs.Laws.Boards.{storedRecord-cases}
+use Rattle.model.specs.Laws.Runs.{step-none, follows-none, follows-flush, each-recordStores, each-spareStores, afterStores, changed-map, changed-storeAll}
+use Rattle.model.specs.Laws.Runs.{follows-checkpoint, Changed, changed-trans, changed-onBoard, changed-step}
 
 -- ---- a fuse lowered
 
@@ -102,23 +103,15 @@ flushed-movedRecord x r rs e =
 pub flushed-storedRecord : (x : Board) → Flushed x (storedRecord x)
 flushed-storedRecord x = storedRecord-cases (Flushed x) x (λ e. flushed-refl x) (λ r rs e. flushed-movedRecord x r rs e)
 
-flushed-store : (b : ℕ) (r : Run) → store b storedRecord r .lost ≡ none → Changed b Flushed (r .bank) (store b storedRecord r .bank)
-flushed-store b r n =
-    let x : Board = boardAt (r .bank) b in
-    changed-store b storedRecord r n (flushed-trans x (storedRecord x) (burnt (storedRecord x)) (flushed-storedRecord x) (flushed-burnt (storedRecord x)))
-
-flushed-storeRecords : (n b : ℕ) (r : Run) → storeRecords n b r .lost ≡ none → Changed b Flushed (r .bank) (storeRecords n b r .bank)
-unfolding storeRecords
-flushed-storeRecords zero b r e = changed-refl b flushed-refl (r .bank)
-flushed-storeRecords (suc n) b r e =
-    let s : Run = store b storedRecord r in
-    let m : s .lost ≡ none = follows-none (follows-storeRecords {By = λ c. c ≡ b} n b s refl) e in
-    changed-trans b flushed-trans (flushed-store b r m) (flushed-storeRecords n b s e)
-
 -- a flush moves records and does nothing else
 pub flush-changed : (b : ℕ) (r : Run) → flush b r .lost ≡ none → Changed b Flushed (r .bank) (flush b r .bank)
-unfolding flush
-flush-changed b r e = flushed-storeRecords (length (boardAt (r .bank) b .working .log .records)) b r e
+unfolding flush afterStores
+flush-changed b r e =
+    let fs : List (Board → Board) = recordStores (boardAt (r .bank) b) in
+    let h : (x y : Board) → Flushed x y → Flushed x (burnt (storedRecord y)) =
+    λ x y p. flushed-trans x (storedRecord y) _ (flushed-trans x y (storedRecord y) p (flushed-storedRecord y)) (flushed-burnt (storedRecord y)) in
+    changed-map (λ x y q. rw q (foldl-keeps (Flushed x) _ fs (each-recordStores (h x) (boardAt (r .bank) b)) x (flushed-refl x)))
+    (changed-storeAll b fs r e)
 
 -- one volatile record less
 volatile-storedRecord : (x : Board) (n : ℕ) → length (x .working .log .records) ≤ suc n → length (storedRecord x .working .log .records) ≤ n
@@ -128,17 +121,12 @@ volatile-storedRecord x n h =
     (λ e. omega (arith, ap length e))
     (λ r rs e. omega (arith, ap length e))
 
-volatile-storeRecords : (n b : ℕ) (r : Run) → b < length (r .bank .boards) → storeRecords n b r .lost ≡ none
-    → length (boardAt (r .bank) b .working .log .records) ≤ n → length (boardAt (storeRecords n b r .bank) b .working .log .records) ≤ 0
-unfolding storeRecords
-volatile-storeRecords zero b r l e h = h
-volatile-storeRecords (suc n) b r l e h =
-    let s : Run = store b storedRecord r in
-    let m : s .lost ≡ none = follows-none (follows-storeRecords {By = λ c. c ≡ b} n b s refl) e in
-    let x : Board = boardAt (r .bank) b in
-    let c : Changed b (λ x y. length (y .working .log .records) ≤ n) (r .bank) (s .bank) =
-    changed-store b storedRecord r m (rw (burnt-working (storedRecord x)) (volatile-storedRecord x n h)) in
-    volatile-storeRecords n b s (rw (c .boards) l) e (c .this l)
+volatile-afterStores : (n : ℕ) (x : Board) → length (x .working .log .records) ≤ n
+    → length (afterStores (replicate n storedRecord) x .working .log .records) ≤ 0
+unfolding afterStores
+volatile-afterStores zero x h = h
+volatile-afterStores (suc n) x h =
+    volatile-afterStores n (burnt (storedRecord x)) (rw (burnt-working (storedRecord x)) (volatile-storedRecord x n h))
 
 no-records : (l : List Record) → length l ≤ 0 → l ≡ []
 no-records [] h = refl
@@ -147,10 +135,11 @@ no-records (r ∷ rs) h = absurd (not-suc-le-zero h)
 -- a whole flush leaves no volatile record
 pub flush-empties : (b : ℕ) (r : Run) → b < length (r .bank .boards) → flush b r .lost ≡ none
     → boardAt (flush b r .bank) b .working .log .records ≡ []
-unfolding flush
+unfolding flush recordStores
 flush-empties b r l e =
-    let n : ℕ = length (boardAt (r .bank) b .working .log .records) in
-    no-records (boardAt (flush b r .bank) b .working .log .records) (volatile-storeRecords n b r l e (omega arith))
+    let x : Board = boardAt (r .bank) b in
+    no-records (boardAt (flush b r .bank) b .working .log .records)
+    (rw (changed-storeAll b (recordStores x) r e .this l) (volatile-afterStores (length (x .working .log .records)) x (omega arith)))
 
 -- ---- a record noted, then a flush
 
@@ -164,7 +153,7 @@ pub note-flush-changed : (b : ℕ) (kind : Kind) (bytes : Bank → List ℕ) (r 
 unfolding note
 note-flush-changed b kind bytes r e =
     let s : Run = step (λ k. note b kind (bytes k) k) r in
-    let m : s .lost ≡ none = follows-none (follows-flush {By = λ c. c ≡ b} b s refl) e in
+    let m : s .lost ≡ none = follows-none (follows-flush b s) e in
     let f : Board → Board = onWorking (recorded kind (bytes (r .bank))) in
     changed-trans b (λ x y z p q. rw p at q)
     (changed-step b (λ k. note b kind (bytes k) k) r m (changed-onBoard b {R = λ x y. y ≡ f x} f (r .bank) refl))
@@ -184,31 +173,21 @@ pub record Saving (x y : Board) : Type 0 where
   pub working : y .working ≡ x .working
   pub selected : y .stable .selected ≡ x .stable .selected
 
-saving-refl : (x : Board) → Saving x x
-saving-refl x = record { state = refl; working = refl; selected = refl }
+saving-spare : (f : Area → Area) (x y : Board) → Saving x y → Saving x (burnt (onSpare f y))
+unfolding onSpare
+saving-spare f x y s =
+    let z : Board = onSpare f y in
+    record {
+      state = burnt-state z ∙ s .state;
+      working = burnt-working z ∙ s .working;
+      selected = ap (λ (t : Stable). t .selected) (burnt-stable z) ∙ s .selected;
+    }
 
-saving-trans : (x y z : Board) → Saving x y → Saving y z → Saving x z
-saving-trans x y z p q =
-    record { state = q .state ∙ p .state; working = q .working ∙ p .working; selected = q .selected ∙ p .selected }
-
-saving-burnt : (x : Board) → Saving x (burnt x)
-saving-burnt x = record { state = burnt-state x; working = burnt-working x; selected = ap (λ (t : Stable). t .selected) (burnt-stable x) }
-
-saving-storedFrame : (p : ℕ) (x : Board) → Saving x (storedFrame p x)
-unfolding storedFrame onSpare
-saving-storedFrame p x = record { state = refl; working = refl; selected = refl }
-
-pub storeFrames-changed : (p n b : ℕ) (r : Run) → storeFrames p n b r .lost ≡ none → Changed b Saving (r .bank) (storeFrames p n b r .bank)
-unfolding storeFrames
-storeFrames-changed p zero b r e = changed-refl b saving-refl (r .bank)
-storeFrames-changed p (suc n) b r e =
-    let s : Run = store b (storedFrame p) r in
-    let x : Board = boardAt (r .bank) b in
-    let y : Board = storedFrame p x in
-    let m : s .lost ≡ none = follows-none (follows-storeFrames {By = λ c. c ≡ b} (suc p) n b s refl) e in
-    changed-trans b saving-trans
-    (changed-store b (storedFrame p) r m (saving-trans x y (burnt y) (saving-storedFrame p x) (saving-burnt y)))
-    (storeFrames-changed (suc p) n b s e)
+saving-spareStores : (pages : ℕ) (x : Board) → Saving x (afterStores (spareStores pages) x)
+unfolding afterStores storedFrame storedHead
+saving-spareStores pages x =
+    foldl-keeps (Saving x) _ (spareStores pages) (each-spareStores (λ p y. saving-spare _ x y) (λ y. saving-spare _ x y) pages) x
+    (record { state = refl; working = refl; selected = refl })
 
 -- after the head: besides, the spare area has the number and no record
 pub record Headed (x y : Board) : Type 0 where
@@ -216,30 +195,24 @@ pub record Headed (x y : Board) : Type 0 where
   pub number : y .stable .spare .number ≡ x .working .number
   pub records : y .stable .spare .log .records ≡ []
 
-headed-burnt : (x : Board) → Headed x (burnt (storedHead x))
+-- the frames, then the head
+pub after-spareStores : (pages : ℕ) (x : Board) → afterStores (spareStores pages) x ≡ burnt (storedHead (afterStores (tabulate pages storedFrame) x))
+unfolding spareStores afterStores
+after-spareStores pages x = foldl-append (λ y f. burnt (f y)) x (tabulate pages storedFrame) (storedHead ∷ [])
+
+pub headed-spareStores : (pages : ℕ) (x : Board) → Headed x (afterStores (spareStores pages) x)
 unfolding storedHead onSpare
-headed-burnt x =
+headed-spareStores pages x =
+    let z : Board = storedHead (afterStores (tabulate pages storedFrame) x) in
+    let e : afterStores (spareStores pages) x ≡ burnt z = after-spareStores pages x in
+    let s : Saving x (afterStores (spareStores pages) x) = saving-spareStores pages x in
+    let t : afterStores (spareStores pages) x .stable ≡ z .stable = ap (λ (y : Board). y .stable) e ∙ burnt-stable z in
+    let w : z .working ≡ x .working = sym (ap (λ (y : Board). y .working) e ∙ burnt-working z) ∙ s .working in
     record {
-      saving = saving-trans x (storedHead x) (burnt (storedHead x)) (record { state = refl; working = refl; selected = refl }) (saving-burnt (storedHead x));
-      number = ap (λ (t : Stable). t .spare .number) (burnt-stable (storedHead x));
-      records = ap (λ (t : Stable). t .spare .log .records) (burnt-stable (storedHead x));
+      saving = s;
+      number = ap (λ (u : Stable). u .spare .number) t ∙ ap (λ (v : Working). v .number) w;
+      records = ap (λ (u : Stable). u .spare .log .records) t;
     }
-
-saving-headed : (x y z : Board) → Saving x y → Headed y z → Headed x z
-saving-headed x y z p q =
-    record {
-      saving = saving-trans x y z p (q .saving);
-      number = q .number ∙ ap (λ (w : Working). w .number) (p .working);
-      records = q .records;
-    }
-
--- the stores of a checkpoint up to the selector
-pub storedHead-changed : (p n b : ℕ) (r : Run) → store b storedHead (storeFrames p n b r) .lost ≡ none
-    → Changed b Headed (r .bank) (store b storedHead (storeFrames p n b r) .bank)
-storedHead-changed p n b r e =
-    let s : Run = storeFrames p n b r in
-    let m : s .lost ≡ none = follows-none (follows-store {By = λ c. c ≡ b} b storedHead s refl) e in
-    changed-trans b saving-headed (storeFrames-changed p n b r m) (changed-store b storedHead s e (headed-burnt (boardAt (s .bank) b)))
 
 -- after the whole checkpoint
 pub record Checkpointed (x y : Board) : Type 0 where
@@ -263,20 +236,17 @@ headed-checkpointed x y z h e =
 
 -- a checkpoint that isn't lost lost none of its stores
 pub checkpoint-changed : (b : ℕ) (r : Run) → checkpoint b r .lost ≡ none → Changed b Checkpointed (r .bank) (checkpoint b r .bank)
-unfolding checkpoint
+unfolding checkpoint checkpointStores afterStores
 checkpoint-changed b r e =
-    let r₁ : Run = storeFrames 0 (length (r .bank .directory)) b r in
-    let r₂ : Run = store b storedHead r₁ in
-    let r₃ : Run = store b storedSelector r₂ in
-    let n₃ : r₃ .lost ≡ none =
-    follows-none (follows-step {By = λ c. c ≡ b} (onBoard b (onWorking restedWorking)) r₃ (sizes-onBoard b (onWorking restedWorking) (r₃ .bank))) e in
-    let n₂ : r₂ .lost ≡ none = follows-none (follows-store {By = λ c. c ≡ b} b storedSelector r₂ refl) n₃ in
-    let headed : Changed b Headed (r .bank) (r₂ .bank) = storedHead-changed 0 (length (r .bank .directory)) b r n₂ in
-    let selected : Changed b (λ x y. y ≡ burnt (storedSelector x)) (r₂ .bank) (r₃ .bank) = changed-store b storedSelector r₂ n₃ refl in
-    let rested : Changed b (λ x y. y ≡ onWorking restedWorking x) (r₃ .bank) (checkpoint b r .bank) =
-    changed-step b (onBoard b (onWorking restedWorking)) r₃ e (changed-onBoard b (onWorking restedWorking) (r₃ .bank) refl) in
-    changed-trans b headed-checkpointed headed
-    (changed-trans b (λ x y z p q. q ∙ ap (onWorking restedWorking) p) selected rested)
+    let pages : ℕ = length (r .bank .directory) in
+    let f : Board → Board = onWorking restedWorking in
+    let s : Run = storeAll b (checkpointStores pages) r in
+    changed-trans b
+    (λ x y z p q.
+    headed-checkpointed x (afterStores (spareStores pages) x) z (headed-spareStores pages x)
+    (q ∙ ap f (p ∙ foldl-append (λ y f. burnt (f y)) x (spareStores pages) (storedSelector ∷ []))))
+    (changed-storeAll b (checkpointStores pages) r (step-none (onBoard b f) s e))
+    (changed-step b (onBoard b f) s e (changed-onBoard b {R = λ y z. z ≡ f y} f (s .bank) refl))
 
 -- ---- the end of a replay
 
@@ -290,7 +260,7 @@ unfolding endReplay settle
 endReplay-changed b r e =
     let f : Board → Board = settled (λ p. eqb (entryAt (r .bank) p .owner) b) in
     let s : Run = step (settle b) r in
-    let n : s .lost ≡ none = follows-none (follows-checkpoint {By = λ c. c ≡ b} b s refl) e in
+    let n : s .lost ≡ none = follows-none (follows-checkpoint b s) e in
     changed-trans b (λ x y z p q. rw p at q)
     (changed-step b (settle b) r n (changed-onBoard b {R = λ x y. y ≡ f x} f (r .bank) refl))
     (checkpoint-changed b s e)

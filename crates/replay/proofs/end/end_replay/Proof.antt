@@ -1,11 +1,11 @@
 -- `replay::end::end_replay` meets its contract: the rights settled, then a checkpoint. Assumes nothing.
-use Rattle.replay.specs.Settle.{settled-fields}
 use Rattle.steps.specs.BlockLaws.{board-written, block-written}
 use Rattle.steps.specs.Blocks.{boardOf}
 use Rattle.model.specs.Definitions.Replay.{settled}
 use Rattle.model.specs.Definitions.WellFormed.{FieldsOk}
 use Rattle.model.specs.Definitions.Bank.{Board}
 use Rattle.model.specs.Definitions.Parts.{member}
+use Rattle.model.specs.Laws.BoardFields.{settled-fields}
 use borrow.Author.Needs.{needs}
 use Rattle.replay.proofs.end.end_replay.Statement.{statement}
 use Rattle.replay.proofs.end.end_replay.Tie as tie

@@ -4,7 +4,7 @@ use borrow.Author.Needs.{needs}
 use Rattle.model.specs.Definitions.Bank.{Board}
 use Rattle.model.specs.Definitions.Codec.{encodeBoard}
 use Rattle.model.specs.Definitions.Replay.{usedUp}
-use Rattle.model.specs.Laws.BlockReplay.{loaded-fields}
+use Rattle.model.specs.Laws.BoardFields.{loaded-fields}
 use Rattle.steps.specs.BlockLaws.{board-written, block-written}
 use Rattle.steps.specs.Blocks.{boardOf}
 use Rattle.replay.proofs.restart.begin_replay.Statement.{statement}

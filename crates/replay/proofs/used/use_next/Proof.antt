@@ -15,7 +15,7 @@ use Rattle.model.specs.Definitions.Layout.{slotCount}
 use Rattle.model.specs.Definitions.Bank.{Board, onWorking}
 use Rattle.model.specs.Definitions.Codec.{pageOf, encodeBoard}
 use Rattle.model.specs.Definitions.WellFormed.{RecordOk, isGot}
-use Rattle.model.specs.Laws.Keeps.Stores.{frameOk-empty}
+use Rattle.model.specs.Laws.Valid.{frameOk-empty}
 use Rattle.steps.specs.Blocks.{boardOf}
 use Rattle.steps.specs.Selected.{stored-most}
 use Rattle.replay.specs.Contracts.{framesAfter, ready}

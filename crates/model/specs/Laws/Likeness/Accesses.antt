@@ -1,0 +1,279 @@
+-- Every access of a board keeps banks alike and answers alike: the moves that it makes one after the other, its refusals, its value. Assumes nothing.
+use mathlib.Core.Path.{_≡_, refl, ap, _∙_, fun-ext}
+use Prim.Native.Nat.{ℕ}
+use mathlib.Core.Bool.{Bool, _&&_, not}
+use mathlib.Core.Option.{Option}
+use mathlib.Core.List.{List, map}
+use lib.ListN.{length, replicate, getD, List·getD-map}
+use lib.Dec.{ltb}
+use Rattle.types.specs.declared.Frame.{Frame}
+use Rattle.types.specs.declared.Right.{Right}
+use Rattle.types.specs.declared.CopyOrOwn.{CopyOrOwn}
+use Rattle.types.specs.declared.CopyOrOwn.the-variants.{GotCopy, GotOwn}
+use Rattle.types.specs.declared.Kind.{Kind}
+use Rattle.types.specs.declared.Kind.the-variants.{Got, Shown, Dropped}
+use Rattle.types.specs.declared.Answer.{Answer}
+use Rattle.types.specs.declared.Answer.the-variants.{Done, OwnerNotUp, LogFull, PowerLost}
+use Rattle.model.specs.Definitions.Layout.{byteValues}
+use Rattle.model.specs.Definitions.Bank.{Entry, Board, Bank, boardAt, frameAt, onBoard}
+use Rattle.model.specs.Definitions.WellFormed.{isUp, isDown, isReplaying}
+use Rattle.model.specs.Definitions.Steps.{Run, start, storeAll, storedRecord, recordStores, flush, spareStores, checkpoint, Access, Read, Write, Cell}
+use Rattle.model.specs.Definitions.Steps.{pageNamed, lacks, takes, cellsRead, cellByte, valueOf, giver, show, readFetch, writeFetch, fetch}
+use Rattle.model.specs.Definitions.Replay.{lacking, needsGot, differs, tookDue, replayOver, endReplay, endIfOver}
+use Rattle.model.specs.Definitions.Calls.{Result, firstOf, unless, finished, copiesOut, fetchNeed, dropNeed, lackingOf, need, short, shortBoard, isSome}
+use Rattle.model.specs.Definitions.Calls.{numberIn, liveRefusals, prepared, performed, live, liveAfterEnd, replaying, accessInRange, countersFull}
+use Rattle.model.specs.Definitions.Calls.{refusalsWithin, accessWithin}
+use Rattle.model.specs.Moves.{NoteShown, NoteGot, StoreRecord, StoreFrame, StoreHead, StoreSelector, GiveCopy, PassOwnership, DropCopies, Perform, Settle}
+use Rattle.model.specs.Moves.{does}
+use Rattle.model.specs.Likeness.{EachPair, pairs-nil, pairs-cons, RecordAlike, FramesAlike, BoardAlike, Alike, RunAlike, mappedAccess, mapped}
+use Rattle.model.specs.Likeness.{mappedValue, onValue, ResultAlike}
+use Rattle.model.specs.Laws.Lists.{foldl-both, each-replicate}
+use Rattle.model.specs.Laws.Runs.{each-spareStores, checkpoint-selector}
+use Rattle.model.specs.Laws.Likeness.{Perhaps, neither, both, perhaps-same, casesBoth, optionsBoth, pairs-length, alike-frameAt, alike-boardAt}
+use Rattle.model.specs.Laws.Likeness.{alike-entryAt, alike-onBoard}
+use Rattle.model.specs.Laws.Likeness.Moves.{samePage, alike-due, alike-tookDue, alike-replayed, moves-alike}
+
+-- ==== several moves
+
+module _ (f : ℕ → ℕ) where
+  pub alike-start : {k j : Bank} → Alike f k j → RunAlike f (start k) (start j)
+  unfolding start
+  alike-start e = record { bank = e; stores = refl; lost = refl }
+
+  sameGiver : (p : ℕ) {k j : Bank} → Alike f k j → giver j p ≡ giver k p
+  unfolding giver
+  sameGiver p e = ap (λ (x : Entry). x .owner) (alike-entryAt f p e)
+
+  sameOver : {x y : Board} → BoardAlike f x y → replayOver y ≡ replayOver x
+  unfolding replayOver
+  sameOver e = rw (pairs-length (RecordAlike f) (e .stable .selected .log .records), e .working .place)
+
+module _ (f : ℕ → ℕ) (z : f 0 ≡ 0) where
+  alike-flush : (b : ℕ) {r s : Run} → RunAlike f r s → RunAlike f (flush b r) (flush b s)
+  unfolding flush storeAll recordStores does mapped
+  alike-flush b {r} {s} e =
+      let n : ℕ = length (boardAt (r .bank) b .working .log .records) in
+      let i : length (boardAt (s .bank) b .working .log .records) ≡ n = pairs-length (RecordAlike f) (alike-boardAt f b (e .bank) .working .log .records) in
+      rw i (foldl-both (RunAlike f) _ (replicate n storedRecord) (each-replicate n storedRecord (λ r s d. moves-alike f z (StoreRecord b) d)) r s e)
+
+  pub alike-checkpoint : (b : ℕ) {r s : Run} → RunAlike f r s → RunAlike f (checkpoint b r) (checkpoint b s)
+  unfolding storeAll does mapped
+  alike-checkpoint b {r} {s} e =
+      let n : ℕ = length (r .bank .directory) in
+      let i : length (s .bank .directory) ≡ n = ap length (e .bank .directory) in
+      let h : RunAlike f (storeAll b (spareStores n) r) (storeAll b (spareStores n) s) =
+      foldl-both (RunAlike f) _ (spareStores n)
+      (each-spareStores (λ p r s d. moves-alike f z (StoreFrame b p) d) (λ r s d. moves-alike f z (StoreHead b) d) n) r s e in
+      rw (checkpoint-selector b r, checkpoint-selector b s, i) (moves-alike f z (StoreSelector b) h)
+
+  alike-show : (o p : ℕ) {r s : Run} → RunAlike f r s → RunAlike f (show o p r) (show o p s)
+  unfolding show does mapped
+  alike-show o p e = alike-flush o (moves-alike f z (NoteShown o p) e)
+
+  alike-fetch : (g : CopyOrOwn) (b p : ℕ) {r s : Run} → RunAlike f r s → RunAlike f (fetch g b p r) (fetch g b p s)
+  unfolding fetch readFetch writeFetch does mapped
+  alike-fetch GotCopy b p {r} e =
+      let o : ℕ = giver (r .bank) p in
+      rw (sameGiver f p (e .bank)) (moves-alike f z (GiveCopy o b p) (alike-show o p e))
+  alike-fetch GotOwn b p {r} e =
+      let o : ℕ = giver (r .bank) p in
+      rw (sameGiver f p (e .bank))
+      (moves-alike f z (PassOwnership o b p) (alike-flush b (moves-alike f z (NoteGot b o p) (alike-show o p e))))
+
+  alike-endReplay : (b : ℕ) {r s : Run} → RunAlike f r s → RunAlike f (endReplay b r) (endReplay b s)
+  unfolding endReplay does mapped
+  alike-endReplay b e = alike-checkpoint b (moves-alike f z (Settle b) e)
+
+  pub alike-endIfOver : (b : ℕ) {r s : Run} → RunAlike f r s → RunAlike f (endIfOver b r) (endIfOver b s)
+  unfolding endIfOver
+  alike-endIfOver b e = casesBoth (RunAlike f) (sameOver f (alike-boardAt f b (e .bank))) (alike-endReplay b e) e
+
+-- ==== results
+
+sameAnd : {s t u v : Bool} → u ≡ s → v ≡ t → (u && v) ≡ (s && t)
+sameAnd p q = rw (p, q)
+
+module _ (g : ℕ → ℕ) where
+  -- a row of the table of codes: the same test, the same refusal
+  abbrev RowAlike : Bool × Answer → Bool × Answer → Type 0
+  RowAlike t u = (u .0 ≡ t .0) × (u .1 ≡ onValue g (t .1))
+
+  alike-firstOf : {ts us : List (Bool × Answer)} → EachPair RowAlike ts us → Perhaps (λ x y. y ≡ onValue g x) (firstOf ts) (firstOf us)
+  unfolding firstOf
+  alike-firstOf pairs-nil = neither
+  alike-firstOf (pairs-cons i is) = casesBoth (Perhaps (λ x y. y ≡ onValue g x)) (i .0) (both (i .1)) (alike-firstOf is)
+
+module _ (f g : ℕ → ℕ) where
+  pub alike-unless : {ts us : List (Bool × Answer)} {r s : Run} {x y : Result} → EachPair (RowAlike g) ts us → RunAlike f r s → ResultAlike f g x y
+      → ResultAlike f g (unless ts r x) (unless us s y)
+  unfolding unless
+  alike-unless is e q = optionsBoth (ResultAlike f g) (λ x y. y ≡ onValue g x) (alike-firstOf g is) q (λ x y i. record { answer = i; run = e })
+
+  pub alike-finished : {v w : ℕ} {r s : Run} → w ≡ g v → RunAlike f r s → ResultAlike f g (finished v r) (finished w s)
+  unfolding finished onValue
+  alike-finished i e =
+      optionsBoth (ResultAlike f g) (λ x y. y ≡ x) (perhaps-same (e .lost))
+      (record { answer = ap Done i; run = e })
+      (λ b c o. record { answer = ap PowerLost o; run = e })
+
+-- ==== an access of an up board
+
+-- what is asked of an access but for the byte that it writes
+module _ (f : ℕ → ℕ) where
+  sameTakes : (a : Access) → takes (mappedAccess f a) ≡ takes a
+  unfolding takes mappedAccess
+  sameTakes (Read p o) = refl
+  sameTakes (Write p o v) = refl
+
+  sameLacks : (a : Access) (r : Right) → lacks (mappedAccess f a) r ≡ lacks a r
+  unfolding lacks mappedAccess
+  sameLacks (Read p o) r = refl
+  sameLacks (Write p o v) r = refl
+
+module _ (f : ℕ → ℕ) (z : f 0 ≡ 0) (a : Access) where
+  sameLacking : {fs gs : List Frame} → FramesAlike f fs gs → lacking (mappedAccess f a) gs ≡ lacking a fs
+  unfolding lacking
+  sameLacking e = rw (samePage f a, alike-frameAt f z (pageNamed a) e .right) (sameLacks f a _)
+
+  sameLackingOf : (b : ℕ) {k j : Bank} → Alike f k j → lackingOf b (mappedAccess f a) j ≡ lackingOf b a k
+  unfolding lackingOf
+  sameLackingOf b e = sameLacking (alike-boardAt f b e .working .frames)
+
+module _ (f : ℕ → ℕ) (z : f 0 ≡ 0) where
+  sameByte : (c : Cell) {fs gs : List Frame} → FramesAlike f fs gs → cellByte gs c ≡ f (cellByte fs c)
+  unfolding cellByte
+  sameByte c {fs} e =
+      let l : List ℕ = frameAt fs (c .page) .bytes in
+      let i : getD (map f l) (c .offset) 0 ≡ getD (map f l) (c .offset) (f 0) = rw z in
+      ap (λ (m : List ℕ). getD m (c .offset) 0) (alike-frameAt f z (c .page) e .bytes) ∙ i ∙ List·getD-map f l (c .offset) 0
+
+  -- the byte read, or 0
+  sameValue : (a : Access) {fs gs : List Frame} → FramesAlike f fs gs → valueOf (mappedAccess f a) gs ≡ mappedValue f a (valueOf a fs)
+  unfolding valueOf cellsRead mappedAccess mappedValue
+  sameValue (Read p o) e = sameByte (record { page = p; offset = o }) e
+  sameValue (Write p o v) e = refl
+
+sameCopiesOut : (f : ℕ → ℕ) (a : Access) {k j : Bank} → Alike f k j → copiesOut (mappedAccess f a) j ≡ copiesOut a k
+unfolding copiesOut mappedAccess
+sameCopiesOut f (Read p o) e = refl
+sameCopiesOut f (Write p o v) e = rw (alike-entryAt f p e)
+
+sameFetchNeed : (f : ℕ → ℕ) (g : CopyOrOwn) (b o p c : ℕ) {k j : Bank} → Alike f k j → fetchNeed g j b o p c ≡ fetchNeed g k b o p c
+unfolding fetchNeed
+sameFetchNeed f GotCopy b o p c e = refl
+sameFetchNeed f GotOwn b o p c e = cc (alike-entryAt f p e)
+
+module _ (f : ℕ → ℕ) (z : f 0 ≡ 0) (b : ℕ) (a : Access) {k j : Bank} (e : Alike f k j) where
+  sameDropNeed : (c : ℕ) → dropNeed (mappedAccess f a) j c ≡ dropNeed a k c
+  unfolding dropNeed
+  sameDropNeed c = cc (samePage f a, sameCopiesOut f a e, alike-entryAt f (pageNamed a) e)
+
+  sameNeed : (c : ℕ) → need b (mappedAccess f a) j c ≡ need b a k c
+  unfolding need
+  sameNeed c =
+      casesBoth (λ m n. n ≡ m) (sameLackingOf f z a b e)
+      (rw (samePage f a, sameTakes f a, sameGiver f (pageNamed a) e) (sameFetchNeed f (takes a) b (giver k (pageNamed a)) (pageNamed a) c e))
+      (sameDropNeed c)
+
+  sameShort : (c : ℕ) → short b (mappedAccess f a) j c ≡ short b a k c
+  unfolding short
+  sameShort c =
+      let x : BoardAlike f (boardAt k c) (boardAt j c) = alike-boardAt f c e in
+      rw
+      (pairs-length (RecordAlike f) (x .stable .selected .log .records), pairs-length (RecordAlike f) (x .working .log .records), sameNeed c)
+
+  sameShortBoard : shortBoard b (mappedAccess f a) j ≡ shortBoard b a k
+  unfolding shortBoard
+  sameShortBoard = rw (pairs-length (BoardAlike f) (e .boards), fun-ext sameShort)
+
+  rows-live : EachPair (RowAlike (mappedValue f a)) (liveRefusals b a k) (liveRefusals b (mappedAccess f a) j)
+  unfolding liveRefusals onValue
+  rows-live =
+      let o : giver j (pageNamed (mappedAccess f a)) ≡ giver k (pageNamed a) = rw (samePage f a) (sameGiver f (pageNamed a) e) in
+      let up : isUp (boardAt j (giver j (pageNamed (mappedAccess f a))) .state) ≡ isUp (boardAt k (giver k (pageNamed a)) .state) =
+      rw o (ap isUp (alike-boardAt f (giver k (pageNamed a)) e .state)) in
+      pairs-cons (sameAnd (sameLackingOf f z a b e) (ap not up), ap OwnerNotUp o)
+      (pairs-cons (ap isSome sameShortBoard, ap (λ (m : Option ℕ). LogFull (numberIn m)) sameShortBoard) pairs-nil)
+
+sameInRange : (f : ℕ → ℕ) → ((v : ℕ) → ltb (f v) byteValues ≡ ltb v byteValues) → (b : ℕ) (a : Access) {k j : Bank} → Alike f k j
+    → accessInRange b (mappedAccess f a) j ≡ accessInRange b a k
+unfolding accessInRange mappedAccess
+sameInRange f bytes b (Read p o) e = rw (pairs-length (BoardAlike f) (e .boards), e .directory)
+sameInRange f bytes b (Write p o v) e = rw (pairs-length (BoardAlike f) (e .boards), e .directory, bytes v)
+
+module _ (f : ℕ → ℕ) (z : f 0 ≡ 0) (b : ℕ) (a : Access) where
+  alike-prepared : {r s : Run} → RunAlike f r s → RunAlike f (prepared b a r) (prepared b (mappedAccess f a) s)
+  unfolding prepared does mapped
+  alike-prepared e =
+      casesBoth (RunAlike f) (sameLackingOf f z a b (e .bank))
+      (rw (sameTakes f a, samePage f a) (alike-fetch f z (takes a) b (pageNamed a) e))
+      (casesBoth (RunAlike f) (sameCopiesOut f a (e .bank))
+      (rw (samePage f a) (moves-alike f z (DropCopies (pageNamed a)) e))
+      e)
+
+  alike-performed : {r s : Run} → RunAlike f r s → ResultAlike f (mappedValue f a) (performed b a r) (performed b (mappedAccess f a) s)
+  unfolding performed does mapped
+  alike-performed e =
+      alike-finished f (mappedValue f a) (sameValue f z a (alike-boardAt f b (e .bank) .working .frames)) (moves-alike f z (Perform b a) e)
+
+  alike-live : {r s : Run} → RunAlike f r s → ResultAlike f (mappedValue f a) (live b a r) (live b (mappedAccess f a) s)
+  unfolding live
+  alike-live e = alike-unless f (mappedValue f a) (rows-live f z b a (e .bank)) e (alike-performed (alike-prepared e))
+
+  alike-liveAfterEnd : {r s : Run} → RunAlike f r s → ResultAlike f (mappedValue f a) (liveAfterEnd b a r) (liveAfterEnd b (mappedAccess f a) s)
+  unfolding liveAfterEnd onValue
+  alike-liveAfterEnd e =
+      optionsBoth (ResultAlike f (mappedValue f a)) (λ x y. y ≡ x) (perhaps-same (e .lost))
+      (alike-live e)
+      (λ c d o. record { answer = ap PowerLost o; run = e })
+
+  -- ==== an access of a replaying board
+
+  alike-replaying : {k j : Bank} → Alike f k j → ResultAlike f (mappedValue f a) (replaying b a k) (replaying b (mappedAccess f a) j)
+  unfolding replaying
+  alike-replaying {k} {j} e =
+      let q : Alike f (onBoard b (tookDue a) k) (onBoard b (tookDue (mappedAccess f a)) j) = alike-onBoard f b (alike-tookDue f z a) k j e in
+      casesBoth (ResultAlike f (mappedValue f a)) (sameOver f (alike-boardAt f b q))
+      (alike-liveAfterEnd (alike-endReplay f z b (alike-start f q)))
+      (alike-finished f (mappedValue f a) (sameValue f z a (alike-boardAt f b q .working .frames))
+      (alike-endIfOver f z b (alike-start f (alike-onBoard f b (alike-replayed f z a) _ _ q))))
+
+  -- ==== an access
+
+  sameNeedsGot : {fs gs : List Frame} {m n : Kind} → FramesAlike f fs gs → n ≡ m → needsGot (mappedAccess f a) gs n ≡ needsGot a fs m
+  unfolding needsGot
+  sameNeedsGot {m = m} e i =
+      rw i
+      (elim m [ Got g p ↦ rw (samePage f a, sameTakes f a, sameLacking f z a e) | Shown p ↦ refl | Dropped p ↦ refl ])
+
+  sameDiffers : {x y : Board} → BoardAlike f x y → differs (mappedAccess f a) y ≡ differs a x
+  unfolding differs
+  sameDiffers e =
+      optionsBoth (λ s t. t ≡ s) (RecordAlike f) (alike-due f z e)
+      (sameLacking f z a (e .working .frames))
+      (λ r s i. ap not (sameNeedsGot (e .working .frames) (i .kind)))
+
+  sameFull : (largest : ℕ) {x y : Board} → BoardAlike f x y → countersFull largest y ≡ countersFull largest x
+  unfolding countersFull
+  sameFull largest e = rw (e .working .since, e .working .number)
+
+  module _ (bytes : (v : ℕ) → ltb (f v) byteValues ≡ ltb v byteValues) (largest : ℕ) where
+    rows-access : {k j : Bank} → Alike f k j
+        → EachPair (RowAlike (mappedValue f a)) (refusalsWithin largest b a k) (refusalsWithin largest b (mappedAccess f a) j)
+    unfolding refusalsWithin onValue
+    rows-access {k} {j} e =
+        let x : BoardAlike f (boardAt k b) (boardAt j b) = alike-boardAt f b e in
+        pairs-cons (ap not (sameInRange f bytes b a e), refl)
+        (pairs-cons (ap isDown (x .state), refl)
+        (pairs-cons (sameFull largest x, refl)
+        (pairs-cons (sameAnd (ap isReplaying (x .state)) (sameDiffers x), refl)
+        pairs-nil)))
+
+    pub alike-accessWithin : {k j : Bank} → Alike f k j
+        → ResultAlike f (mappedValue f a) (accessWithin largest b a k) (accessWithin largest b (mappedAccess f a) j)
+    unfolding accessWithin
+    alike-accessWithin e =
+        alike-unless f (mappedValue f a) (rows-access e) (alike-start f e)
+        (casesBoth (ResultAlike f (mappedValue f a)) (ap isReplaying (alike-boardAt f b e .state))
+        (alike-replaying e)
+        (alike-live (alike-start f e)))

@@ -1,0 +1,69 @@
+-- Every call keeps banks alike and answers alike. Premises: f keeps 0, and a byte a byte and what is no byte no byte, because code 2 tests a written value;
+-- nothing else is asked of a byte. Assumes nothing.
+use mathlib.Core.Path.{_≡_, refl, ap}
+use Prim.Native.Nat.{ℕ}
+use mathlib.Core.Bool.{Bool, _&&_, not}
+use lib.ListN.{length}
+use lib.Dec.{ltb}
+use Rattle.types.specs.declared.State.{State}
+use Rattle.model.specs.Definitions.Layout.{byteValues, noFuse}
+use Rattle.model.specs.Definitions.Bank.{Bank}
+use Rattle.model.specs.Definitions.WellFormed.{isUp, isDown}
+use Rattle.model.specs.Definitions.Steps.{Run, start}
+use mathlib.Core.List.{[], _∷_}
+use Rattle.types.specs.declared.Answer.the-variants.{OutOfRange, WrongState}
+use Rattle.model.specs.Definitions.Calls.{unless, finished, checkpointBank, cutBank, fuseBank, restartBank, Call, Accessing, Checkpointing, Cutting}
+use Rattle.model.specs.Definitions.Calls.{Fusing, Restarting, callWithin}
+use Rattle.model.specs.Moves.{LosePower, SetFuse, does}
+use Rattle.model.specs.Likeness.{pairs-nil, pairs-cons, BoardAlike, Alike, mappedAccess, mapped, mappedCall, mappedValue, mappedCallValue, onValue}
+use Rattle.model.specs.Likeness.{RunAlike, ResultAlike}
+use Rattle.model.specs.Laws.Likeness.{pairs-length, alike-boardAt, alike-onBoard}
+use Rattle.model.specs.Laws.Likeness.Moves.{alike-load, moves-alike}
+use Rattle.model.specs.Laws.Likeness.Accesses.{alike-checkpoint, alike-endIfOver, alike-start, alike-unless, alike-finished, alike-accessWithin}
+
+module _ (f : ℕ → ℕ) (z : f 0 ≡ 0) where
+  -- the board that a call names is there on both sides or on neither
+  sameThere : (b : ℕ) {k j : Bank} → Alike f k j → ltb b (length (j .boards)) ≡ ltb b (length (k .boards))
+  sameThere b e = ap (λ (n : ℕ). ltb b n) (pairs-length (BoardAlike f) (e .boards))
+
+  -- a call that refuses by its numbers and by the state of its board, and answers a number that is no page byte
+  alike-tested : (b : ℕ) {t u v w : Bool} {m n : ℕ} {k j : Bank} {r s : Run} → v ≡ t → w ≡ u → n ≡ m → Alike f k j → RunAlike f r s
+      → ResultAlike f (λ x. x) (unless ((t, OutOfRange) ∷ (u, WrongState b) ∷ []) (start k) (finished m r))
+      (unless ((v, OutOfRange) ∷ (w, WrongState b) ∷ []) (start j) (finished n s))
+  unfolding onValue
+  alike-tested b range state value e q =
+      alike-unless f (λ x. x) (pairs-cons (range, refl) (pairs-cons (state, refl) pairs-nil)) (alike-start f e) (alike-finished f (λ x. x) value q)
+
+  alike-checkpointBank : (b : ℕ) {k j : Bank} → Alike f k j → ResultAlike f (λ x. x) (checkpointBank b k) (checkpointBank b j)
+  unfolding checkpointBank
+  alike-checkpointBank b e =
+      alike-tested b (ap not (sameThere b e)) (ap (λ (s : State). not (isUp s)) (alike-boardAt f b e .state)) refl e
+      (alike-checkpoint f z b (alike-start f e))
+
+  alike-cutBank : (b : ℕ) {k j : Bank} → Alike f k j → ResultAlike f (λ x. x) (cutBank b k) (cutBank b j)
+  unfolding cutBank does mapped
+  alike-cutBank b e =
+      alike-tested b (ap not (sameThere b e)) (ap isDown (alike-boardAt f b e .state)) refl e (moves-alike f z (LosePower b) (alike-start f e))
+
+  alike-fuseBank : (b n : ℕ) {k j : Bank} → Alike f k j → ResultAlike f (λ x. x) (fuseBank b n k) (fuseBank b n j)
+  unfolding fuseBank does mapped
+  alike-fuseBank b n e =
+      alike-tested b (ap (λ (t : Bool). not (t && (ltb 0 n && ltb n noFuse))) (sameThere b e)) (ap isDown (alike-boardAt f b e .state)) refl e
+      (moves-alike f z (SetFuse b n) (alike-start f e))
+
+  alike-restartBank : (b : ℕ) {k j : Bank} → Alike f k j → ResultAlike f (λ x. x) (restartBank b k) (restartBank b j)
+  unfolding restartBank
+  alike-restartBank b e =
+      let x : BoardAlike f _ _ = alike-boardAt f b e in
+      alike-tested b (ap not (sameThere b e)) (ap (λ (s : State). not (isDown s)) (x .state)) (x .stable .selected .number) e
+      (alike-endIfOver f z b (alike-start f (alike-onBoard f b (alike-load f z) _ _ e)))
+
+  -- whatever the largest since
+  pub calls-alike : ((v : ℕ) → ltb (f v) byteValues ≡ ltb v byteValues) → (largest : ℕ) (c : Call) {k j : Bank} → Alike f k j
+      → ResultAlike f (mappedCallValue f c) (callWithin largest c k) (callWithin largest (mappedCall f c) j)
+  unfolding callWithin mappedCall mappedCallValue mappedAccess mappedValue
+  calls-alike bytes largest (Accessing b a) e = alike-accessWithin f z b a bytes largest e
+  calls-alike bytes largest (Checkpointing b) e = alike-checkpointBank b e
+  calls-alike bytes largest (Cutting b) e = alike-cutBank b e
+  calls-alike bytes largest (Fusing b n) e = alike-fuseBank b n e
+  calls-alike bytes largest (Restarting b) e = alike-restartBank b e

@@ -1,0 +1,107 @@
+-- No call reads a slot at or past a count: likeness with the identity for f, and any bytes written over those slots. Assumes nothing.
+use mathlib.Core.Path.{_≡_, refl, sym, ap, _∙_}
+use Prim.Native.Nat.{ℕ}
+use mathlib.Core.List.{List, map-id}
+use Rattle.types.specs.declared.Answer.{Answer}
+use Rattle.types.specs.declared.Answer.the-variants.{Done, Malformed, OutOfRange, WrongState, CountersFull, ReplayDiffers, OwnerNotUp, LogFull, PowerLost}
+use Rattle.types.specs.declared.Frame.{Frame}
+use Rattle.model.specs.Definitions.Layout.{lastSince}
+use Rattle.model.specs.Definitions.Bank.{Log, Area, Board, Bank}
+use Rattle.model.specs.Definitions.Steps.{Access, Read, Write}
+use Rattle.model.specs.Definitions.Calls.{Call, Accessing, Checkpointing, Cutting, Fusing, Restarting, callWithin, callBank}
+use Rattle.model.specs.Likeness.{FrameAlike, RecordAlike, FramesAlike, LogAlike, AreaAlike, BoardAlike, logOver, areaOver, boardOver, slotsOver}
+use Rattle.model.specs.Likeness.{mappedAccess, mappedValue, mappedCall, mappedCallValue, onValue, ResultAlike, SameBelowCounts, SameAnswer}
+use Rattle.model.specs.Laws.Likeness.{pairs-over, pairs-same}
+use Rattle.model.specs.Laws.Likeness.Calls.{calls-alike}
+
+-- with the identity for f the same is asked, and the same is answered
+mappedAccess-same : (a : Access) → mappedAccess (λ v. v) a ≡ a
+unfolding mappedAccess
+mappedAccess-same (Read p o) = refl
+mappedAccess-same (Write p o v) = refl
+
+mappedValue-same : (a : Access) (v : ℕ) → mappedValue (λ v. v) a v ≡ v
+unfolding mappedValue
+mappedValue-same (Read p o) v = refl
+mappedValue-same (Write p o w) v = refl
+
+mappedCall-same : (c : Call) → mappedCall (λ v. v) c ≡ c
+unfolding mappedCall
+mappedCall-same (Accessing b a) = ap (Accessing b) (mappedAccess-same a)
+mappedCall-same (Checkpointing b) = refl
+mappedCall-same (Cutting b) = refl
+mappedCall-same (Fusing b n) = refl
+mappedCall-same (Restarting b) = refl
+
+mappedCallValue-same : (c : Call) (v : ℕ) → mappedCallValue (λ v. v) c v ≡ v
+unfolding mappedCallValue
+mappedCallValue-same (Accessing b a) v = mappedValue-same a v
+mappedCallValue-same (Checkpointing b) v = refl
+mappedCallValue-same (Cutting b) v = refl
+mappedCallValue-same (Fusing b n) v = refl
+mappedCallValue-same (Restarting b) v = refl
+
+onValue-same : (g : ℕ → ℕ) → ((v : ℕ) → g v ≡ v) → (x : Answer) → onValue g x ≡ x
+unfolding onValue
+onValue-same g i (Done v) = ap Done (i v)
+onValue-same g i Malformed = refl
+onValue-same g i OutOfRange = refl
+onValue-same g i (WrongState b) = refl
+onValue-same g i (CountersFull b) = refl
+onValue-same g i (ReplayDiffers b) = refl
+onValue-same g i (OwnerNotUp b) = refl
+onValue-same g i (LogFull b) = refl
+onValue-same g i (PowerLost b) = refl
+
+-- No call reads a slot at or past a count: two banks that differ only there answer every call alike, and are left differing only there.
+pub unread-slots : (largest : ℕ) (c : Call) {k j : Bank} → SameBelowCounts k j → SameAnswer (callWithin largest c k) (callWithin largest c j)
+unread-slots largest c {k} {j} e =
+    let q : ResultAlike (λ v. v) (mappedCallValue (λ v. v) c) (callWithin largest c k) (callWithin largest c j) =
+    rw (mappedCall-same c) at (calls-alike (λ v. v) refl (λ v. refl) largest c e) in
+    record {
+      answer = q .answer ∙ onValue-same (mappedCallValue (λ v. v) c) (mappedCallValue-same c) (callWithin largest c k .answer);
+      stores = q .run .stores;
+      lost = q .run .lost;
+      bank = q .run .bank;
+    }
+
+-- ---- two such banks: any bytes written over the slots past a count
+
+same-frames : (fs : List Frame) → FramesAlike (λ v. v) fs fs
+same-frames = pairs-same (FrameAlike (λ v. v)) (λ x. record { right = refl; bytes = sym (map-id (x .bytes)) })
+
+same-log : (l : List ℕ) (x : Log) → LogAlike (λ v. v) x (logOver l x)
+unfolding logOver
+same-log l x =
+    record { records = pairs-same (RecordAlike (λ v. v)) (λ r. record { count = refl; kind = refl; bytes = sym (map-id (r .bytes)) }) (x .records) }
+
+same-area : (l : List ℕ) (x : Area) → AreaAlike (λ v. v) x (areaOver l x)
+unfolding areaOver
+same-area l x = record { number = refl; frames = same-frames (x .frames); log = same-log l (x .log) }
+
+same-board : (v s t : List ℕ) (x : Board) → BoardAlike (λ v. v) x (boardOver v s t x)
+unfolding boardOver
+same-board v s t x =
+    record {
+      state = refl;
+      fuse = refl;
+      working =
+          record {
+            number = refl;
+            since = refl;
+            place = refl;
+            frames = same-frames (x .working .frames);
+            log = same-log v (x .working .log);
+          };
+      stable = record { second = refl; selected = same-area s (x .stable .selected); spare = same-area t (x .stable .spare) };
+    }
+
+pub same-slotsOver : (v s t : ℕ → List ℕ) (k : Bank) → SameBelowCounts k (slotsOver v s t k)
+unfolding slotsOver
+same-slotsOver v s t k =
+    record { directory = refl; boards = pairs-over (BoardAlike (λ v. v)) (λ b x. same-board (v b) (s b) (t b) x) (k .boards) }
+
+-- whatever stands in the slots at or past the counts, every call answers the same
+pub slotsOver-unread : (c : Call) (v s t : ℕ → List ℕ) (k : Bank) → SameAnswer (callBank c k) (callBank c (slotsOver v s t k))
+unfolding callBank
+slotsOver-unread c v s t k = unread-slots lastSince c (same-slotsOver v s t k)

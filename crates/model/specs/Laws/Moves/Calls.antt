@@ -1,0 +1,437 @@
+-- Every call of a well-formed bank is a list of moves, cut off after the store that blew a fuse; so it leaves a well-formed bank. Assumes nothing.
+use mathlib.Core.Path.{_≡_, refl, sym, ap, _∙_}
+use mathlib.Core.Logic.{_≢_, _⊎_, inl, inr}
+use Prim.Native.Nat.{ℕ, _<_}
+use native.Mathlib.Omega.{arith}
+use mathlib.Core.Bool.{Bool, true, false, _&&_}
+use mathlib.Core.Option.{none, some}
+use mathlib.Core.List.{List}
+use lib.ListN.{length}
+use lib.Dec.{eqb, ltb}
+use borrow.Author.Tests.{ltb-true, not-false}
+use Rattle.types.specs.declared.Right.{Right}
+use Rattle.types.specs.declared.Right.the-variants.{None, Copy, Own}
+use Rattle.types.specs.declared.CopyOrOwn.{CopyOrOwn}
+use Rattle.types.specs.declared.CopyOrOwn.the-variants.{GotCopy, GotOwn}
+use Rattle.types.specs.declared.Kind.the-variants.{Got}
+use Rattle.types.specs.declared.State.the-variants.{Up, Down, Replaying}
+use Rattle.types.specs.declared.Answer.{Answer}
+use Rattle.types.specs.declared.Answer.the-variants.{Done}
+use Rattle.words.specs.Bytes.{Each, each-nil, each-cons}
+use Rattle.model.specs.Definitions.Layout.{noFuse}
+use Rattle.model.specs.Definitions.Bank.{Entry, Board, Bank, boardAt, entryAt, onBoard, onWorking}
+use Rattle.model.specs.Definitions.WellFormed.{WellFormed, isUp, isReplaying}
+use Rattle.model.specs.Definitions.Steps.{Run, start, step, powerOff, withFuse, checkpoint, Access, Read, Write, pageNamed, lacks, takes, valueOf, access}
+use Rattle.model.specs.Definitions.Steps.{frameOf, note, flush, giver, show, dropCopies, passOwnership, writeFetch, fetch}
+use Rattle.model.specs.Definitions.Replay.{settle, loaded, usedUp, lacking, differs, tookDue, replayOver, settled, endReplay, endIfOver, replayed}
+use Rattle.model.specs.Definitions.Calls.{Result, firstOf, unless, finished, copiesOut, lackingOf, liveRefusals, prepared, performed, live, liveAfterEnd}
+use Rattle.model.specs.Definitions.Calls.{replaying, refusalsWithin, accessRefusals, accessWithin, accessBank, checkpointBank, cutBank, fuseBank}
+use Rattle.model.specs.Definitions.Calls.{restartBank, Call, Accessing, Reply, refused, replyOf, call, Checkpointing, Cutting, Fusing, Restarting}
+use Rattle.model.specs.Definitions.Calls.{callBank}
+use Rattle.model.specs.Definitions.Answers.{code}
+use Rattle.model.specs.Definitions.Codec.{decode}
+use Rattle.model.specs.Definitions.Check.{wellFormed}
+use Rattle.model.specs.Laws.WellFormedTest.{wellFormed-sound, wellFormed-complete}
+use Rattle.model.specs.History.Statement.{Event, Accessed, Nothing, eventOf, doneEvent, accessOf, liveBank, giverIn, gaveIn}
+use Rattle.model.specs.Contracts.{RoomFor, CanAccess, CanFetch, Entered}
+use Rattle.model.specs.Moves.{DropCopies, Perform, LosePower, SetFuse, Load, Repeat, TakeLast, Settle, does, Phase, Begun, Fetched, Replays, Settled}
+use Rattle.model.specs.Moves.{Finished, Selects, checkpoints, resumes, closes, ends, anyone, MayPerform, local, taken, dropsCopies, performs, losesPower}
+use Rattle.model.specs.Moves.{setsFuse, loads, repeatsAccess, takesLast, settles, Moves, still, waits, cutOff}
+use Rattle.model.specs.Laws.Logic.{cases, casesOption, clash, and-left, and-right}
+use Rattle.model.specs.Laws.Boards.{droppedIf, withoutCopies, boards-onBoard, boardAt-same, boardAt-dropCopies, entryAt-dropCopies-same}
+use Rattle.model.specs.Laws.Boards.{entryAt-passOwnership-same, directory-dropCopies, tookDue-state, replayed-state}
+use Rattle.model.specs.Laws.Runs.{step-done, step-none, step-going, follows-fetch, follows-step, SameSizes, sizes-same, sizes-dropCopies}
+use Rattle.model.specs.Laws.Codes.Statement.{boardNamed}
+use Rattle.model.specs.Laws.Keeps.Clauses.{up-below}
+use Rattle.model.specs.Laws.Keeps.Accesses.{takes-enough}
+use Rattle.model.specs.Laws.Keeps.Fetches.{room-shower, room-owner, Taken, fetch-taken, gave-none, gave-changed, got-changed}
+use Rattle.model.specs.Laws.Keeps.Live.{firstOf-none, first-in, isUp-up, isDown-down, isDown-not, isReplaying-replaying, can-fetch, can-drop, writer-none}
+use Rattle.model.specs.Laws.Keeps.Entered.{entered-live, entered, fitting, board-taken, below-taken, live-can}
+use Rattle.model.specs.Laws.Moves.{moves-do}
+use Rattle.model.specs.Laws.Moves.Formed.{FormedIn, FormedRun, run-formed, formed-begun, fetched-formed, finished-formed, moves-formed}
+use Rattle.model.specs.Laws.Moves.Stores.{checkpoint-moves, show-moves}
+use Rattle.model.specs.Laws.Moves.Fetches.{readFetch-moves, writeFetch-moves}
+
+-- ---- rights
+
+-- what a read lacks
+read-none : (p o : ℕ) (r : Right) → lacks (Read p o) r ≡ true → r ≡ None
+unfolding lacks
+read-none p o None h = refl
+read-none p o Copy h = clash h refl
+read-none p o Own h = clash h refl
+
+-- where the page's copy-set is empty no copy is out
+none-out : (a : Access) (k : Bank) → entryAt k (pageNamed a) .copies ≡ 0 → copiesOut a k ≡ false
+unfolding copiesOut pageNamed
+none-out (Read p o) k e = refl
+none-out (Write p o v) k e = rw e
+
+-- ---- results
+
+-- the phase in which a call of bank k with this answer is over: what it feeds to the history
+abbrev pub feeds : Call → Bank → Answer → Phase
+feeds c k x = Finished (eventOf c x) (gaveIn (eventOf c x) k)
+
+-- the run of result t of call c is moves, from run r in phase φ to what its answer feeds
+abbrev MadeBy : ℕ → (Access → Type 0) → Phase → Run → Call → Bank → Result → Type 0
+MadeBy b Again φ r c k t = Moves b Again φ r (feeds c k (t .answer)) (t .run)
+
+-- a call that ran to its end, or lost power
+finished-moves : {b : ℕ} {Again : Access → Type 0} {φ : Phase} {r : Run} (c : Call) (k : Bank) (v : ℕ) (s : Run) → Moves b Again φ r (feeds c k (Done v)) s
+    → MadeBy b Again φ r c k (finished v s)
+unfolding finished
+finished-moves {b} {Again} {φ} {r} c k v s t = casesOption (MadeBy b Again φ r c k) (s .lost) (λ n. t) (λ d e. cutOff t e)
+
+-- a call that refuses feeds nothing
+unless-moves : {b : ℕ} {Again : Access → Type 0} {φ : Phase} {r : Run} (c : Call) (k : Bank) (tests : List (Bool × Answer)) (s : Run) (go : Result)
+    → Each (λ t. eventOf c (t .1) ≡ Nothing) tests → Moves b Again φ r Begun s → (firstOf tests ≡ none → MadeBy b Again φ r c k go)
+    → MadeBy b Again φ r c k (unless tests s go)
+unfolding unless gaveIn
+unless-moves {b} {Again} {φ} {r} c k tests s go quiet t f =
+    casesOption (MadeBy b Again φ r c k) (firstOf tests) f
+    (λ a e. rw (first-in (λ x. eventOf c x ≡ Nothing) tests a quiet e) (ends t))
+
+-- ---- an access
+
+-- A call of bank k that is done feeds access a of board b, and who gives b a page for it can be read in bank `now`, where the access goes on live.
+pub record Makes (c : Call) (k : Bank) (b : ℕ) (a : Access) (now : Bank) : Type 0 where
+  pub event : (v : ℕ) → eventOf c (Done v) ≡ Accessed b a v
+  pub gave : giverIn b a (liveBank b a k) ≡ giverIn b a (some now)
+
+-- an access of a board that isn't replaying gives what it gives in the bank as it is
+pub makes-now : (b : ℕ) (a : Access) (k : Bank) → isReplaying (boardAt k b .state) ≡ false → Makes (Accessing b a) k b a k
+unfolding eventOf doneEvent liveBank
+makes-now b a k t = let live : liveBank b a k ≡ some k = cc in record { event = λ v. refl; gave = ap (giverIn b a) live }
+
+-- the access itself
+performed-moves : {Again : Access → Type 0} {φ χ : Phase} {r : Run} {c : Call} {k now : Bank} (b : ℕ) (a : Access) (s : Run) → Makes c k b a now
+    → MayPerform a (giverIn b a (some now)) χ → Moves b Again φ r χ s
+    → (s .lost ≡ none → CanAccess b a (s .bank)) → (s .lost ≡ none → lackingOf b a (s .bank) ≡ false) → (s .lost ≡ none → copiesOut a (s .bank) ≡ false)
+    → MadeBy b Again φ r c k (performed b a s)
+unfolding performed does gaveIn
+performed-moves {c = c} {k = k} b a s makes i t can has out =
+    let v : ℕ = valueOf a (boardAt (s .bank) b .working .frames) in
+    finished-moves c k v (step (access b a) s)
+    (rw (makes .event v, makes .gave) (moves-do (Perform b a) t (λ e. performs a i (can e) (has e) (out e))))
+
+-- the room that a giver's own record needs
+room-giver : (g : CopyOrOwn) (b p : ℕ) (r : Run) → WellFormed (r .bank) → CanFetch g b p (r .bank) → RoomFor 1 (boardAt (r .bank) (giver (r .bank) p))
+room-giver GotCopy b p r w c = room-shower b p r w c
+room-giver GotOwn b p r w c = omega (arith, room-owner b p r w c)
+
+module _ (b : ℕ) (s : Run) (formed : WellFormed (s .bank)) where
+  fetch-moves : {Again : Access → Type 0} {φ : Phase} {r : Run} (a : Access) → lackingOf b a (s .bank) ≡ true → CanFetch (takes a) b (pageNamed a) (s .bank)
+      → Moves b Again φ r Begun (show (giver (s .bank) (pageNamed a)) (pageNamed a) s)
+      → Moves b Again φ r (Fetched (giver (s .bank) (pageNamed a)) (takes a) (pageNamed a)) (fetch (takes a) b (pageNamed a) s)
+  unfolding takes pageNamed fetch lackingOf lacking frameOf
+  fetch-moves (Read p o) lack c t = readFetch-moves b p s formed c (read-none p o (frameOf (s .bank) b p .right) lack) t
+  fetch-moves (Write p o v) lack c t = writeFetch-moves b p s formed c t
+
+  -- a page that passed has no copies
+  fetched-out : (a : Access) → CanFetch (takes a) b (pageNamed a) (s .bank) → fetch (takes a) b (pageNamed a) s .lost ≡ none
+      → copiesOut a (fetch (takes a) b (pageNamed a) s .bank) ≡ false
+  unfolding takes pageNamed fetch writeFetch copiesOut giver
+  fetched-out (Read p o) c n = refl
+  fetched-out (Write p o v) c n =
+      let from : ℕ = giver (s .bank) p in
+      let noted : Bank → Bank = λ k. note b (Got GotOwn p) (frameOf k from p .bytes) k in
+      let got : Run = flush b (step noted (show from p s)) in
+      let e : got .lost ≡ none = step-none (passOwnership from b p) got n in
+      let l : p < length (got .bank .directory) =
+      rw (got-changed b p s formed c e .directory, gave-changed b p s formed c (gave-none b p s formed c e) .directory) (c .page) in
+      none-out (Write p o v) (writeFetch b p s .bank)
+      (ap (λ (k : Bank). entryAt k p .copies) (step-done (passOwnership from b p) got n)
+      ∙ ap (λ (x : Entry). x .copies) (entryAt-passOwnership-same from b p (got .bank) l))
+
+  module _ (a : Access) {c : Call} {k : Bank} (makes : Makes c k b a (s .bank)) (can : CanAccess b a (s .bank))
+      (passed : firstOf (liveRefusals b a (s .bank)) ≡ none) where
+    abbrev p : ℕ
+    p = pageNamed a
+
+    -- who gives the page that is lacking, if one is
+    lacking-gives : lackingOf b a (s .bank) ≡ true
+        → MayPerform a (giverIn b a (some (s .bank))) (Fetched (giver (s .bank) (pageNamed a)) (takes a) (pageNamed a))
+    unfolding giverIn
+    lacking-gives lack = let e : giverIn b a (some (s .bank)) ≡ some (giver (s .bank) p) = cc in rw e taken
+
+    nobody-gives : lackingOf b a (s .bank) ≡ false → MayPerform a (giverIn b a (some (s .bank))) Begun
+    unfolding giverIn
+    nobody-gives has = let e : giverIn b a (some (s .bank)) ≡ none = cc in rw e local
+
+    -- the fetch and the access, behind the owner's part
+    fetched-moves : {Again : Access → Type 0} {φ : Phase} {r : Run} → lackingOf b a (s .bank) ≡ true
+        → Moves b Again φ r Begun (show (giver (s .bank) (pageNamed a)) (pageNamed a) s)
+        → MadeBy b Again φ r c k (performed b a (fetch (takes a) b (pageNamed a) s))
+    unfolding lackingOf lacking
+    fetched-moves lack t =
+        let f : CanFetch (takes a) b p (s .bank) = can-fetch b a (s .bank) formed can passed lack in
+        let u : Run = fetch (takes a) b p s in
+        let y : u .lost ≡ none → Taken (takes a) p (boardAt (s .bank) b) (boardAt (u .bank) b) = λ n. fetch-taken (takes a) b p s formed f n in
+        let pages : length (u .bank .directory) ≡ length (s .bank .directory) =
+        follows-fetch (takes a) b p s .sizes .pages in
+        performed-moves b a u makes (lacking-gives lack) (fetch-moves a lack f t)
+        (λ n.
+        record {
+          page = rw pages (can .page);
+          values = can .values;
+          up = y n .state;
+          since = rw (y n .since) (omega arith);
+          number = rw (y n .number) (can .number);
+        })
+        (λ n. ap (lacks a) (y n .right) ∙ takes-enough a p)
+        (fetched-out a f)
+
+    module _ {Again : Access → Type 0} {φ : Phase} {r : Run} (t : Moves b Again φ r Begun s) (going : s .lost ≡ none) where
+      -- the copies of an owned page dropped, then the access
+      dropped-moves : lackingOf b a (s .bank) ≡ false → copiesOut a (s .bank) ≡ true
+          → MadeBy b Again φ r c k (performed b a (step (dropCopies p) s))
+      unfolding does lackingOf droppedIf withoutCopies
+      dropped-moves has out =
+          let j : Bank = s .bank in
+          let same : boardAt (dropCopies p j) b ≡ boardAt j b =
+          cc (boardAt-dropCopies p j b (up-below j b (can .up)), writer-none b a j formed can passed has out) in
+          let done : step (dropCopies p) s .bank ≡ dropCopies p j = step-going (dropCopies p) s going in
+          let x : boardAt (step (dropCopies p) s .bank) b ≡ boardAt j b = ap (λ (i : Bank). boardAt i b) done ∙ same in
+          performed-moves b a (step (dropCopies p) s) makes (nobody-gives has)
+          (moves-do (DropCopies p) t (λ n. dropsCopies p (can .page) (can-drop b a j formed can passed has out)))
+          (λ n.
+          record {
+            page = rw (done, directory-dropCopies p j) (can .page);
+            values = can .values;
+            up = rw x (can .up);
+            since = rw x (can .since);
+            number = rw x (can .number);
+          })
+          (λ n. rw x has)
+          (λ n. none-out a (step (dropCopies p) s .bank)
+          (ap (λ (i : Bank). entryAt i p .copies) done ∙ ap (λ (e : Entry). e .copies) (entryAt-dropCopies-same p j (can .page))))
+
+      going-moves : MadeBy b Again φ r c k (performed b a (prepared b a s))
+      unfolding prepared
+      going-moves =
+          cases (λ (u : Run). MadeBy b Again φ r c k (performed b a u)) (lackingOf b a (s .bank))
+          (λ lack.
+          let f : CanFetch (takes a) b p (s .bank) = can-fetch b a (s .bank) formed can passed lack in
+          fetched-moves lack (show-moves (giver (s .bank) p) p t (λ e. f .owner) (λ e. room-giver (takes a) b p s formed f) (λ e. f .page)))
+          (λ has.
+          cases (λ (u : Run). MadeBy b Again φ r c k (performed b a u)) (copiesOut a (s .bank))
+          (dropped-moves has)
+          (λ out. performed-moves b a s makes (nobody-gives has) t (λ n. can) (λ n. has) (λ n. out)))
+
+-- an access of an up board, by any call that makes it
+pub live-moves : (b : ℕ) {Again : Access → Type 0} {φ : Phase} {r s : Run} → FormedRun b φ r → Moves b Again φ r Begun s → s .lost ≡ none
+    → (a : Access) {c : Call} {k : Bank} → Makes c k b a (s .bank) → CanAccess b a (s .bank) → MadeBy b Again φ r c k (live b a s)
+unfolding live liveRefusals eventOf FormedIn
+live-moves b {s = s} h t going a {c} {k} makes can =
+    unless-moves c k (liveRefusals b a (s .bank)) s (performed b a (prepared b a s)) (each-cons refl (each-cons refl each-nil)) t
+    (λ passed. going-moves b s (moves-formed t h .going going) a makes can passed t going)
+
+-- ---- the end of a replay
+
+module _ (b : ℕ) {Again : Access → Type 0} {φ : Phase} {r : Run} (h : FormedRun b φ r) {e : Event} {s : Run} (t : Moves b Again φ r (Replays e) s)
+    (going : s .lost ≡ none) (l : b < length (s .bank .boards)) (rep : boardAt (s .bank) b .state ≡ Replaying) where
+  endReplay-moves : {ψ : Phase} → Selects b b (Settled e) ψ → replayOver (boardAt (s .bank) b) ≡ true → Moves b Again φ r ψ (endReplay b s)
+  unfolding endReplay does settle settled
+  endReplay-moves x over =
+      let f : Bank → Bank = settle b in
+      checkpoint-moves b h x (moves-do (Settle b) t (λ n. settles l rep over))
+      (λ e. rw (step-done f s e, boardAt-same b (settled (λ p. eqb (entryAt (s .bank) p .owner) b)) (s .bank) l))
+
+  endIfOver-moves : Moves b Again φ r (Finished e none) (endIfOver b s)
+  unfolding endIfOver
+  endIfOver-moves = cases (Moves b Again φ r (Finished e none)) (replayOver (boardAt (s .bank) b)) (endReplay-moves closes) (λ o. waits t going o)
+
+-- ---- the calls
+
+-- this access is the call's own, of a replaying board, and answered 0 or 8: what the premise of demand 3 speaks of
+abbrev pub RepeatsIn : Call → Bank → Access → Type 0
+RepeatsIn c k a =
+    (accessOf c ≡ some (boardNamed c, a))
+    × ((code (callBank c k .answer) ≡ 0) ⊎ (code (callBank c k .answer) ≡ 8))
+    × (boardAt k (boardNamed c) .state ≡ Replaying)
+
+finished-code : (v : ℕ) (r : Run) → (code (finished v r .answer) ≡ 0) ⊎ (code (finished v r .answer) ≡ 8)
+unfolding finished code
+finished-code v r = casesOption (λ (t : Result). (code (t .answer) ≡ 0) ⊎ (code (t .answer) ≡ 8)) (r .lost) (λ n. inl refl) (λ d e. inr refl)
+
+module _ (b : ℕ) (k : Bank) (w : WellFormed k) where
+  -- a call that has done nothing
+  begun : FormedRun b Begun (start k)
+  unfolding start
+  begun = formed-begun b (start k) w
+
+  module _ (a : Access) (i : Entered b a k) (rep : boardAt k b .state ≡ Replaying) (same : differs a (boardAt k b) ≡ false) where
+    abbrev bankTaken : Bank
+    bankTaken = onBoard b (tookDue a) k
+
+    taken-now : boardAt bankTaken b ≡ tookDue a (boardAt k b)
+    taken-now = board-taken b a k w i rep same
+
+    state-now : boardAt bankTaken b .state ≡ Replaying
+    state-now = rw taken-now (tookDue-state a (boardAt k b) ∙ rep)
+
+    below : b < length (bankTaken .boards)
+    below = below-taken b a k w i rep same
+
+    ended-moves : {Again : Access → Type 0} → replayOver (boardAt bankTaken b) ≡ true → Moves b Again Begun (start k) Begun (endReplay b (start bankTaken))
+    unfolding start does step
+    ended-moves over =
+        endReplay-moves b begun (moves-do (TakeLast b a) still (λ n. takesLast a i rep same (rw taken-now at over))) refl below state-now resumes over
+
+    pub ended-formed : replayOver (boardAt (onBoard b (tookDue a) k) b) ≡ true → WellFormed (endReplay b (start (onBoard b (tookDue a) k)) .bank)
+    ended-formed over = run-formed {b = b} anyone (moves-formed (ended-moves {Again = λ a. ⊥} over) begun)
+
+    -- the value is read before the records that the access makes due are used up
+    repeated-moves : {Again : Access → Type 0} → Again a → replayOver (boardAt bankTaken b) ≡ false
+        → MadeBy b Again Begun (start k) (Accessing b a) k
+        (finished (valueOf a (boardAt bankTaken b .working .frames)) (endIfOver b (start (onBoard b (replayed a) bankTaken))))
+    unfolding start does step eventOf doneEvent gaveIn giverIn liveBank isReplaying
+    repeated-moves again over =
+        let nobody : giverIn b a (liveBank b a k) ≡ none = cc in
+        finished-moves (Accessing b a) k (valueOf a (boardAt bankTaken b .working .frames)) (endIfOver b (start (onBoard b (replayed a) bankTaken)))
+        (rw (nobody, taken-now)
+        (endIfOver-moves b begun (moves-do (Repeat b a) still (λ n. repeatsAccess a again i rep same (rw taken-now at over))) refl
+        (rw (boards-onBoard b (replayed a) bankTaken) below)
+        (rw (boardAt-same b (replayed a) bankTaken below) (replayed-state a (boardAt bankTaken b) ∙ state-now))))
+
+    replaying-moves : {Again : Access → Type 0} → (replayOver (boardAt bankTaken b) ≡ false → Again a)
+        → MadeBy b Again Begun (start k) (Accessing b a) k (replaying b a k)
+    unfolding replaying liveAfterEnd eventOf doneEvent liveBank isReplaying
+    replaying-moves {Again} again =
+        let end : Run = endReplay b (start bankTaken) in
+        cases (MadeBy b Again Begun (start k) (Accessing b a) k) (replayOver (boardAt bankTaken b))
+        (λ o.
+        let live : liveBank b a k ≡ some (end .bank) = cc in
+        casesOption (MadeBy b Again Begun (start k) (Accessing b a) k) (end .lost)
+        (λ n. live-moves b begun (ended-moves o) n a (record { event = λ v. refl; gave = ap (giverIn b a) live }) (live-can b a k w i rep same n))
+        (λ c e. cutOff (ended-moves o) e))
+        (λ o. repeated-moves (again o) o)
+
+  quiet-access : (a : Access) → Each (λ t. eventOf (Accessing b a) (t .1) ≡ Nothing) (accessRefusals b a k)
+  unfolding refusalsWithin eventOf
+  quiet-access a = each-cons refl (each-cons refl (each-cons refl (each-cons refl each-nil)))
+
+  -- what an access of a replaying board is, if records are left
+  is-repeat : (a : Access) → firstOf (accessRefusals b a k) ≡ none → isReplaying (boardAt k b .state) ≡ true
+      → replayOver (boardAt (onBoard b (tookDue a) k) b) ≡ false
+      → accessBank b a k
+      ≡ finished (valueOf a (boardAt (onBoard b (tookDue a) k) b .working .frames)) (endIfOver b (start (onBoard b (replayed a) (onBoard b (tookDue a) k))))
+  unfolding accessWithin unless replaying
+  is-repeat a p t o = cc
+
+  repeats-now : (a : Access) → firstOf (accessRefusals b a k) ≡ none → isReplaying (boardAt k b .state) ≡ true
+      → replayOver (boardAt (onBoard b (tookDue a) k) b) ≡ false → RepeatsIn (Accessing b a) k a
+  unfolding callBank accessOf boardNamed
+  repeats-now a p t o = (refl, rw (is-repeat a p t o) (finished-code _ _), isReplaying-replaying (boardAt k b .state) t)
+
+  access-moves : (a : Access) → MadeBy b (RepeatsIn (Accessing b a) k) Begun (start k) (Accessing b a) k (accessBank b a k)
+  unfolding accessWithin start
+  access-moves a =
+      unless-moves (Accessing b a) k (accessRefusals b a k) (start k) _ (quiet-access a) still
+      (λ e.
+      let i : Entered b a k = entered b a k w e in
+      cases (MadeBy b (RepeatsIn (Accessing b a) k) Begun (start k) (Accessing b a) k) (isReplaying (boardAt k b .state))
+      (λ t. replaying-moves a i (isReplaying-replaying (boardAt k b .state) t) (fitting b a k w e t) (repeats-now a e t))
+      (λ t. live-moves b begun still refl a (makes-now b a k t) (entered-live b a k i t)))
+
+  module _ {Again : Access → Type 0} where
+    checkpointBank-moves : MadeBy b Again Begun (start k) (Checkpointing b) k (checkpointBank b k)
+    unfolding checkpointBank start eventOf doneEvent gaveIn
+    checkpointBank-moves =
+        unless-moves (Checkpointing b) k _ (start k) _ (each-cons refl (each-cons refl each-nil)) still
+        (λ e.
+        let up : boardAt k b .state ≡ Up =
+        isUp-up (boardAt k b .state) (not-false (isUp (boardAt k b .state)) (firstOf-none _ _ _ (firstOf-none _ _ _ e .rest) .here)) in
+        finished-moves (Checkpointing b) k 0 (checkpoint b (start k)) (ends (checkpoint-moves b begun checkpoints still (λ n. up))))
+
+    cutBank-moves : MadeBy b Again Begun (start k) (Cutting b) k (cutBank b k)
+    unfolding cutBank start does eventOf doneEvent gaveIn
+    cutBank-moves =
+        unless-moves (Cutting b) k _ (start k) _ (each-cons refl (each-cons refl each-nil)) still
+        (λ e.
+        let l : b < length (k .boards) = ltb-true b (length (k .boards)) (not-false _ (firstOf-none _ _ _ e .here)) in
+        finished-moves (Cutting b) k 0 (step (powerOff b) (start k)) (moves-do (LosePower b) still (λ n. losesPower l)))
+
+    fuseBank-moves : (n : ℕ) → MadeBy b Again Begun (start k) (Fusing b n) k (fuseBank b n k)
+    unfolding fuseBank start does eventOf doneEvent gaveIn
+    fuseBank-moves n =
+        unless-moves (Fusing b n) k _ (start k) _ (each-cons refl (each-cons refl each-nil)) still
+        (λ e.
+        let t : (ltb b (length (k .boards)) && (ltb 0 n && ltb n noFuse)) ≡ true = not-false _ (firstOf-none _ _ _ e .here) in
+        let range : (ltb 0 n && ltb n noFuse) ≡ true = and-right (ltb b (length (k .boards))) _ t in
+        let low : 0 < n = ltb-true 0 n (and-left _ (ltb n noFuse) range) in
+        let high : n < noFuse = ltb-true n noFuse (and-right (ltb 0 n) _ range) in
+        let power : boardAt k b .state ≢ Down = isDown-not (boardAt k b .state) (firstOf-none _ _ _ (firstOf-none _ _ _ e .rest) .here) in
+        finished-moves (Fusing b n) k 0 (step (onBoard b (withFuse n)) (start k))
+        (ends (moves-do (SetFuse b n) still (λ z. setsFuse n power low (omega arith)))))
+
+    restartBank-moves : MadeBy b Again Begun (start k) (Restarting b) k (restartBank b k)
+    unfolding restartBank start does step usedUp loaded onWorking eventOf doneEvent gaveIn
+    restartBank-moves =
+        unless-moves (Restarting b) k _ (start k) _ (each-cons refl (each-cons refl each-nil)) still
+        (λ e.
+        let l : b < length (k .boards) = ltb-true b (length (k .boards)) (not-false _ (firstOf-none _ _ _ e .here)) in
+        let down : boardAt k b .state ≡ Down =
+        isDown-down (boardAt k b .state) (not-false _ (firstOf-none _ _ _ (firstOf-none _ _ _ e .rest) .here)) in
+        let f : Board → Board = λ x. usedUp (loaded x) in
+        finished-moves (Restarting b) k (boardAt k b .stable .selected .number) (endIfOver b (start (onBoard b f k)))
+        (endIfOver-moves b begun (moves-do (Load b) still (λ n. loads l down)) refl (rw (boards-onBoard b f k) l)
+        (rw (boardAt-same b f k l) refl)))
+
+-- every call, of any numbers, with any answer, is moves of the board that it names, up to what its answer feeds to the history
+pub call-moves : (c : Call) (k : Bank) → WellFormed k
+    → Moves (boardNamed c) (RepeatsIn c k) Begun (start k) (feeds c k (callBank c k .answer)) (callBank c k .run)
+unfolding callBank boardNamed
+call-moves (Accessing b a) k w = access-moves b k w a
+call-moves (Checkpointing b) k w = checkpointBank-moves b k w
+call-moves (Cutting b) k w = cutBank-moves b k w
+call-moves (Fusing b n) k w = fuseBank-moves b k w n
+call-moves (Restarting b) k w = restartBank-moves b k w
+
+-- ---- well formed after each
+
+-- what comes before the access
+pub prepared-keeps : (b : ℕ) (a : Access) (r : Run) → WellFormed (r .bank) → CanAccess b a (r .bank) → firstOf (liveRefusals b a (r .bank)) ≡ none
+    → WellFormed (prepared b a r .bank)
+unfolding prepared does
+prepared-keeps b a r w can passed =
+    let p : ℕ = pageNamed a in
+    let h : FormedRun b Begun r = formed-begun b r w in
+    cases (λ (u : Run). WellFormed (u .bank)) (lackingOf b a (r .bank))
+    (λ lack.
+    let c : CanFetch (takes a) b p (r .bank) = can-fetch b a (r .bank) w can passed lack in
+    fetched-formed
+    (moves-formed
+    (fetch-moves b r w {Again = λ a. ⊥} a lack c
+    (show-moves (giver (r .bank) p) p still (λ e. c .owner) (λ e. room-giver (takes a) b p r w c) (λ e. c .page)))
+    h))
+    (λ has.
+    cases (λ (u : Run). WellFormed (u .bank)) (copiesOut a (r .bank))
+    (λ out.
+    run-formed {d = b} {b = b} anyone
+    (moves-formed (moves-do {Again = λ a. ⊥} (DropCopies p) still (λ n. dropsCopies p (can .page) (can-drop b a (r .bank) w can passed has out))) h))
+    (λ out. w))
+
+pub prepared-sizes : (b : ℕ) (a : Access) (r : Run) → SameSizes (r .bank) (prepared b a r .bank)
+unfolding prepared
+prepared-sizes b a r =
+    cases (λ (u : Run). SameSizes (r .bank) (u .bank)) (lackingOf b a (r .bank))
+    (λ t. follows-fetch (takes a) b (pageNamed a) r .sizes)
+    (λ t.
+    cases (λ (u : Run). SameSizes (r .bank) (u .bank)) (copiesOut a (r .bank))
+    (λ o. follows-step (dropCopies (pageNamed a)) r (sizes-dropCopies (pageNamed a) (r .bank)) .sizes)
+    (λ o. sizes-same (r .bank)))
+
+-- every call, of any numbers, with any answer
+pub call-keeps : (c : Call) (k : Bank) → WellFormed k → WellFormed (callBank c k .run .bank)
+unfolding start
+call-keeps c k w = finished-formed (moves-formed (call-moves c k w) (formed-begun (boardNamed c) (start k) w))
+
+-- so a call leaves well-formed bytes exactly where it was given such
+pub call-keeps-bytes : (c : Call) (s : List ℕ) → wellFormed (call c s .bytes) ≡ wellFormed s
+unfolding call refused replyOf
+call-keeps-bytes c s =
+    cases (λ (y : Reply). wellFormed (y .bytes) ≡ wellFormed s) (wellFormed s)
+    (λ t. wellFormed-complete (callBank c (decode s) .run .bank) (call-keeps c (decode s) (wellFormed-sound s t)) ∙ sym t)
+    (λ t. refl)

@@ -1,0 +1,180 @@
+-- When two banks are alike but for page bytes and slots that no call reads: one is the other with a function on every page byte, and in the slots at or past a
+-- count stand any bytes, as many as one likes. Laws/Likeness proves that every move keeps banks alike, and every call if the function keeps bytes bytes (code 2
+-- tests a written value): page bytes are copied, zeroed, set and returned, and nothing else is decided by them. No law stands here. Assumes nothing.
+use mathlib.Core.Path.{_≡_}
+use Prim.Native.Nat.{ℕ}
+use mathlib.Core.List.{List, [], _∷_, map}
+use Rattle.types.specs.declared.Answer.{Answer}
+use Rattle.types.specs.declared.Answer.the-variants.{Done, Malformed, OutOfRange, WrongState, CountersFull, ReplayDiffers, OwnerNotUp, LogFull, PowerLost}
+use Rattle.types.specs.declared.Frame.{Frame}
+use Rattle.types.specs.declared.Record.{Record}
+use Rattle.model.specs.Definitions.Parts.{each}
+use Rattle.model.specs.Definitions.Bank.{Log, Area, Working, Stable, Board, Bank, withWorking, withStable, withSelectedArea, withSpareArea, withAreaLog}
+use Rattle.model.specs.Definitions.Bank.{withLog}
+use Rattle.model.specs.Definitions.Steps.{Run, Access, Read, Write}
+use Rattle.model.specs.Definitions.Calls.{Result, Call, Accessing, Checkpointing, Cutting, Fusing, Restarting}
+use Rattle.model.specs.Moves.{Move, NoteShown, NoteGot, StoreRecord, StoreFrame, StoreHead, StoreSelector, GiveCopy, PassOwnership, DropCopies, Perform}
+use Rattle.model.specs.Moves.{LosePower, SetFuse, Load, Repeat, TakeLast, Settle}
+
+-- two lists of one length, related element by element
+pub data EachPair {A : Type 0} (R : A → A → Type 0) : List A → List A → Type 0 where
+  pairs-nil : EachPair R [] []
+  pairs-cons : {x y : A} {xs ys : List A} → R x y → EachPair R xs ys → EachPair R (x ∷ xs) (y ∷ ys)
+
+-- ---- banks
+
+module _ (f : ℕ → ℕ) where
+  -- f on the page bytes, the same right
+  pub record FrameAlike (x y : Frame) : Type 0 where
+    pub right : y .right ≡ x .right
+    pub bytes : y .bytes ≡ map f (x .bytes)
+
+  -- f on the page bytes, the same count and kind
+  pub record RecordAlike (x y : Record) : Type 0 where
+    pub count : y .count ≡ x .count
+    pub kind : y .kind ≡ x .kind
+    pub bytes : y .bytes ≡ map f (x .bytes)
+
+  -- frames alike, page by page
+  abbrev pub FramesAlike : List Frame → List Frame → Type 0
+  FramesAlike = EachPair FrameAlike
+
+  -- records alike, as many of them; the slots behind them are not compared
+  pub record LogAlike (x y : Log) : Type 0 where
+    pub records : EachPair RecordAlike (x .records) (y .records)
+
+  -- the same access number, frames and log alike
+  pub record AreaAlike (x y : Area) : Type 0 where
+    pub number : y .number ≡ x .number
+    pub frames : FramesAlike (x .frames) (y .frames)
+    pub log : LogAlike (x .log) (y .log)
+
+  -- the same counters and replay place, frames and log alike
+  pub record WorkingAlike (x y : Working) : Type 0 where
+    pub number : y .number ≡ x .number
+    pub since : y .since ≡ x .since
+    pub place : y .place ≡ x .place
+    pub frames : FramesAlike (x .frames) (y .frames)
+    pub log : LogAlike (x .log) (y .log)
+
+  -- the same selector, both areas alike
+  pub record StableAlike (x y : Stable) : Type 0 where
+    pub second : y .second ≡ x .second
+    pub selected : AreaAlike (x .selected) (y .selected)
+    pub spare : AreaAlike (x .spare) (y .spare)
+
+  -- the same state and fuse, both memories alike
+  pub record BoardAlike (x y : Board) : Type 0 where
+    pub state : y .state ≡ x .state
+    pub fuse : y .fuse ≡ x .fuse
+    pub working : WorkingAlike (x .working) (y .working)
+    pub stable : StableAlike (x .stable) (y .stable)
+
+  -- the same directory, as many boards, each alike
+  pub record Alike (k j : Bank) : Type 0 where
+    pub directory : j .directory ≡ k .directory
+    pub boards : EachPair BoardAlike (k .boards) (j .boards)
+
+  -- banks alike, the same stores, the same board lost
+  pub record RunAlike (r s : Run) : Type 0 where
+    pub bank : Alike (r .bank) (s .bank)
+    pub stores : s .stores ≡ r .stores
+    pub lost : s .lost ≡ r .lost
+
+-- ---- what is asked of them, and what they answer
+
+-- a write of f of its byte
+unfoldable pub mappedAccess : (ℕ → ℕ) → Access → Access
+mappedAccess f (Read p o) = Read p o
+mappedAccess f (Write p o v) = Write p o (f v)
+
+-- a move with f on the byte that its access writes
+unfoldable pub mapped : (ℕ → ℕ) → Move → Move
+mapped f (NoteShown b p) = NoteShown b p
+mapped f (NoteGot b o p) = NoteGot b o p
+mapped f (StoreRecord b) = StoreRecord b
+mapped f (StoreFrame b p) = StoreFrame b p
+mapped f (StoreHead b) = StoreHead b
+mapped f (StoreSelector b) = StoreSelector b
+mapped f (GiveCopy o b p) = GiveCopy o b p
+mapped f (PassOwnership o b p) = PassOwnership o b p
+mapped f (DropCopies p) = DropCopies p
+mapped f (Perform b a) = Perform b (mappedAccess f a)
+mapped f (LosePower b) = LosePower b
+mapped f (SetFuse b n) = SetFuse b n
+mapped f (Load b) = Load b
+mapped f (Repeat b a) = Repeat b (mappedAccess f a)
+mapped f (TakeLast b a) = TakeLast b (mappedAccess f a)
+mapped f (Settle b) = Settle b
+
+-- a call with f on the byte that it writes
+unfoldable pub mappedCall : (ℕ → ℕ) → Call → Call
+mappedCall f (Accessing b a) = Accessing b (mappedAccess f a)
+mappedCall f (Checkpointing b) = Checkpointing b
+mappedCall f (Cutting b) = Cutting b
+mappedCall f (Fusing b n) = Fusing b n
+mappedCall f (Restarting b) = Restarting b
+
+-- f on the value of a read; a write's value is 0
+unfoldable pub mappedValue : (ℕ → ℕ) → Access → ℕ → ℕ
+mappedValue f (Read p o) v = f v
+mappedValue f (Write p o w) v = v
+
+-- f on the value of a call that reads; a restart's value is a number
+unfoldable pub mappedCallValue : (ℕ → ℕ) → Call → ℕ → ℕ
+mappedCallValue f (Accessing b a) v = mappedValue f a v
+mappedCallValue f (Checkpointing b) v = v
+mappedCallValue f (Cutting b) v = v
+mappedCallValue f (Fusing b n) v = v
+mappedCallValue f (Restarting b) v = v
+
+-- g on the value of an answer that has one
+unfoldable pub onValue : (ℕ → ℕ) → Answer → Answer
+onValue g (Done v) = Done (g v)
+onValue g Malformed = Malformed
+onValue g OutOfRange = OutOfRange
+onValue g (WrongState b) = WrongState b
+onValue g (CountersFull b) = CountersFull b
+onValue g (ReplayDiffers b) = ReplayDiffers b
+onValue g (OwnerNotUp b) = OwnerNotUp b
+onValue g (LogFull b) = LogFull b
+onValue g (PowerLost b) = PowerLost b
+
+-- the same answer but for g on its value, runs alike
+pub record ResultAlike (f g : ℕ → ℕ) (x y : Result) : Type 0 where
+  pub answer : y .answer ≡ onValue g (x .answer)
+  pub run : RunAlike f (x .run) (y .run)
+
+-- ---- slots that are never read
+
+-- two banks that differ in no more than slots at or past a count
+abbrev pub SameBelowCounts : Bank → Bank → Type 0
+SameBelowCounts = Alike (λ v. v)
+
+-- the same answer, stores and board lost, and banks that differ in no more than slots at or past a count
+pub record SameAnswer (x y : Result) : Type 0 where
+  pub answer : y .answer ≡ x .answer
+  pub stores : y .run .stores ≡ x .run .stores
+  pub lost : y .run .lost ≡ x .run .lost
+  pub bank : SameBelowCounts (x .run .bank) (y .run .bank)
+
+-- a log with these bytes in the slots behind its records
+unfoldable pub logOver : List ℕ → Log → Log
+logOver l x = record { records = x .records; rest = l }
+
+-- an area with these bytes in the slots past its count
+unfoldable pub areaOver : List ℕ → Area → Area
+areaOver l x = withAreaLog (logOver l (x .log)) x
+
+-- a board with these bytes in the slots past its three counts
+unfoldable pub boardOver : (volatile selected spare : List ℕ) → Board → Board
+boardOver volatile selected spare x =
+    withWorking (withLog (logOver volatile (x .working .log)) (x .working))
+    (withStable
+    (withSelectedArea (areaOver selected (x .stable .selected)) (withSpareArea (areaOver spare (x .stable .spare)) (x .stable)))
+    x)
+
+-- a bank with these bytes in the slots past the counts of each board
+unfoldable pub slotsOver : (volatile selected spare : ℕ → List ℕ) → Bank → Bank
+slotsOver volatile selected spare k =
+    record { directory = k .directory; boards = each (λ b x. boardOver (volatile b) (selected b) (spare b) x) (k .boards) }
