@@ -64,7 +64,7 @@ int main(void) {
     expect("stock on the coins' board", read_on(COINS, STOCK), 4);
     printf("The coins' board reads credit 80 and stock 4, and gives change.\n");
 
-    done("cut", bank_cut(bank, len, SHELF));
+    done("fuse", bank_fuse(bank, len, SHELF, 0));
     uint32_t from = done("restart", bank_restart(bank, len, SHELF));
     printf("The shelf's board loses its power. It starts again after its access %u and repeats what it did.\n", from);
     expect("the access number of the checkpoint", from, 1);

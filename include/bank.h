@@ -21,7 +21,7 @@ enum {
     BANK_MOST_BOARDS = 8,      /* boards are 0 to boards - 1 */
     BANK_MOST_PAGES = 16,      /* pages are 0 to pages - 1 */
     BANK_PAGE_BYTES = 16,      /* offsets are 0 to 15 */
-    BANK_LONGEST_FUSE = 65534, /* fuses are 1 to 65,534 stores */
+    BANK_LONGEST_FUSE = 65534, /* fuses are 1 to 65,534 stores; 0 takes the power now */
     BANK_LOG_RECORDS = 32      /* a board's log holds so many */
 };
 
@@ -32,7 +32,7 @@ enum {
 enum bank_codes {
     BANK_DONE = 0,           /* Done. */
     BANK_MALFORMED = 1,      /* The bytes are no bank, or bank_make was given a wrong length. Sell nothing from it: bring back a good copy, or make a new bank. */
-    BANK_OUT_OF_RANGE = 2,   /* A number is too large, or a fuse or a size is 0. The caller is wrong: mend it. */
+    BANK_OUT_OF_RANGE = 2,   /* A number is too large, or a size is 0. The caller is wrong: mend it. */
     BANK_WRONG_STATE = 3,    /* Board `who` is down: restart it. Or it is not down and needs no restart. Or it replays: no checkpoint until that is over. */
     BANK_COUNTERS_FULL = 4,  /* Board `who` made 65,535 accesses since its last record: checkpoint it, then try again. If it stays so, its access number is used up: make a new bank. */
     BANK_REPLAY_DIFFERS = 5, /* Board `who` replays, and this access isn't the one that its log goes on with: repeat its accesses exactly, in their order. */
@@ -57,8 +57,10 @@ uint64_t bank_write(uint8_t *bank, size_t len, uint32_t board, uint32_t page, ui
 /* Stores what a board holds and empties its log: a restart begins here. */
 uint64_t bank_checkpoint(uint8_t *bank, size_t len, uint32_t board);
 
-/* A board loses its power now, or right after its `stores`-th next store. A second fuse takes the place of the first. */
-uint64_t bank_cut(uint8_t *bank, size_t len, uint32_t board);
+/* Takes a board's power, also while it replays. With stores 0 the power is gone now, without a store: code 0, not 8. Call it so when a board
+ * has lost its power; until then bank_restart answers 3. What the board held is gone, its checkpoint and its stored log stay. With 1 to
+ * BANK_LONGEST_FUSE the power goes right after the board's `stores`-th next store, and the call that makes that store answers 8. A second
+ * fuse takes the place of the first; only a power loss takes a fuse away. Code 3: the board is down already, there is nothing to do. */
 uint64_t bank_fuse(uint8_t *bank, size_t len, uint32_t board, uint32_t stores);
 
 /* Power is back. The value is the board's access number at its checkpoint: the board now repeats, from the next access on, what it

@@ -69,15 +69,16 @@ fn measured(timed: Timed, buffers: &mut [Buffer], calls: &[Line]) {
 }
 
 fn second(buffer: &mut Buffer, line: &Line) -> u64 {
-    match line {
-        Line::Call(asked) => packed(&call(
-            &mut buffer.bank,
-            asked,
-            Fault::None,
-            &mut buffer.watch,
-        )),
-        Line::Make { boards, pages } => packed(&make(&mut buffer.bank, *boards, *pages)),
+    if let Line::Make { boards, pages } = line {
+        return packed(&make(&mut buffer.bank, *boards, *pages));
     }
+    let asked = line.call().expect("every line but a making asks for a call");
+    packed(&call(
+        &mut buffer.bank,
+        &asked,
+        Fault::None,
+        &mut buffer.watch,
+    ))
 }
 
 fn sum(bank: &[u8]) -> u64 {

@@ -1,6 +1,6 @@
 //! The rows of the bench: a bank in some state, and the calls that are timed on it.
 
-use second::calls::{call, make, Call};
+use second::calls::{call, make};
 use second::check::well_formed;
 use second::fault::Fault;
 use second::gen::Generator;
@@ -37,9 +37,9 @@ fn done(bank: &mut [u8], lines: impl Iterator<Item = String>) -> Vec<Line> {
     let mut watch = Watch::new();
     lines
         .map(|text| line(&text))
-        .take_while(|line| match line {
-            Line::Call(asked) => call(bank, asked, Fault::None, &mut watch).code == 0,
-            Line::Make { .. } => false,
+        .take_while(|line| {
+            line.call()
+                .is_some_and(|asked| call(bank, &asked, Fault::None, &mut watch).code == 0)
         })
         .collect()
 }
@@ -105,7 +105,7 @@ fn script(seed: u64, wanted: Line) -> Vec<Line> {
             return lines;
         }
         trial.take(line);
-        lines.extend(line.filter(|line| matches!(line, Line::Call(_))));
+        lines.extend(line.filter(|line| line.call().is_some()));
     }
     lines
 }
@@ -114,14 +114,14 @@ pub fn rows(layout: Layout) -> Vec<Row> {
     let bank = fresh(layout);
     let boards = layout.boards;
     // No board has this number, so the bank is accepted and then the call refused.
-    let accept = vec![Line::Call(Call::Cut { board: u32::MAX }); REPEATS];
+    let accept = vec![Line::Cut { board: u32::MAX }; REPEATS];
 
     let making = Line::Make {
         boards: boards as u32,
         pages: layout.pages as u32,
     };
     let mut all_down = fresh(layout);
-    let cuts = done(&mut all_down, (0..boards).map(|board| format!("K {board}")));
+    let power_losses = done(&mut all_down, (0..boards).map(|board| format!("F {board} 0")));
 
     let reads = (0..boards).flat_map(|board| {
         let others = (0..layout.pages).filter(move |page| page % boards != board);
@@ -146,7 +146,7 @@ pub fn rows(layout: Layout) -> Vec<Row> {
         row("accept, all boards down", &all_down, accept.clone()),
         row("accept, all logs full", &full_logs(layout), accept),
         row("make", &bank, vec![making; REPEATS]),
-        row("cut", &bank, cuts),
+        row("fuse of 0", &bank, power_losses),
         row("fuse", &bank, vec![line("F 0 9"); REPEATS]),
         row("local read", &bank, vec![line("R 0 0 3"); REPEATS]),
         row("local write", &bank, vec![line("W 0 0 3 7"); REPEATS]),

@@ -3,12 +3,11 @@ use answers::pack::pack;
 use engine::access::read;
 use engine::access::write;
 use engine::checkpoint::checkpoint;
+use engine::fuse::fuse;
 use engine::make::make;
-use engine::power::cut;
-use engine::power::fuse;
 use engine::restart::restart;
 ghost use Rattle.model.specs.Definitions.Steps.{Read, Write};
-ghost use Rattle.model.specs.Definitions.Calls.{make as making, call, Accessing, Checkpointing, Cutting, Fusing, Restarting};
+ghost use Rattle.model.specs.Definitions.Calls.{make as making, call, Accessing, Checkpointing, Fusing, Restarting};
 ghost use Rattle.bank.specs.Contracts.{RepliedPacked};
 
 #[no_mangle]
@@ -37,13 +36,6 @@ pub extern "C" fn bank_checkpoint(bank: &mut [u8], board: u32) -> u64
     ensures { λ r. ⌜ RepliedPacked (call (Checkpointing board) (now (bank .entry))) r (now (bank .exit)) ⌝ }
 {
     pack(checkpoint(bank, board))
-}
-
-#[no_mangle]
-pub extern "C" fn bank_cut(bank: &mut [u8], board: u32) -> u64
-    ensures { λ r. ⌜ RepliedPacked (call (Cutting board) (now (bank .entry))) r (now (bank .exit)) ⌝ }
-{
-    pack(cut(bank, board))
 }
 
 #[no_mangle]

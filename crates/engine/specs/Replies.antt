@@ -12,13 +12,13 @@ use Rattle.types.specs.declared.Answer.{Answer}
 use Rattle.types.specs.declared.Answer.the-variants.{Done, Malformed, OutOfRange, WrongState}
 use Rattle.types.specs.declared.Outcome.{Outcome}
 use Rattle.model.specs.Definitions.Layout.{noFuse}
-use Rattle.model.specs.Definitions.Bank.{Bank, boardAt, onBoard}
+use Rattle.model.specs.Definitions.Bank.{Bank, boardAt}
 use Rattle.model.specs.Definitions.Codec.{encode, decode}
 use Rattle.model.specs.Definitions.WellFormed.{isUp, isDown}
 use Rattle.model.specs.Definitions.Check.{wellFormed}
-use Rattle.model.specs.Definitions.Steps.{Run, start, step, powerOff, withFuse, checkpoint, Read, Write}
-use Rattle.model.specs.Definitions.Calls.{Result, firstOf, unless, finished, accessInRange, refusalsWithin, accessWithin, checkpointBank, cutBank, fuseBank}
-use Rattle.model.specs.Definitions.Calls.{restartBank, Call, Accessing, Checkpointing, Cutting, Fusing, Restarting, callBank, Reply, refused, replyOf, call}
+use Rattle.model.specs.Definitions.Steps.{Run, start, step, fuseBoard, checkpoint, Read, Write}
+use Rattle.model.specs.Definitions.Calls.{Result, firstOf, unless, finished, accessInRange, refusalsWithin, accessWithin, checkpointBank, fuseBank}
+use Rattle.model.specs.Definitions.Calls.{restartBank, Call, Accessing, Checkpointing, Fusing, Restarting, callBank, Reply, refused, replyOf, call}
 use Rattle.model.specs.Laws.CodecBankBack.{encode-decode}
 use Rattle.model.specs.Laws.Codes.Statement.{boardNamed}
 use Rattle.model.specs.Laws.FewStores.{call-few}
@@ -55,14 +55,6 @@ done-replied k e q = ((rw e, rw (e, q)), omega arith)
 -- ---- on a bank
 
 module _ (b : ℕ) (k : Bank) where
-  cut-wrong : ltb b (length (k .boards)) ≡ true → isDown (boardAt k b .state) ≡ true → cutBank b k ≡ record { answer = WrongState b; run = start k }
-  unfolding cutBank unless firstOf
-  cut-wrong h d = cc
-
-  cut-ran : ltb b (length (k .boards)) ≡ true → isDown (boardAt k b .state) ≡ false → cutBank b k ≡ record { answer = Done 0; run = start (powerOff b k) }
-  unfolding cutBank unless firstOf finished step start
-  cut-ran h d = cc
-
   checkpoint-wrong : ltb b (length (k .boards)) ≡ true → isUp (boardAt k b .state) ≡ false
       → checkpointBank b k ≡ record { answer = WrongState b; run = start k }
   unfolding checkpointBank unless firstOf
@@ -73,17 +65,17 @@ module _ (b : ℕ) (k : Bank) where
   checkpoint-ran h u = cc
 
   module _ (n : ℕ) where
-    fuse-out : (ltb b (length (k .boards)) && (ltb 0 n && ltb n noFuse)) ≡ false → fuseBank b n k ≡ record { answer = OutOfRange; run = start k }
+    fuse-out : (ltb b (length (k .boards)) && ltb n noFuse) ≡ false → fuseBank b n k ≡ record { answer = OutOfRange; run = start k }
     unfolding fuseBank unless firstOf
     fuse-out h = cc
 
-    fuse-wrong : (ltb b (length (k .boards)) && (ltb 0 n && ltb n noFuse)) ≡ true → isDown (boardAt k b .state) ≡ true
+    fuse-wrong : (ltb b (length (k .boards)) && ltb n noFuse) ≡ true → isDown (boardAt k b .state) ≡ true
         → fuseBank b n k ≡ record { answer = WrongState b; run = start k }
     unfolding fuseBank unless firstOf
     fuse-wrong h d = cc
 
-    fuse-ran : (ltb b (length (k .boards)) && (ltb 0 n && ltb n noFuse)) ≡ true → isDown (boardAt k b .state) ≡ false
-        → fuseBank b n k ≡ record { answer = Done 0; run = start (onBoard b (withFuse n) k) }
+    fuse-ran : (ltb b (length (k .boards)) && ltb n noFuse) ≡ true → isDown (boardAt k b .state) ≡ false
+        → fuseBank b n k ≡ record { answer = Done 0; run = start (fuseBoard b n k) }
     unfolding fuseBank unless firstOf finished step start
     fuse-ran h d = cc
 
@@ -128,11 +120,10 @@ module _ (s : List ℕ) (v : wellFormed s ≡ true) where
 
 -- "2: board ≥ N", of any call
 out-of-bank : (c : Call) (k : Bank) → ltb (boardNamed c) (length (k .boards)) ≡ false → callBank c k ≡ record { answer = OutOfRange; run = start k }
-unfolding boardNamed callBank accessInRange refusalsWithin accessWithin checkpointBank cutBank fuseBank restartBank unless firstOf
+unfolding boardNamed callBank accessInRange refusalsWithin accessWithin checkpointBank fuseBank restartBank unless firstOf
 out-of-bank (Accessing b (Read p o)) k h = cc
 out-of-bank (Accessing b (Write p o v)) k h = cc
 out-of-bank (Checkpointing b) k h = cc
-out-of-bank (Cutting b) k h = cc
 out-of-bank (Fusing b n) k h = cc
 out-of-bank (Restarting b) k h = cc
 
@@ -151,14 +142,6 @@ module _ {b : ℕ} {s : List ℕ} {st : State} (on : OnBoard b s st) where
   pub listed : ltb b (length (decode s .boards)) ≡ true
   listed = lt-ltb b _ (on .inside)
 
-  pub cut-down : isDown st ≡ true → call (Cutting b) s ≡ refused (WrongState b) s
-  unfolding callBank
-  cut-down d = call-refused s (on .formed) (Cutting b) (WrongState b) (cut-wrong b (decode s) listed (rw (on .state) d))
-
-  pub cut-done : isDown st ≡ false → call (Cutting b) s ≡ done (powerOff b (decode s))
-  unfolding callBank replyOf start
-  cut-done d = call-bank s (on .formed) (Cutting b) ∙ ap replyOf (cut-ran b (decode s) listed (rw (on .state) d))
-
   pub checkpoint-refused : isUp st ≡ false → call (Checkpointing b) s ≡ refused (WrongState b) s
   unfolding callBank
   checkpoint-refused u = call-refused s (on .formed) (Checkpointing b) (WrongState b) (checkpoint-wrong b (decode s) listed (rw (on .state) u))
@@ -168,14 +151,14 @@ module _ {b : ℕ} {s : List ℕ} {st : State} (on : OnBoard b s st) where
   checkpoint-done u = checkpoint-ran b (decode s) listed (rw (on .state) u)
 
   module _ (n : ℕ) where
-    pub fuse-stores : (ltb 0 n && ltb n noFuse) ≡ false → call (Fusing b n) s ≡ refused OutOfRange s
+    pub fuse-stores : ltb n noFuse ≡ false → call (Fusing b n) s ≡ refused OutOfRange s
     unfolding callBank
     fuse-stores h = call-refused s (on .formed) (Fusing b n) OutOfRange (fuse-out b (decode s) n (rw (listed, h)))
 
-    pub fuse-down : (ltb 0 n && ltb n noFuse) ≡ true → isDown st ≡ true → call (Fusing b n) s ≡ refused (WrongState b) s
+    pub fuse-down : ltb n noFuse ≡ true → isDown st ≡ true → call (Fusing b n) s ≡ refused (WrongState b) s
     unfolding callBank
     fuse-down h d = call-refused s (on .formed) (Fusing b n) (WrongState b) (fuse-wrong b (decode s) n (rw (listed, h)) (rw (on .state) d))
 
-    pub fuse-done : (ltb 0 n && ltb n noFuse) ≡ true → isDown st ≡ false → call (Fusing b n) s ≡ done (onBoard b (withFuse n) (decode s))
+    pub fuse-done : ltb n noFuse ≡ true → isDown st ≡ false → call (Fusing b n) s ≡ done (fuseBoard b n (decode s))
     unfolding callBank replyOf start
     fuse-done h d = call-bank s (on .formed) (Fusing b n) ∙ ap replyOf (fuse-ran b (decode s) n (rw (listed, h)) (rw (on .state) d))

@@ -1,6 +1,6 @@
-// Document 01's calls, on bytes of any length and content: each answers and leaves what the definitions say.
+// Document 01's calls, with F-1 of document 02, on bytes of any length and content: each answers and leaves what the definitions say.
 pub mod access;
 pub mod checkpoint;
+pub mod fuse;
 pub mod make;
-pub mod power;
 pub mod restart;

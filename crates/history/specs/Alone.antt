@@ -17,7 +17,7 @@ use Rattle.types.specs.declared.Answer.{Answer}
 use Rattle.model.specs.Definitions.Bank.{Board, Bank, boardAt}
 use Rattle.model.specs.Definitions.WellFormed.{IsEmpty, Blank, PlaceOk, isReplaying, WellFormed}
 use Rattle.model.specs.Definitions.Steps.{Run, start, Access}
-use Rattle.model.specs.Definitions.Calls.{Call, Accessing, Checkpointing, Cutting, Fusing, Restarting, callBank}
+use Rattle.model.specs.Definitions.Calls.{Call, Accessing, Checkpointing, Fusing, Restarting, callBank}
 use Rattle.model.specs.Laws.Logic.{byBool}
 use Rattle.model.specs.Laws.Lists.{each-head, each-tail}
 use Rattle.model.specs.Laws.Boards.{boardAt-out, byBoard}
@@ -32,7 +32,7 @@ use Rattle.history.specs.Bystanders.{call-leaves}
 use Rattle.model.specs.History.AloneStatement.{Heard, heardOf, liveIn, heard, heardFrom, isAccess, endBank, endFrom, callsOf, SameOwned, SameStart, SameReplay}
 use Rattle.history.specs.AloneBoards.{Same, same, same-seen}
 use Rattle.history.specs.AloneRuns.{sizes-both, SameAt, SameRun}
-use Rattle.history.specs.AloneCalls.{SameResult, SameAccess, answered, goesOn, access-same, checkpoint-refused, restart-refused, cut-same, fuse-same}
+use Rattle.history.specs.AloneCalls.{SameResult, SameAccess, answered, goesOn, access-same, checkpoint-refused, restart-refused, fuse-same}
 use Rattle.history.specs.AloneCalls.{restart-same}
 use Rattle.model.specs.Laws.Moves.Calls.{call-moves, call-keeps}
 
@@ -55,7 +55,6 @@ own-same : (c : Call) (k j : Bank) → SameAt (boardNamed c) k j → WellFormed 
 unfolding boardNamed liveIn accessOf isAccess callBank
 own-same (Accessing b a) k j s w v t h = accessing-same b a k j (access-same b a k j s w v t (h refl))
 own-same (Checkpointing b) k j s w v t h = gives refl refl (checkpoint-refused b k j s t)
-own-same (Cutting b) k j s w v t h = gives refl refl (cut-same b k j s)
 own-same (Fusing b n) k j s w v t h = gives refl refl (fuse-same b k j s n)
 own-same (Restarting b) k j s w v t h = gives refl refl (restart-refused b k j s t)
 

@@ -1,7 +1,7 @@
 -- The calls of a replaying board, and its restart, in two well-formed banks of the same sizes in which it looks the same: the same answers and stores, and
 -- it looks the same after them. Assumes nothing.
 use mathlib.Core.Path.{_≡_, refl, sym, ap, _∙_}
-use Prim.Native.Nat.{ℕ, _<_}
+use Prim.Native.Nat.{ℕ, zero, suc, _<_}
 use mathlib.Core.Bool.{Bool, true, false, _&&_, not}
 use mathlib.Core.Option.{none, some}
 use mathlib.Core.List.{List, []}
@@ -13,10 +13,10 @@ use Rattle.types.specs.declared.Answer.{Answer}
 use Rattle.model.specs.Definitions.Layout.{noFuse}
 use Rattle.model.specs.Definitions.Bank.{Board, Bank, boardAt, entryAt, onBoard}
 use Rattle.model.specs.Definitions.WellFormed.{isUp, isDown, isReplaying, WellFormed}
-use Rattle.model.specs.Definitions.Steps.{Run, start, powerOff, withFuse, Access, Read, Write, valueOf}
+use Rattle.model.specs.Definitions.Steps.{Run, start, withFuse, fuseBoard, Access, Read, Write, valueOf}
 use Rattle.model.specs.Definitions.Replay.{loaded, usedUp, tookDue, replayOver, endIfOver, replayed}
 use Rattle.model.specs.Definitions.Calls.{Result, firstOf, unless, finished, accessInRange, countersFull, refusalsWithin, accessRefusals, accessWithin}
-use Rattle.model.specs.Definitions.Calls.{accessBank, checkpointBank, cutBank, fuseBank, restartBank}
+use Rattle.model.specs.Definitions.Calls.{accessBank, checkpointBank, fuseBank, restartBank}
 use Rattle.model.specs.Laws.Logic.{byBool, byOption, clash, and-left}
 use Rattle.model.specs.Laws.Boards.{boards-onBoard, boardAt-same}
 use Rattle.model.specs.Laws.Runs.{lost-not, SameSizes}
@@ -219,24 +219,19 @@ module _ (b : ℕ) (k j : Bank) (s : SameAt b k j) where
       let two : NoneOf (not (isDown (boardAt k b .state))) [] = firstOf-none _ _ _ (firstOf-none _ _ _ e .rest) in
       down-not-replaying (isDown-down (boardAt k b .state) (not-false _ (two .here))) (isReplaying-replaying (boardAt k b .state) t))
 
-  pub cut-same : SameResult b (cutBank b k) (cutBank b j)
-  unfolding cutBank start
-  cut-same =
-      unless-same _ _ (start k) (start j) _ _ (cc (boards-same, s .board .state)) (start-same s)
-      (λ e.
-      let l : b < length (k .boards) = ltb-true b (length (k .boards)) (not-false _ (firstOf-none _ _ _ e .here)) in
-      finished-same 0 _ _ (step-same (start k) (start j) (start-same s) (powerOff b) (powerOff b) (λ n. powerOff-same b k j l s)))
+  fuseBoard-same : (n : ℕ) → b < length (k .boards) → SameAt b (fuseBoard b n k) (fuseBoard b n j)
+  unfolding fuseBoard
+  fuseBoard-same zero l = powerOff-same b k j l s
+  fuseBoard-same (suc n) l = onBoard-same b k j l s (withFuse (suc n)) (withFuse (suc n)) (withFuse-same (s .board) (suc n))
 
   pub fuse-same : (n : ℕ) → SameResult b (fuseBank b n k) (fuseBank b n j)
   unfolding fuseBank start
   fuse-same n =
       unless-same _ _ (start k) (start j) _ _ (cc (boards-same, s .board .state)) (start-same s)
       (λ e.
-      let range : (ltb b (length (k .boards)) && (ltb 0 n && ltb n noFuse)) ≡ true = not-false _ (firstOf-none _ _ _ e .here) in
+      let range : (ltb b (length (k .boards)) && ltb n noFuse) ≡ true = not-false _ (firstOf-none _ _ _ e .here) in
       let l : b < length (k .boards) = ltb-true b (length (k .boards)) (and-left (ltb b (length (k .boards))) _ range) in
-      finished-same 0 _ _
-      (step-same (start k) (start j) (start-same s) (onBoard b (withFuse n)) (onBoard b (withFuse n))
-      (λ m. onBoard-same b k j l s (withFuse n) (withFuse n) (withFuse-same (s .board) n))))
+      finished-same 0 _ _ (step-same (start k) (start j) (start-same s) (fuseBoard b n) (fuseBoard b n) (λ m. fuseBoard-same n l)))
 
   -- a restart may end the replay at once
   pub restart-same : WellFormed k → WellFormed j

@@ -2,7 +2,7 @@
 -- Assumes nothing.
 use mathlib.Core.Path.{_≡_, refl, sym, ap, subst, _∙_}
 use mathlib.Core.Logic.{_≢_, _⊎_, inl, inr, ⊎-elim}
-use Prim.Native.Nat.{ℕ, _+_, _<_}
+use Prim.Native.Nat.{ℕ, zero, suc, _+_, _<_}
 use native.Mathlib.Omega.{arith}
 use mathlib.Core.Bool.{Bool, true, false, _&&_, not}
 use mathlib.Core.Option.{none, some}
@@ -17,11 +17,11 @@ use Rattle.types.specs.declared.Answer.{Answer}
 use Rattle.types.specs.declared.Answer.the-variants.{Done, PowerLost}
 use Rattle.model.specs.Definitions.Bank.{Working, Stable, Board, Bank, boardAt, onBoard, onWorking}
 use Rattle.model.specs.Definitions.WellFormed.{isUp, isDown, isReplaying, WellFormed}
-use Rattle.model.specs.Definitions.Steps.{Run, start, step, poweredOff, powerOff, withFuse, checkpoint, Access, valueOf}
+use Rattle.model.specs.Definitions.Steps.{Run, start, step, poweredOff, withFuse, fuseBoard, checkpoint, Access, valueOf}
 use Rattle.model.specs.Definitions.Replay.{loaded, usedUp, tookDue, replayOver, settled, endReplay, endIfOver, replayed, recoveryPoint}
 use Rattle.model.specs.Definitions.Answers.{code}
-use Rattle.model.specs.Definitions.Calls.{Result, firstOf, unless, finished, refusalsWithin, accessRefusals, accessWithin, checkpointBank, cutBank, fuseBank}
-use Rattle.model.specs.Definitions.Calls.{restartBank, Call, Accessing, Checkpointing, Cutting, Fusing, Restarting, callBank}
+use Rattle.model.specs.Definitions.Calls.{Result, firstOf, unless, finished, refusalsWithin, accessRefusals, accessWithin, checkpointBank, fuseBank}
+use Rattle.model.specs.Definitions.Calls.{restartBank, Call, Accessing, Checkpointing, Fusing, Restarting, callBank}
 use Rattle.model.specs.Laws.Logic.{byBool, byOption, byEq, casesOption, clash, and-left}
 use Rattle.model.specs.Laws.Codes.Statement.{boardNamed, Due, NeedsGot}
 use Rattle.model.specs.Laws.Keeps.Clauses.{up-not-replaying, down-not-replaying, replaying-place, fits}
@@ -67,7 +67,6 @@ other-access : (b : ℕ) (c : Call) → boardNamed c ≢ b → isAccessOf b (acc
 unfolding boardNamed accessOf isAccessOf
 other-access b (Accessing d a) n = ne-eqb d b n
 other-access b (Checkpointing d) n = refl
-other-access b (Cutting d) n = refl
 other-access b (Fusing d m) n = refl
 other-access b (Restarting d) n = refl
 
@@ -263,27 +262,23 @@ module _ (b : ℕ) (k : Bank) (rep : boardAt k b .state ≡ Replaying) where
       let two : NoneOf (not (isDown (boardAt k b .state))) [] = firstOf-none _ _ _ (firstOf-none _ _ _ e .rest) in
       down-not-replaying (isDown-down (boardAt k b .state) (not-false _ (two .here))) rep))
 
-  fuse-after : (n : ℕ) → After b (Fusing b n) k
-  unfolding callBank fuseBank accessOf isAccessOf step start withFuse
-  fuse-after n =
-      plain-same b (Fusing b n) k rep refl
-      (plain-after (Unmoved b k) _ 0 (step (onBoard b (withFuse n)) (start k)) stays
-      (λ e.
-      let range : (ltb b (length (k .boards)) && (ltb 0 n && ltb n noFuse)) ≡ true = not-false _ (firstOf-none _ _ _ e .here) in
-      let l : b < length (k .boards) = ltb-true b (length (k .boards)) (and-left (ltb b (length (k .boards))) _ range) in
-      let y : boardAt (onBoard b (withFuse n) k) b ≡ withFuse n (boardAt k b) = boardAt-same b (withFuse n) k l in
-      record { state = rw y; working = rw y; stable = rw y }))
+  fuseBoard-leaves : (n : ℕ) → b < length (k .boards) → Unmoved b k (fuseBoard b n k) ⊎ (boardAt (fuseBoard b n k) b .state ≡ Down)
+  unfolding fuseBoard withFuse poweredOff
+  fuseBoard-leaves zero l = inr (ap (λ (y : Board). y .state) (boardAt-powerOff-same b k l))
+  fuseBoard-leaves (suc n) l =
+      let y : boardAt (onBoard b (withFuse (suc n)) k) b ≡ withFuse (suc n) (boardAt k b) = boardAt-same b (withFuse (suc n)) k l in
+      inl (record { state = rw y; working = rw y; stable = rw y })
 
-  cut-after : After b (Cutting b) k
-  unfolding callBank cutBank accessOf isAccessOf step start poweredOff
-  cut-after =
+  fuse-after : (n : ℕ) → After b (Fusing b n) k
+  unfolding callBank fuseBank accessOf isAccessOf step start
+  fuse-after n =
       ⊎-elim
-      (plain-same b (Cutting b) k rep refl)
+      (plain-same b (Fusing b n) k rep refl)
       isCut
-      (plain-after (λ j. Unmoved b k j ⊎ (boardAt j b .state ≡ Down)) _ 0 (step (powerOff b) (start k)) (inl stays)
+      (plain-after (λ j. Unmoved b k j ⊎ (boardAt j b .state ≡ Down)) _ 0 (step (fuseBoard b n) (start k)) (inl stays)
       (λ e.
-      let l : b < length (k .boards) = ltb-true b (length (k .boards)) (not-false _ (firstOf-none _ _ _ e .here)) in
-      inr (ap (λ (y : Board). y .state) (boardAt-powerOff-same b k l))))
+      let range : (ltb b (length (k .boards)) && ltb n noFuse) ≡ true = not-false _ (firstOf-none _ _ _ e .here) in
+      fuseBoard-leaves n (ltb-true b (length (k .boards)) (and-left (ltb b (length (k .boards))) _ range))))
 
 -- ---- any call
 
@@ -291,7 +286,6 @@ own-after : (c : Call) (k : Bank) → WellFormed k → Counted k → boardAt k (
 unfolding boardNamed
 own-after (Accessing b a) k w h rep = access-after b a k w h rep
 own-after (Checkpointing b) k w h rep = checkpoint-after b k rep
-own-after (Cutting b) k w h rep = cut-after b k rep
 own-after (Fusing b n) k w h rep = fuse-after b k rep n
 own-after (Restarting b) k w h rep = restart-after b k rep
 

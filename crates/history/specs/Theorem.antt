@@ -10,7 +10,7 @@ use Rattle.model.specs.Definitions.Bank.{Bank, boardAt, fresh}
 use Rattle.model.specs.Definitions.WellFormed.{WellFormed, SizesOk}
 use Rattle.model.specs.Definitions.Steps.{Access}
 use Rattle.model.specs.Definitions.Replay.{recoveryPoint}
-use Rattle.model.specs.Definitions.Calls.{Call, Accessing, Checkpointing, Cutting, Fusing, Restarting, callBank, replyOf}
+use Rattle.model.specs.Definitions.Calls.{Call, Accessing, Checkpointing, Fusing, Restarting, callBank, replyOf}
 use Rattle.model.specs.History.Statement.{HistoryEntry, History, noHistory, zeroMemory, OneMemory, begin, accessOf, doneEvent, eventOf, bytesFrom, nextEntry}
 use Rattle.model.specs.History.Statement.{after, Premise, RepeatAgrees, GrantsStand, Claim, Premises, Claims, afterSeen, PremiseSeen, RepeatSeen, PremisesSeen}
 use Rattle.model.specs.History.Statement.{ClaimsSeen, runOf}
@@ -34,7 +34,6 @@ repeats-agree (Accessing d x) k q s b a v e z f n =
     let yx : x ≡ a = ap (λ (w : ℕ × Access). w .1) y in
     rw yx at (call-repeats (Accessing d x) k q s v f e (rw yb n))
 repeats-agree (Checkpointing d) k q s b a v e z f n = let y : _≡_ {A = ℕ} 0 1 = cc in absurd (omega arith)
-repeats-agree (Cutting d) k q s b a v e z f n = let y : _≡_ {A = ℕ} 0 1 = cc in absurd (omega arith)
 repeats-agree (Fusing d m) k q s b a v e z f n = let y : _≡_ {A = ℕ} 0 1 = cc in absurd (omega arith)
 repeats-agree (Restarting d) k q s b a v e z f n = let y : _≡_ {A = ℕ} 0 1 = cc in absurd (omega arith)
 

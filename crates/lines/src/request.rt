@@ -8,13 +8,12 @@ ghost use Rattle.lines.specs.declared.request.Numbers.{Numbers};
 ghost use Rattle.lines.specs.Definitions.Lines.{andOne, more, numbersFrom, withOne, withTwo, withThree, withFour, requestOf, request};
 ghost use Rattle.lines.specs.Contracts.{wordLength, wordsBehind};
 
-// "N n p; R b p o; W b p o v; C b (checkpoint); K b (cut); F b k; S b (restart)", and anything else.
+// "N n p; R b p o; W b p o v; C b (checkpoint); K b (cut); F b k; S b (restart)", and anything else; K asks for a fuse of 0.
 pub enum Request {
     Make(u32, u32),
     Read(u32, u32, u32),
     Write(u32, u32, u32, u32),
     Checkpoint(u32),
-    Cut(u32),
     Fuse(u32, u32),
     Restart(u32),
     Unreadable,
@@ -89,7 +88,7 @@ fn with_one(letter: u8, b: u32) -> Request
         return Request::Checkpoint(b);
     }
     if letter == b'K' {
-        return Request::Cut(b);
+        return Request::Fuse(b, 0);
     }
     if letter == b'S' {
         return Request::Restart(b);

@@ -24,6 +24,7 @@ pub mod Codes
 pub mod Refusals
 pub mod FewStores
 pub mod LargestSince
+pub mod ZeroFuse
 pub mod BlockFields
 pub mod BlockWorking
 pub mod BlockReplay

@@ -12,7 +12,7 @@ use Rattle.model.specs.Definitions.Parts.{each}
 use Rattle.model.specs.Definitions.Bank.{Log, Area, Working, Stable, Board, Bank, withWorking, withStable, withSelectedArea, withSpareArea, withAreaLog}
 use Rattle.model.specs.Definitions.Bank.{withLog}
 use Rattle.model.specs.Definitions.Steps.{Run, Access, Read, Write}
-use Rattle.model.specs.Definitions.Calls.{Result, Call, Accessing, Checkpointing, Cutting, Fusing, Restarting}
+use Rattle.model.specs.Definitions.Calls.{Result, Call, Accessing, Checkpointing, Fusing, Restarting}
 use Rattle.model.specs.Moves.{Move, NoteShown, NoteGot, StoreRecord, StoreFrame, StoreHead, StoreSelector, GiveCopy, PassOwnership, DropCopies, Perform}
 use Rattle.model.specs.Moves.{LosePower, SetFuse, Load, Repeat, TakeLast, Settle}
 
@@ -111,7 +111,6 @@ mapped f (Settle b) = Settle b
 unfoldable pub mappedCall : (ℕ → ℕ) → Call → Call
 mappedCall f (Accessing b a) = Accessing b (mappedAccess f a)
 mappedCall f (Checkpointing b) = Checkpointing b
-mappedCall f (Cutting b) = Cutting b
 mappedCall f (Fusing b n) = Fusing b n
 mappedCall f (Restarting b) = Restarting b
 
@@ -124,7 +123,6 @@ mappedValue f (Write p o w) v = v
 unfoldable pub mappedCallValue : (ℕ → ℕ) → Call → ℕ → ℕ
 mappedCallValue f (Accessing b a) v = mappedValue f a v
 mappedCallValue f (Checkpointing b) v = v
-mappedCallValue f (Cutting b) v = v
 mappedCallValue f (Fusing b n) v = v
 mappedCallValue f (Restarting b) v = v
 

@@ -41,7 +41,7 @@ pub data Move : Type 0 where
   DropCopies : (page : ℕ) → Move
   -- an access of an up board
   Perform : (board : ℕ) (access : Access) → Move
-  -- power lost by a cut, a fuse set
+  -- power lost by a fuse of 0; a fuse set
   LosePower : (board : ℕ) → Move
   SetFuse : (board stores : ℕ) → Move
   -- a restart's load, with the records that are due; an access repeated, with its got and the records that it makes due; the last got taken; a replay settled
@@ -71,7 +71,7 @@ does (Settle b) r = step (settle b) r
 -- ---- when a call makes it
 
 -- How far a call of a board has come between two moves: begun, with nothing under way; a got own noted, whose page has not passed; a page fetched, whose access
--- is to come; a replay that may have no record left; a replay that ended, without its checkpoint; over. From the access, the restart or the cut on it
+-- is to come; a replay that may have no record left; a replay that ended, without its checkpoint; over. From the access, the restart or the power loss on it
 -- carries what the call is to feed to the history: the event, and who gave a page away.
 pub data Phase : Type 0 where
   Begun : Phase

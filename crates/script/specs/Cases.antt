@@ -1,4 +1,5 @@
--- The definitions give document 01's cases and some lines that are none of the seven. Computed; nothing here rests on a law. Assumes nothing.
+-- The definitions give document 01's cases, the K line of document 02's F-1 and some lines that are none of the seven. Computed; nothing here rests on a
+-- law. Assumes nothing.
 use mathlib.Core.Path.{_≡_, refl}
 use Prim.Native.Nat.{ℕ}
 use Prim.Native.Char.{code}
@@ -6,7 +7,8 @@ use Prim.Native.String as text
 use mathlib.Core.List.{List, [], _∷_, _++_}
 use Rattle.model.specs.Cases.Evaluate.{evaluate}
 use Rattle.lines.specs.Definitions.Numbers.{digitsIn, decimal, isDigit, valueFrom, leadingZero, digitsFrom, number}
-use Rattle.lines.specs.Definitions.Lines.{longer, words, andOne, more, numbersFrom, withOne, withTwo, withThree, withFour, requestOf, requestIn, request}
+use Rattle.lines.specs.Definitions.Lines.{letterK, letterF, longer, words, andOne, more, numbersFrom, withOne, withTwo, withThree, withFour, requestOf}
+use Rattle.lines.specs.Definitions.Lines.{requestIn, request}
 use Rattle.lines.specs.Definitions.Tally.{counted}
 use Rattle.lines.specs.Definitions.Output.{field, printedOf, unreadable, lineOf, lastLine}
 use Rattle.script.specs.Definitions.Runner.{unread, worked, made, work, begin, stepOf, line, linesFrom, runLines, run}
@@ -62,6 +64,16 @@ pub seven-lines : run (bytes "R 0 0 0\nW 1 2 3 4294967295\nC 0\nK 10\nF 9 0\nS 4
     ≡ bytes "1 1 0 0 0\n2 1 0 0 0\n3 1 0 0 0\n4 1 0 0 0\n5 1 0 0 0\n6 1 0 0 0\n7 1 0 0 0\n7 0 7\n"
 unfolding evaluate scripts
 seven-lines = refl
+
+-- "the runner's K line uses the new one" (document 02, F-1): K b asks for what F b 0 asks
+pub cut-asks-for-zero-fuse : (b : ℕ) → withOne letterK b ≡ withTwo letterF b 0
+unfolding withOne withTwo
+cut-asks-for-zero-fuse b = refl
+
+pub zero-fuse-lines : run (bytes "N 2 1\nF 0 0\nK 1\nF 1 0\nK 0\nF 0 65535\nS 0\n")
+    ≡ bytes "1 0 0 0 0\n2 0 0 0 0\n3 0 0 0 0\n4 3 0 1 0\n5 3 0 0 0\n6 2 0 0 0\n7 0 0 0 3\n7 4 3\n"
+unfolding evaluate scripts
+zero-fuse-lines = refl
 
 -- the letter, the count of numbers
 pub other-lines : run (bytes "X 0\nr 0 0 0\nR\nRR 0 0 0\nR 0 0\nR 0 0 0 0\nW 0 0 0\nW 0 0 0 0 0\nC\nC 0 0\nF 0\nR0 0 0\n 0\n0 C\nN 1 1\n")

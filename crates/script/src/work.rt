@@ -2,9 +2,8 @@
 use engine::access::read;
 use engine::access::write;
 use engine::checkpoint::checkpoint;
+use engine::fuse::fuse;
 use engine::make::make;
-use engine::power::cut;
-use engine::power::fuse;
 use engine::restart::restart;
 use format::layout::bank_size;
 use fresh::sizes::sizes_allowed;
@@ -37,7 +36,6 @@ fn do_call(bank: &mut [u8], request: Request) -> Printed
         Request::Read(b, p, o) => printed_of(read(bank, b, p, o)),
         Request::Write(b, p, o, v) => printed_of(write(bank, b, p, o, v)),
         Request::Checkpoint(b) => printed_of(checkpoint(bank, b)),
-        Request::Cut(b) => printed_of(cut(bank, b)),
         Request::Fuse(b, k) => printed_of(fuse(bank, b, k)),
         Request::Restart(b) => printed_of(restart(bank, b)),
         Request::Unreadable => unreadable(),

@@ -67,7 +67,7 @@ pub fn any(random: &mut Random, layout: Layout, strict: u32) -> Line {
             },
         },
         3..=6 => Call::Restart { board },
-        7 | 8 => Call::Cut { board },
+        7 | 8 => Call::Fuse { board, stores: 0 },
         9..=12 => Call::Checkpoint { board },
         13..=25 => read,
         _ => write,

@@ -1,4 +1,4 @@
-//! Both engines on the same bank: the archive by its seven C names, the second engine in place.
+//! Both engines on the same bank: the archive by its six C names, the second engine in place.
 //! An answer is the number that C gets: code + 2^8 who + 2^16 stores + 2^32 value.
 
 use second::calls::{self, Answer, Call};
@@ -6,6 +6,7 @@ use second::check::well_formed;
 use second::fault::Fault;
 use second::layout::Layout;
 use second::line::Line;
+use second::runner::call_for;
 use second::watch::Watch;
 
 extern "C" {
@@ -14,7 +15,6 @@ extern "C" {
     fn bank_write(bank: *mut u8, len: usize, board: u32, page: u32, offset: u32, value: u32)
         -> u64;
     fn bank_checkpoint(bank: *mut u8, len: usize, board: u32) -> u64;
-    fn bank_cut(bank: *mut u8, len: usize, board: u32) -> u64;
     fn bank_fuse(bank: *mut u8, len: usize, board: u32, stores: u32) -> u64;
     fn bank_restart(bank: *mut u8, len: usize, board: u32) -> u64;
 }
@@ -38,7 +38,7 @@ pub fn archive(bank: &mut [u8], line: &Line) -> u64 {
                 value,
             }) => bank_write(at, len, board, page, offset, value),
             Line::Call(Call::Checkpoint { board }) => bank_checkpoint(at, len, board),
-            Line::Call(Call::Cut { board }) => bank_cut(at, len, board),
+            Line::Cut { board } => bank_fuse(at, len, board, 0),
             Line::Call(Call::Fuse { board, stores }) => bank_fuse(at, len, board, stores),
             Line::Call(Call::Restart { board }) => bank_restart(at, len, board),
         }
@@ -121,18 +121,17 @@ impl Pair {
     }
 
     fn take_second(&mut self, line: &Line) -> u64 {
-        match line {
-            Line::Make { boards, pages } => {
-                let answer = calls::make(&mut self.second, *boards, *pages);
-                self.watch = watch_of(&self.second);
-                packed(&answer)
-            }
-            Line::Call(call) => packed(&calls::call(
-                &mut self.second,
-                call,
-                self.fault,
-                &mut self.watch,
-            )),
+        if let Line::Make { boards, pages } = line {
+            let answer = calls::make(&mut self.second, *boards, *pages);
+            self.watch = watch_of(&self.second);
+            return packed(&answer);
         }
+        let call = call_for(line, self.fault).expect("every line but a making asks for a call");
+        packed(&calls::call(
+            &mut self.second,
+            &call,
+            self.fault,
+            &mut self.watch,
+        ))
     }
 }

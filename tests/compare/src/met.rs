@@ -21,13 +21,13 @@ const SOURCES: [&str; 5] = [
     "makings in any buffer",
 ];
 
-/// The runner's letters, and which codes each call can answer.
+/// The runner's letters, a fuse of 0 apart from the others, and which codes each call can answer.
 const KINDS: [(&str, &[usize]); 7] = [
     ("N", &[0, 1, 2]),
     ("R", &[0, 1, 2, 3, 4, 5, 6, 7, 8]),
     ("W", &[0, 1, 2, 3, 4, 5, 6, 7, 8]),
     ("C", &[0, 1, 2, 3, 8]),
-    ("K", &[0, 1, 2, 3]),
+    ("F 0", &[0, 1, 2, 3]),
     ("F", &[0, 1, 2, 3]),
     ("S", &[0, 1, 2, 3]),
 ];
@@ -42,14 +42,14 @@ pub struct Met {
 }
 
 fn kind_of(line: &Line) -> usize {
-    match line {
-        Line::Make { .. } => 0,
-        Line::Call(Call::Read { .. }) => 1,
-        Line::Call(Call::Write { .. }) => 2,
-        Line::Call(Call::Checkpoint { .. }) => 3,
-        Line::Call(Call::Cut { .. }) => 4,
-        Line::Call(Call::Fuse { .. }) => 5,
-        Line::Call(Call::Restart { .. }) => 6,
+    match line.call() {
+        None => 0,
+        Some(Call::Read { .. }) => 1,
+        Some(Call::Write { .. }) => 2,
+        Some(Call::Checkpoint { .. }) => 3,
+        Some(Call::Fuse { stores: 0, .. }) => 4,
+        Some(Call::Fuse { .. }) => 5,
+        Some(Call::Restart { .. }) => 6,
     }
 }
 

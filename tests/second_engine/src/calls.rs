@@ -24,9 +24,7 @@ pub enum Call {
     Checkpoint {
         board: u32,
     },
-    Cut {
-        board: u32,
-    },
+    /// Power is lost after so many more stores; with 0 at once.
     Fuse {
         board: u32,
         stores: u32,
@@ -57,8 +55,8 @@ impl Call {
     pub fn board(&self) -> u32 {
         match *self {
             Call::Read { board, .. } | Call::Write { board, .. } => board,
-            Call::Checkpoint { board } | Call::Cut { board } => board,
-            Call::Fuse { board, .. } | Call::Restart { board } => board,
+            Call::Checkpoint { board } | Call::Restart { board } => board,
+            Call::Fuse { board, .. } => board,
         }
     }
 
@@ -75,7 +73,7 @@ impl Call {
                     value,
                     ..
                 } => place_fits(page, offset) && value <= 255,
-                Call::Fuse { stores, .. } => (1..NO_FUSE as u32).contains(&stores),
+                Call::Fuse { stores, .. } => stores < NO_FUSE as u32,
                 _ => true,
             }
     }
@@ -190,14 +188,7 @@ fn perform(engine: &mut Engine, call: &Call) -> Step<u32> {
     match *call {
         Call::Read { .. } | Call::Write { .. } => access(engine, call),
         Call::Checkpoint { .. } => engine.checkpoint(board, During::Asked).map(|_| 0),
-        Call::Cut { .. } => {
-            engine.cut(board);
-            Ok(0)
-        }
-        Call::Fuse { stores, .. } => {
-            put16(engine.bank, engine.layout.fuse(board), stores as u16);
-            Ok(0)
-        }
+        Call::Fuse { stores, .. } => engine.set_fuse(board, stores as u16).map(|_| 0),
         Call::Restart { .. } => engine.restart(board),
     }
 }

@@ -3,7 +3,7 @@
 
 use crate::access::Access;
 use crate::calls::{Answer, Call};
-use crate::history::History;
+use crate::history::{gone_down, History};
 use crate::layout::*;
 use crate::watch::Watch;
 
@@ -230,15 +230,6 @@ impl Judge {
         Err(format!(
             "board {board} has done {done} of {accesses} accesses to replay, ended: {ended}"
         ))
-    }
-}
-
-/// The board that a call took down, if it did.
-fn gone_down(call: &Call, answer: &Answer) -> Option<usize> {
-    match (call, answer.code) {
-        (_, 8) => Some(answer.who as usize),
-        (Call::Cut { board }, 0) => Some(*board as usize),
-        _ => None,
     }
 }
 

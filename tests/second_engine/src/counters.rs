@@ -1,12 +1,66 @@
 //! What a fuzz run has met, so that a phase it never reached shows as 0.
 //! Printed at the end of a run.
 
-use crate::calls::Answer;
+use crate::calls::{Answer, Call};
 use crate::claim::Last;
+use crate::layout::*;
+use crate::line::Line;
 use crate::trial::Trial;
 use crate::watch::{phase_name, IMPOSSIBLE_PHASE, PHASES};
 
 const LAST_RECORDS: [&str; 5] = ["none", "shown", "dropped", "got copy", "got own"];
+
+/// What a fuse of 0 may meet.
+const ZERO_FUSES: [&str; 7] = [
+    "up board, code 0",
+    "replaying board, code 0",
+    "replaying board that has repeated some accesses, code 0",
+    "up board with a set fuse, code 0",
+    "replaying board with a set fuse, code 0",
+    "down board, code 3",
+    "board out of range, code 2",
+];
+
+/// A fuse of 0 that a line asks for, and what its board is like before.
+pub struct ZeroFuse {
+    by_cut_line: bool,
+    state: Option<u8>,
+    fuse_set: bool,
+    accesses_repeated: bool,
+}
+
+impl ZeroFuse {
+    /// None if the line asks for something else or there is no bank.
+    pub fn asked(trial: &Trial, line: Option<Line>) -> Option<ZeroFuse> {
+        let (line, bank) = (line?, trial.session.bank.as_ref()?);
+        let Some(Call::Fuse { board, stores: 0 }) = line.call() else {
+            return None;
+        };
+        let (layout, board) = (Layout::of(bank), board as usize);
+        let exists = board < layout.boards;
+        Some(ZeroFuse {
+            by_cut_line: matches!(line, Line::Cut { .. }),
+            state: exists.then(|| bank[layout.state(board)]),
+            fuse_set: exists && get16(bank, layout.fuse(board)) != NO_FUSE,
+            accesses_repeated: exists
+                && get32(bank, layout.number(board)) > get32(bank, layout.selected(bank, board)),
+        })
+    }
+
+    /// Which of the table's rows a code makes it.
+    fn rows(&self, code: u8) -> [bool; ZERO_FUSES.len()] {
+        let done = |state: u8| code == 0 && self.state == Some(state);
+        [
+            done(UP),
+            done(REPLAYING),
+            done(REPLAYING) && self.accesses_repeated,
+            done(UP) && self.fuse_set,
+            done(REPLAYING) && self.fuse_set,
+            code == 3 && self.state == Some(DOWN),
+            code == 2 && self.state.is_none(),
+        ]
+    }
+}
 
 pub struct Counters {
     pub scripts: u64,
@@ -18,6 +72,8 @@ pub struct Counters {
     replays_ended: [u64; 5],
     /// Answers, by code, of accesses that ended a replay by its last got.
     gone_live: [u64; 9],
+    /// Asked for by K b, and by F b 0.
+    zero_fuses: [[u64; 2]; ZERO_FUSES.len()],
 }
 
 fn last_index(last: Last) -> usize {
@@ -41,10 +97,12 @@ impl Counters {
             replays_begun: [0; 5],
             replays_ended: [0; 5],
             gone_live: [0; 9],
+            zero_fuses: Default::default(),
         }
     }
 
-    pub fn count(&mut self, trial: &Trial, answer: &Answer) {
+    /// Counts a line that the trial has just taken.
+    pub fn count(&mut self, trial: &Trial, zero_fuse: Option<ZeroFuse>, answer: &Answer) {
         self.calls += 1;
         self.codes[answer.code as usize] += 1;
         if let (Some(phase), 8) = (trial.session.watch.blown, answer.code) {
@@ -58,6 +116,16 @@ impl Counters {
             if last.is_got() {
                 self.gone_live[answer.code as usize] += 1;
             }
+        }
+        if let Some(zero_fuse) = zero_fuse {
+            self.count_zero_fuse(&zero_fuse, answer.code);
+        }
+    }
+
+    fn count_zero_fuse(&mut self, zero_fuse: &ZeroFuse, code: u8) {
+        let column = !zero_fuse.by_cut_line as usize;
+        for (counts, fits) in self.zero_fuses.iter_mut().zip(zero_fuse.rows(code)) {
+            counts[column] += fits as u64;
         }
     }
 
@@ -73,10 +141,12 @@ impl Counters {
             .iter()
             .chain(&self.replays_ended)
             .filter(|count| **count == 0);
+        let zero_fuses = self.zero_fuses.as_flattened();
         phases.count()
             + live.count()
             + replays.count()
             + self.codes.iter().filter(|count| **count == 0).count()
+            + zero_fuses.iter().filter(|count| **count == 0).count()
     }
 
     pub fn print(&self) {
@@ -102,6 +172,10 @@ impl Counters {
         println!("accesses that ended a replay and went on live, by code:");
         for code in [0, 6, 7, 8] {
             println!("  {code}: {}", self.gone_live[code]);
+        }
+        println!("fuses of 0 by what they met, asked for by K b and by F b 0:");
+        for (name, [by_cut_line, by_fuse_line]) in ZERO_FUSES.iter().zip(self.zero_fuses) {
+            println!("  {name}: {by_cut_line} {by_fuse_line}");
         }
         println!("never met: {}", self.never_met());
     }

@@ -1,4 +1,4 @@
-//! The steps on one board: records, flushes, stores with their fuse, checkpoint and cut.
+//! The steps on one board: records, flushes, stores with their fuse, checkpoint and power loss.
 //! Every step works on the bank's bytes in place.
 
 use crate::fault::Fault;
@@ -149,8 +149,10 @@ impl<'a> Engine<'a> {
         if fuse == NO_FUSE {
             return Ok(());
         }
-        put16(self.bank, self.layout.fuse(board), fuse - 1);
-        if fuse > 1 {
+        // Only a wrong engine sets a fuse of 0.
+        let left = fuse.saturating_sub(1);
+        put16(self.bank, self.layout.fuse(board), left);
+        if left > 0 {
             return Ok(());
         }
         self.watch.fuse_blown();
@@ -194,8 +196,37 @@ impl<'a> Engine<'a> {
         self.watch.log_emptied(board);
     }
 
+    /// Sets a fuse; one of 0 takes the board down at once, without a store.
+    pub fn set_fuse(&mut self, board: usize, stores: u16) -> Step {
+        if stores == 0 && self.fault != Fault::ZeroFuseSet {
+            return self.zero_fuse(board);
+        }
+        put16(self.bank, self.layout.fuse(board), stores);
+        Ok(())
+    }
+
+    /// Power is lost at once; a set fuse goes with it.
+    fn zero_fuse(&mut self, board: usize) -> Step {
+        let set = get16(self.bank, self.layout.fuse(board));
+        if self.fault == Fault::ZeroFuseStores && self.bank[self.layout.volatile(board)] > 0 {
+            self.append(board, 0);
+            self.store_made(board)?;
+        }
+        self.cut(board);
+        if self.fault == Fault::ZeroFuseKept {
+            put16(self.bank, self.layout.fuse(board), set);
+        }
+        if self.fault == Fault::ZeroFuseBlown {
+            return Err(Refusal {
+                code: 8,
+                who: board,
+            });
+        }
+        Ok(())
+    }
+
     /// Takes a board down: only its selector and its areas are left.
-    pub fn cut(&mut self, board: usize) {
+    fn cut(&mut self, board: usize) {
         for page in 0..self.layout.pages {
             self.clear_frame(board, page);
             let copies = self.layout.copies(page);

@@ -1,5 +1,6 @@
 //! The wrong engines: each has one fault, and each must be caught.
-//! The first five are the faults a bench sale would hide, the rest must not satisfy any contract.
+//! The first five are the faults a bench sale would hide, the next six must not satisfy any contract, and the
+//! last five get a fuse of 0 wrong.
 
 #[derive(Clone, Copy, PartialEq, Eq, Debug)]
 pub enum Fault {
@@ -15,6 +16,11 @@ pub enum Fault {
     HalfFlush,
     HalfReplay,
     MadeUpStores,
+    ZeroFuseStores,
+    ZeroFuseSet,
+    ZeroFuseBlown,
+    ZeroFuseKept,
+    CutLineSetsFuse,
 }
 
 pub struct FaultKind {
@@ -39,7 +45,7 @@ const fn kind(
     }
 }
 
-pub const FAULTS: [FaultKind; 11] = [
+pub const FAULTS: [FaultKind; 16] = [
     kind(
         Fault::KeepCopy,
         "keep-copy",
@@ -100,6 +106,36 @@ pub const FAULTS: [FaultKind; 11] = [
         "made-up-stores",
         false,
         "a store count made up",
+    ),
+    kind(
+        Fault::ZeroFuseStores,
+        "zero-fuse-stores",
+        false,
+        "a fuse of 0 that stores one record first",
+    ),
+    kind(
+        Fault::ZeroFuseSet,
+        "zero-fuse-set",
+        true,
+        "a fuse of 0 that is set and leaves the board as it is",
+    ),
+    kind(
+        Fault::ZeroFuseBlown,
+        "zero-fuse-blown",
+        false,
+        "a fuse of 0 that answers 8",
+    ),
+    kind(
+        Fault::ZeroFuseKept,
+        "zero-fuse-kept",
+        false,
+        "a fuse of 0 that leaves the set fuse in the block",
+    ),
+    kind(
+        Fault::CutLineSetsFuse,
+        "cut-line-sets-fuse",
+        true,
+        "a K line that sets a fuse of 1",
     ),
 ];
 

@@ -3,7 +3,7 @@
 
 use crate::check::well_formed;
 use crate::claim::Verdict;
-use crate::counters::Counters;
+use crate::counters::{Counters, ZeroFuse};
 use crate::fault::Fault;
 use crate::gen::{Generator, ScriptLine, LONG_SCRIPT};
 use crate::line::Line;
@@ -49,8 +49,9 @@ fn try_seed(seed: u64, fault: Fault, counters: &mut Counters) -> Result<(), Fail
     for _ in 0..lines {
         let line = generator.next(&trial);
         script.push(line);
+        let zero_fuse = ZeroFuse::asked(&trial, line.read());
         let (answer, verdict) = trial.take(line.read());
-        counters.count(&trial, &answer);
+        counters.count(&trial, zero_fuse, &answer);
         match verdict {
             Verdict::Held => (),
             Verdict::PremiseBroken(_) => counters.premises_broken += 1,
@@ -98,7 +99,7 @@ fn try_no_bank(seed: u64, fault: Fault, counters: &mut Counters) {
         } else {
             line.read()
         });
-        counters.count(&trial, &answer);
+        counters.count(&trial, None, &answer);
     }
 }
 

@@ -43,7 +43,7 @@ impl ScriptLine {
 }
 
 /// Lines that are code 9 after the first line.
-const MALFORMED: [&[u8]; 40] = [
+const MALFORMED: [&[u8]; 43] = [
     b"",
     b" ",
     b"R",
@@ -73,7 +73,10 @@ const MALFORMED: [&[u8]; 40] = [
     b"CC 0",
     b"K 0\r",
     b"K\t0",
+    b"K 0 0",
     b"F 0",
+    b"F 0 00",
+    b"F 0 -0",
     b"F 0 1 1",
     b"S 0\0",
     b"\xff\xfe",
@@ -88,7 +91,7 @@ const MALFORMED: [&[u8]; 40] = [
 
 /// A run of lines that was begun and isn't over.
 enum Run {
-    Same(Call, u32),
+    Same(Line, u32),
     Repeats(usize, u32),
 }
 
@@ -118,52 +121,51 @@ impl Generator {
             return ScriptLine::Readable(Line::Make { boards, pages });
         };
         let layout = Layout::of(bank);
-        if let Some(call) = self.run_on(trial, bank, layout) {
-            return ScriptLine::Readable(Line::Call(call));
+        if let Some(line) = self.run_on(trial, bank, layout) {
+            return ScriptLine::Readable(line);
         }
         if self.random.permille(self.profile.noise) {
-            return self.noise(layout);
+            return self.noise(bank, layout);
         }
-        ScriptLine::Readable(Line::Call(self.sensible(trial, bank, layout)))
+        ScriptLine::Readable(self.sensible(trial, bank, layout))
     }
 
-    /// The next call of a run that was begun.
-    fn run_on(&mut self, trial: &Trial, bank: &[u8], layout: Layout) -> Option<Call> {
+    /// The next line of a run that was begun.
+    fn run_on(&mut self, trial: &Trial, bank: &[u8], layout: Layout) -> Option<Line> {
         match self.run.take()? {
             Run::Same(_, 0) | Run::Repeats(_, 0) => None,
-            Run::Same(call, left) => {
-                self.run = Some(Run::Same(call, left - 1));
-                Some(call)
+            Run::Same(line, left) => {
+                self.run = Some(Run::Same(line, left - 1));
+                Some(line)
             }
             Run::Repeats(board, left) => {
                 let replaying = bank[layout.state(board)] == REPLAYING;
                 self.run = replaying.then_some(Run::Repeats(board, left - 1));
-                replaying.then(|| self.replaying_access(trial, bank, layout, board))
+                replaying.then(|| self.replaying_access(trial, bank, layout, board).into())
             }
         }
     }
 
-    fn sensible(&mut self, trial: &Trial, bank: &[u8], layout: Layout) -> Call {
+    fn sensible(&mut self, trial: &Trial, bank: &[u8], layout: Layout) -> Line {
         if trial.latest.code == 7 && self.random.permille(self.profile.relief) {
-            return Call::Checkpoint {
-                board: trial.latest.who,
-            };
+            let board = trial.latest.who;
+            return Call::Checkpoint { board }.into();
         }
         let any = self.any_board();
         if let Some(board) = self
             .board_in(bank, layout, DOWN)
             .filter(|_| self.random.permille(self.profile.restarts))
         {
-            return Call::Restart { board };
+            return Call::Restart { board }.into();
         }
         if self.random.permille(self.profile.checkpoints) {
-            return Call::Checkpoint { board: any };
+            return Call::Checkpoint { board: any }.into();
         }
         if self.random.permille(self.profile.cuts) {
-            return Call::Cut { board: any };
+            return self.cut(any);
         }
         if self.random.permille(self.profile.fuses) {
-            return self.fuse(bank, layout, any as usize);
+            return self.fuse(bank, layout, any as usize).into();
         }
         if let Some(board) = self
             .board_in(bank, layout, REPLAYING)
@@ -172,13 +174,22 @@ impl Generator {
             return self.go_on_replaying(trial, bank, layout, board as usize);
         }
         if self.long_reading_due && self.random.permille(10) {
-            return self.long_reading(bank, layout);
+            return self.long_reading(bank, layout).into();
         }
         let board = self.mostly_not_down(bank, layout, any);
-        match bank[layout.state(board as usize)] {
+        let call = match bank[layout.state(board as usize)] {
             REPLAYING => self.replaying_access(trial, bank, layout, board as usize),
             _ => self.any_access(board),
+        };
+        call.into()
+    }
+
+    /// A power loss, asked for in either way.
+    fn cut(&mut self, board: u32) -> Line {
+        if self.random.permille(500) {
+            return Line::Cut { board };
         }
+        Call::Fuse { board, stores: 0 }.into()
     }
 
     /// A board that is down is mostly passed over, since its accesses only get code 3.
@@ -240,15 +251,10 @@ impl Generator {
         }
     }
 
-    /// Sets a fuse; on an up board often with a checkpoint behind it, which may blow it.
+    /// Sets a fuse; a line behind it may blow it or take it away.
     fn fuse(&mut self, bank: &[u8], layout: Layout, board: usize) -> Call {
-        if bank[layout.state(board)] == UP && self.random.permille(300) {
-            self.run = Some(Run::Same(
-                Call::Checkpoint {
-                    board: board as u32,
-                },
-                1,
-            ));
+        if let Some(line) = self.behind_fuse(bank, layout, board) {
+            self.run = Some(Run::Same(line, 1));
         }
         let stores = match self.random.below(50) {
             0 => self.random.between(1, 65_534),
@@ -261,23 +267,35 @@ impl Generator {
         }
     }
 
-    /// Lets a replaying board go on, sometimes to its end at once or with a fuse.
+    /// On an up board often a checkpoint; on any sometimes a power loss.
+    fn behind_fuse(&mut self, bank: &[u8], layout: Layout, board: usize) -> Option<Line> {
+        let up = bank[layout.state(board)] == UP;
+        let board = board as u32;
+        match self.random.below(10) {
+            0..=2 if up => Some(Call::Checkpoint { board }.into()),
+            3 => Some(self.cut(board)),
+            _ => None,
+        }
+    }
+
+    /// Lets a replaying board go on, sometimes to its end at once, with a fuse or to a power loss.
     fn go_on_replaying(
         &mut self,
         trial: &Trial,
         bank: &[u8],
         layout: Layout,
         board: usize,
-    ) -> Call {
+    ) -> Line {
         match self.random.below(10) {
             0 => self.run = Some(Run::Repeats(board, u32::MAX)),
             1 => self.run = Some(Run::Repeats(board, self.random.below(20))),
             2 if self.random.permille(self.profile.fuses * 4) => {
-                return self.fuse(bank, layout, board)
+                return self.fuse(bank, layout, board).into()
             }
+            3 if self.random.permille(self.profile.cuts * 4) => return self.cut(board as u32),
             _ => (),
         }
-        self.replaying_access(trial, bank, layout, board)
+        self.replaying_access(trial, bank, layout, board).into()
     }
 
     /// Mostly what the premise asks or the due got needs; else a stray access or a break.
@@ -347,33 +365,35 @@ impl Generator {
             page: page as u32,
             offset: 0,
         };
-        self.run = Some(Run::Same(call, LONG_READING));
+        self.run = Some(Run::Same(call.into(), LONG_READING));
         self.long_reading_due = false;
         call
     }
 
     /// A line that most likely gets code 2, 3 or 9.
-    fn noise(&mut self, layout: Layout) -> ScriptLine {
+    fn noise(&mut self, bank: &[u8], layout: Layout) -> ScriptLine {
         let board = self.any_board();
-        let call = match self.random.below(6) {
-            0 => return ScriptLine::Malformed(self.random.pick(&MALFORMED)),
-            1 => Call::Restart { board },
-            2 => Call::Checkpoint { board },
+        let down = self.board_in(bank, layout, DOWN);
+        let line = match (self.random.below(7), down) {
+            (0, _) => return ScriptLine::Malformed(self.random.pick(&MALFORMED)),
+            (1, _) => Call::Restart { board }.into(),
+            (2, _) => Call::Checkpoint { board }.into(),
+            (3, Some(board)) => self.cut(board),
             _ => self.out_of_range(layout),
         };
-        ScriptLine::Readable(Line::Call(call))
+        ScriptLine::Readable(line)
     }
 
-    /// A call with one number that is too large or, for a fuse, too small.
-    fn out_of_range(&mut self, layout: Layout) -> Call {
+    /// A line with one number that is too large.
+    fn out_of_range(&mut self, layout: Layout) -> Line {
         let (boards, pages) = (layout.boards as u32, layout.pages as u32);
         let beyond = self.random.pick(&[0, 0, 0, 1, 255, 65_535, u32::MAX - 300]);
         let board = self.any_board();
         let call = self.any_access(board);
         let (Call::Read { page, offset, .. } | Call::Write { page, offset, .. }) = call else {
-            return call;
+            return call.into();
         };
-        match self.random.below(10) {
+        let call = match self.random.below(10) {
             0 => Call::Read {
                 board: boards + beyond,
                 page,
@@ -404,9 +424,7 @@ impl Generator {
             5 => Call::Checkpoint {
                 board: boards + beyond,
             },
-            6 => Call::Cut {
-                board: boards + beyond,
-            },
+            6 => return self.cut(boards + beyond),
             7 => Call::Restart {
                 board: boards + beyond,
             },
@@ -416,9 +434,10 @@ impl Generator {
             },
             _ => Call::Fuse {
                 board,
-                stores: self.random.pick(&[0, 65_535, 65_536, u32::MAX]),
+                stores: self.random.pick(&[65_535, 65_536, 131_072, u32::MAX]),
             },
-        }
+        };
+        call.into()
     }
 }
 

@@ -57,6 +57,15 @@ impl Entry {
     }
 }
 
+/// The board that a call took down, if it did: a fuse blew, or one of 0 was done.
+pub fn gone_down(call: &Call, answer: &Answer) -> Option<usize> {
+    match (call, answer.code) {
+        (_, 8) => Some(answer.who as usize),
+        (Call::Fuse { board, stores: 0 }, 0) => Some(*board as usize),
+        _ => None,
+    }
+}
+
 #[derive(Clone, Default)]
 pub struct History {
     entries: Vec<Entry>,
@@ -78,9 +87,10 @@ impl History {
 
     /// Takes one call's answer; an error says how one memory or a repeat is contradicted.
     pub fn take(&mut self, bank: &[u8], call: &Call, answer: &Answer) -> Result<(), String> {
+        if let Some(board) = gone_down(call, answer) {
+            return self.discard(board, bank);
+        }
         match (call, answer.code) {
-            (_, 8) => return self.discard(answer.who as usize, bank),
-            (Call::Cut { board }, 0) => return self.discard(*board as usize, bank),
             (Call::Restart { board }, 0) => self.cursor[*board as usize] = answer.value as usize,
             (Call::Read { .. } | Call::Write { .. }, 0) => return self.done(call, answer),
             _ => (),
@@ -133,7 +143,7 @@ impl History {
         ))
     }
 
-    /// A board was cut: its entries above its recovery point are gone. Document 01: struck.
+    /// A board went down: its entries above its recovery point are gone. Document 01: struck.
     fn discard(&mut self, board: usize, bank: &[u8]) -> Result<(), String> {
         let kept = recovery_point(bank, board) as usize;
         if self.of_board[board].len() <= kept {
@@ -152,5 +162,38 @@ impl History {
             }
         }
         result
+    }
+}
+
+#[cfg(test)]
+mod tests {
+    use super::*;
+    use crate::calls::make;
+
+    /// How many of a board's entries, one at first, are left when its fuse was answered so.
+    fn left_after_fuse(stores: u32, code: u8) -> usize {
+        let mut bank = [0; 2_191];
+        make(&mut bank, 1, 1);
+        let mut history = History::default();
+        let write = Call::Write {
+            board: 0,
+            page: 0,
+            offset: 0,
+            value: 5,
+        };
+        let fuse = Call::Fuse { board: 0, stores };
+        for (call, answer) in [(write, Answer::default()), (fuse, Answer::refused(code))] {
+            history.take(&bank, &call, &answer).unwrap();
+        }
+        history.entries.len()
+    }
+
+    #[test]
+    fn only_a_fuse_of_0_that_is_done_discards() {
+        assert_eq!(left_after_fuse(0, 0), 0);
+        assert_eq!(left_after_fuse(0, 3), 1);
+        assert_eq!(left_after_fuse(1, 0), 1);
+        assert_eq!(left_after_fuse(65_534, 0), 1);
+        assert_eq!(left_after_fuse(65_535, 2), 1);
     }
 }

@@ -9,8 +9,32 @@ const LONGEST_LINE: usize = 64;
 
 #[derive(Clone, Copy, PartialEq, Eq, Debug)]
 pub enum Line {
-    Make { boards: u32, pages: u32 },
+    Make {
+        boards: u32,
+        pages: u32,
+    },
+    /// K b, which asks for the same call as F b 0.
+    Cut {
+        board: u32,
+    },
     Call(Call),
+}
+
+impl Line {
+    /// The call that a line asks for; none for a making.
+    pub fn call(&self) -> Option<Call> {
+        match *self {
+            Line::Make { .. } => None,
+            Line::Cut { board } => Some(Call::Fuse { board, stores: 0 }),
+            Line::Call(call) => Some(call),
+        }
+    }
+}
+
+impl From<Call> for Line {
+    fn from(call: Call) -> Line {
+        Line::Call(call)
+    }
 }
 
 /// Reads one line, without its byte 10; none if it isn't readable.
@@ -46,7 +70,7 @@ pub fn read_line(line: &[u8]) -> Option<Line> {
             value,
         },
         (b"C", 1) => Call::Checkpoint { board },
-        (b"K", 1) => Call::Cut { board },
+        (b"K", 1) => return Some(Line::Cut { board }),
         (b"F", 2) => Call::Fuse {
             board,
             stores: page,
@@ -86,7 +110,7 @@ impl fmt::Display for Line {
                 write!(out, "W {board} {page} {offset} {value}")
             }
             Line::Call(Call::Checkpoint { board }) => write!(out, "C {board}"),
-            Line::Call(Call::Cut { board }) => write!(out, "K {board}"),
+            Line::Cut { board } => write!(out, "K {board}"),
             Line::Call(Call::Fuse { board, stores }) => write!(out, "F {board} {stores}"),
             Line::Call(Call::Restart { board }) => write!(out, "S {board}"),
         }
@@ -120,5 +144,33 @@ impl<R: Read> Iterator for Lines<R> {
             }
         }
         (!line.is_empty()).then_some(Ok(line))
+    }
+}
+
+#[cfg(test)]
+mod tests {
+    use super::*;
+
+    fn read(text: &str) -> Line {
+        read_line(text.as_bytes()).unwrap()
+    }
+
+    #[test]
+    fn lines_print_as_they_were_read() {
+        for text in "N 2 1;R 0 1 2;W 0 1 2 3;C 0;K 3;F 3 0;F 3 1;S 0".split(';') {
+            assert_eq!(read(text).to_string(), text);
+        }
+    }
+
+    #[test]
+    fn two_lines_ask_for_a_fuse_of_0() {
+        let wanted = Call::Fuse {
+            board: 3,
+            stores: 0,
+        };
+        assert_eq!(read("K 3").call(), Some(wanted));
+        assert_eq!(read("F 3 0").call(), Some(wanted));
+        assert_ne!(read("K 3"), read("F 3 0"));
+        assert_eq!(read("N 3 1").call(), None);
     }
 }

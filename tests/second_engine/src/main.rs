@@ -1,4 +1,4 @@
-//! The second engine: document 01's bank, line runner and claim, worked on plain bytes.
+//! The second engine: the bank, line runner and claim of documents 01 and 02, worked on plain bytes.
 //! Commands: run, dump, gen, claim, fuzz, faults.
 
 mod access;

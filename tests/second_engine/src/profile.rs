@@ -11,6 +11,7 @@ pub struct Profile {
     pub busy_offsets: u32,
     pub writes: u32,
     pub checkpoints: u32,
+    /// Power losses that are asked for.
     pub cuts: u32,
     pub fuses: u32,
     /// Malformed lines, numbers out of range, calls in the wrong state.

@@ -25,8 +25,9 @@ impl Trial {
     }
 
     pub fn take(&mut self, line: Option<Line>) -> (Answer, Verdict) {
-        let before = match (&self.session.bank, &line) {
-            (Some(bank), Some(Line::Call(call))) => Some((*call, self.judge.before(bank, call))),
+        let asked = line.and_then(|line| line.call());
+        let before = match (&self.session.bank, asked) {
+            (Some(bank), Some(call)) => Some((call, self.judge.before(bank, &call))),
             _ => None,
         };
         (self.judge.began, self.judge.ended) = (None, None);

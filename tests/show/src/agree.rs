@@ -8,7 +8,6 @@ use crate::fault::Fault;
 use crate::made;
 use crate::rules::Rule;
 use crate::table;
-use second::calls::Call;
 use second::gen::Generator;
 use second::line::Line;
 use second::random::Random;
@@ -24,7 +23,7 @@ const PRINTED: u32 = 20;
 const ENOUGH: u64 = 100_000;
 
 /// No bank has this board, so the archive answers 2, or 1 where the bytes are no bank.
-const NO_BOARD: Line = Line::Call(Call::Cut { board: 255 });
+const NO_BOARD: Line = Line::Cut { board: 255 };
 
 #[derive(Default)]
 pub struct Met {

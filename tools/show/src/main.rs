@@ -15,7 +15,7 @@ mod table;
 mod words;
 
 use engines::{archive, unpacked};
-use second::calls::{Answer, Call};
+use second::calls::Answer;
 use second::layout::HEAD;
 use second::line::{read_line, Line, Lines};
 use second::runner::length;
@@ -102,7 +102,7 @@ fn is_bank(bytes: &[u8]) -> bool {
 
 /// Whether the engine finds the bytes to be a well-formed bank.
 fn well_formed(bytes: &mut [u8]) -> bool {
-    let refused_by_any_bank = Line::Call(Call::Cut { board: u32::MAX });
+    let refused_by_any_bank = Line::Cut { board: u32::MAX };
     unpacked(archive(bytes, &refused_by_any_bank)).code != 1
 }
 

@@ -10,7 +10,7 @@ use Rattle.lines.specs.declared.number.Number.the-variants as number-is
 use Rattle.lines.specs.declared.request.Numbers.{Numbers}
 use Rattle.lines.specs.declared.request.Numbers.the-variants.{None, One, Two, Three, Four, Wrong}
 use Rattle.lines.specs.declared.request.Request.{Request}
-use Rattle.lines.specs.declared.request.Request.the-variants.{Make, Read, Write, Checkpoint, Cut, Fuse, Restart, Unreadable}
+use Rattle.lines.specs.declared.request.Request.the-variants.{Make, Read, Write, Checkpoint, Fuse, Restart, Unreadable}
 use Rattle.lines.specs.Definitions.Numbers.{number}
 
 abbrev pub space : ℕ
@@ -74,12 +74,12 @@ numbersFrom f (w ∷ ws) = numbersFrom (more f (number w)) ws
 
 -- ---- the request
 
--- "C b (checkpoint); K b (cut); S b (restart)"
+-- "C b (checkpoint); K b (cut); S b (restart)"; "the runner's K line uses the new one" (document 02, F-1): fuse 0
 unfoldable pub withOne : ℕ → ℕ → Request
 withOne c b =
     elim (eqb c letterC) [
       | true ↦ Checkpoint b
-      | false ↦ elim (eqb c letterK) [ true ↦ Cut b | false ↦ elim (eqb c letterS) [ true ↦ Restart b | false ↦ Unreadable ] ]
+      | false ↦ elim (eqb c letterK) [ true ↦ Fuse b 0 | false ↦ elim (eqb c letterS) [ true ↦ Restart b | false ↦ Unreadable ] ]
     ]
 
 -- "N n p; F b k"

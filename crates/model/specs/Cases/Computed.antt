@@ -5,7 +5,7 @@ use mathlib.Core.List.{[], _∷_}
 use Rattle.model.specs.Definitions.Parts.{every}
 use Rattle.model.specs.Definitions.Bank.{fresh}
 use Rattle.model.specs.Definitions.Steps.{Read, Write}
-use Rattle.model.specs.Definitions.Calls.{Accessing, Cutting}
+use Rattle.model.specs.Definitions.Calls.{Accessing, Fusing}
 use Rattle.model.specs.History.Statement.{noHistory, ofBoard, discard, doneEvent, eventOf, entryCount, repeats, withNumberOf, bytesFrom, withEntry, fed}
 use Rattle.model.specs.History.Statement.{zeroMemory, byteIn, written, accessOf, liveBank, giverIn, gaveIn, grantedAfter, nextEntry}
 use Rattle.model.specs.History.Tests.{sameBytes, sameAccess, doneOrLost, repeatsEntry, premiseFor, oneMemoryTest, gaveEntry, repeatFor, grantsFor}
@@ -13,7 +13,7 @@ use Rattle.model.specs.History.Banks.{historyAfter, grantsAfter}
 use Rattle.model.specs.Cases.Evaluate.{evaluate}
 use Rattle.model.specs.Cases.Digest.{taken, digestFrom, digest}
 use Rattle.model.specs.Cases.Table.{agrees, caseA, caseBCut, caseB, boardOutOfRange, restartOfUpBoard, replayDiffers, ownerNotUp, alternating}
-use Rattle.model.specs.Cases.Table.{alternatingWrites, fuseBlows, lastOffset, scripts, lengths}
+use Rattle.model.specs.Cases.Table.{alternatingWrites, fuseBlows, lastOffset, zeroFuse, scripts, lengths}
 use Rattle.model.specs.Cases.Worked.{callsOf, fuseAtReplayEnd, everyEntry, fuseInFlush, fuseAtSelector, givenAfterReplay, takerCut, refusedInReplay}
 use Rattle.model.specs.Cases.Worked.{histories, otherByte, otherByteRepeated, twoDue}
 use Rattle.model.specs.Cases.Running.{leavesOn, passesOn, passesFresh, premisesOn, claimsOn, holdsOn, grantsIn}
@@ -24,8 +24,8 @@ unfoldable pub tables : Unit {0}
 unfolding noHistory ofBoard discard doneEvent eventOf entryCount repeats withNumberOf bytesFrom withEntry fed zeroMemory byteIn written accessOf liveBank
     giverIn gaveIn grantedAfter nextEntry sameBytes sameAccess doneOrLost repeatsEntry premiseFor oneMemoryTest gaveEntry repeatFor grantsFor historyAfter
     grantsAfter leavesOn passesOn passesFresh premisesOn claimsOn holdsOn grantsIn taken digestFrom digest agrees caseA caseBCut caseB boardOutOfRange
-    restartOfUpBoard replayDiffers ownerNotUp alternating alternatingWrites fuseBlows lastOffset scripts lengths callsOf fuseAtReplayEnd everyEntry fuseInFlush
-    fuseAtSelector givenAfterReplay takerCut refusedInReplay histories otherByte otherByteRepeated twoDue
+    restartOfUpBoard replayDiffers ownerNotUp alternating alternatingWrites fuseBlows lastOffset zeroFuse scripts lengths callsOf fuseAtReplayEnd everyEntry
+    fuseInFlush fuseAtSelector givenAfterReplay takerCut refusedInReplay histories otherByte otherByteRepeated twoDue
 tables = tt
 
 pub lengths-hold : lengths ≡ true
@@ -65,6 +65,6 @@ otherByteRepeated-breaks = refl
 -- what is given is noted, live and after a replay that ended in the same access; a recovery point below what was given breaks the claim
 pub grants-noted :
     (grantsIn (Accessing 0 (Write 0 0 5) ∷ Accessing 1 (Read 0 0) ∷ []) (fresh 2 1) (λ b. 0) 0 ≡ 1)
-    × ((grantsIn givenAfterReplay (fresh 2 2) (λ b. 0) 1 ≡ 1) × (claimsOn (Cutting 0 ∷ []) (fresh 2 1) noHistory (λ b. 1) ≡ false))
+    × ((grantsIn givenAfterReplay (fresh 2 2) (λ b. 0) 1 ≡ 1) × (claimsOn (Fusing 0 0 ∷ []) (fresh 2 1) noHistory (λ b. 1) ≡ false))
 unfolding evaluate tables
 grants-noted = (refl, (refl, refl))

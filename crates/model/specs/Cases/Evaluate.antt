@@ -12,8 +12,8 @@ use Rattle.model.specs.Definitions.Check.{isZero, headValid, entryValid,
 use Rattle.model.specs.Definitions.Check.{fieldsValid, selectedCount, isBlank, stateValid, boardValid, sameRight, pageAgrees, pageAgreesAt, pagesAgree}
 use Rattle.model.specs.Definitions.Check.{blockFits, gotMark, bareMark, markFits, slotValid, recordValid, storedValid, slotsValid, recordsValid}
 use Rattle.model.specs.Definitions.Check.{directoryOf, blockOf, blocksFit, logsValid, wellFormed}
-use Rattle.model.specs.Definitions.Steps.{start, step, poweredOff, forgotten, powerOff, withFuse, burnt, store, storeAll, appended, recorded, note}
-use Rattle.model.specs.Definitions.Steps.{movedRecord, storedRecord, recordStores, flush, storedFrame, storedHead, storedSelector, spareStores}
+use Rattle.model.specs.Definitions.Steps.{start, step, poweredOff, forgotten, powerOff, withFuse, fuseBoard, burnt, store, storeAll, appended, recorded}
+use Rattle.model.specs.Definitions.Steps.{note, movedRecord, storedRecord, recordStores, flush, storedFrame, storedHead, storedSelector, spareStores}
 use Rattle.model.specs.Definitions.Steps.{checkpointStores, restedWorking, checkpoint, pageNamed, cellsRead, cellsWritten, lacks, takes, cellByte}
 use Rattle.model.specs.Definitions.Steps.{withByte, withBytes, valueOf, accessed, access, withFrame, frameOf, giver, show, giveCopy, dropped, dropAt}
 use Rattle.model.specs.Definitions.Steps.{dropCopies, passOwnership, readFetch, writeFetch, fetch}
@@ -22,7 +22,7 @@ use Rattle.model.specs.Definitions.Replay.{tookDue, replayOver, settledF
 use Rattle.model.specs.Definitions.Answers.{code, value, who}
 use Rattle.model.specs.Definitions.Calls.{firstOf, unless, finished, copiesOut, fetchNeed, dropNeed, lackingOf, need, short, shortBoard, isSome, numberIn}
 use Rattle.model.specs.Definitions.Calls.{liveRefusals, prepared, performed, live, liveAfterEnd, replaying, accessInRange, countersFull, refusalsWithin}
-use Rattle.model.specs.Definitions.Calls.{accessWithin, checkpointBank, cutBank, fuseBank, restartBank, callBank, refused, replyOf, call, make}
+use Rattle.model.specs.Definitions.Calls.{accessWithin, checkpointBank, fuseBank, restartBank, callBank, refused, replyOf, call, make}
 
 unfoldable pub evaluate : Unit {0}
 unfolding bytesOf numberOf part splice byteAt zeros encodeAll decodeAll update eachFrom each tabulateFrom tabulate every everyFrom everyBelow firstFrom
@@ -31,11 +31,11 @@ unfolding bytesOf numberOf part splice byteAt zeros encodeAll decodeAll update e
     encodeArea decodeFrames decodeArea stateByte stateOf selectorByte encodeFixed encodeStable decodeStable encodeBoard decodeBoard encode decode isGot
     PlaceOk rightIn isUp isDown isReplaying isZero headValid entryValid directoryValid areaCount countsValid frameValid framesValid allFramesValid fieldsValid
     selectedCount isBlank stateValid boardValid sameRight pageAgrees pageAgreesAt pagesAgree blockFits gotMark bareMark markFits slotValid recordValid
-    storedValid slotsValid recordsValid directoryOf blockOf blocksFit logsValid wellFormed start step poweredOff forgotten powerOff withFuse burnt store
-    storeAll appended recorded note movedRecord storedRecord recordStores flush storedFrame storedHead storedSelector spareStores checkpointStores
+    storedValid slotsValid recordsValid directoryOf blockOf blocksFit logsValid wellFormed start step poweredOff forgotten powerOff withFuse fuseBoard burnt
+    store storeAll appended recorded note movedRecord storedRecord recordStores flush storedFrame storedHead storedSelector spareStores checkpointStores
     restedWorking checkpoint pageNamed cellsRead cellsWritten lacks takes cellByte withByte withBytes valueOf accessed access withFrame frameOf giver show
     giveCopy dropped dropAt dropCopies passOwnership readFetch writeFetch fetch loaded recordsLeft used useUp usedUp gotDue due sameGot lacking needsGot
     differs rightGot tookGot tookDue replayOver settledFrame settled settle endReplay endIfOver replayed countSum recoveryPoint code value who firstOf unless
     finished copiesOut fetchNeed dropNeed lackingOf need short shortBoard isSome numberIn liveRefusals prepared performed live liveAfterEnd replaying
-    accessInRange countersFull refusalsWithin accessWithin checkpointBank cutBank fuseBank restartBank callBank refused replyOf call make
+    accessInRange countersFull refusalsWithin accessWithin checkpointBank fuseBank restartBank callBank refused replyOf call make
 evaluate = tt

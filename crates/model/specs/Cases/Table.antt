@@ -1,5 +1,5 @@
--- Document 01's marked cases (*) as a table: scripts, each call with the answer that document 01 gives, run on bytes. The theorem is in Marked.
--- Assumes nothing.
+-- Document 01's marked cases (*), and a case of document 02's F-1, as a table: scripts, each call with the answer that the documents give, run on bytes.
+-- The theorem is in Marked. Assumes nothing.
 use Prim.Native.Nat.{ℕ, zero, suc}
 use mathlib.Core.Bool.{Bool, true, _&&_}
 use mathlib.Core.List.{List, [], _∷_}
@@ -12,7 +12,7 @@ use Rattle.model.specs.Definitions.Codec.{decode}
 use Rattle.model.specs.Definitions.Replay.{recoveryPoint}
 use Rattle.model.specs.Definitions.Answers.{code, value, who}
 use Rattle.model.specs.Definitions.Steps.{Read, Write}
-use Rattle.model.specs.Definitions.Calls.{Call, Accessing, Cutting, Fusing, Restarting, Reply, call, make}
+use Rattle.model.specs.Definitions.Calls.{Call, Accessing, Fusing, Restarting, Reply, call, make}
 use Rattle.model.specs.Cases.Digest.{digest}
 
 -- a line of a script and what it prints: code, value, who, stores
@@ -64,7 +64,7 @@ caseA =
       lines =
           record { asks = Accessing 1 (Write 0 3 7); prints = (0, 0, 0, 2) }
           ∷ record { asks = Accessing 0 (Read 0 3); prints = (0, 7, 0, 1) }
-          ∷ record { asks = Cutting 0; prints = (0, 0, 0, 0) }
+          ∷ record { asks = Fusing 0 0; prints = (0, 0, 0, 0) }
           ∷ record { asks = Accessing 1 (Write 0 3 9); prints = (0, 0, 0, 0) }
           ∷ record { asks = Restarting 0; prints = (0, 0, 0, 3) }
           ∷ record { asks = Accessing 0 (Read 0 3); prints = (0, 9, 0, 1) }
@@ -81,7 +81,7 @@ caseBCut more =
     ∷ record { asks = Accessing 0 (Write 0 1 6); prints = (0, 0, 0, 0) }
     ∷ record { asks = Accessing 1 (Read 0 0); prints = (0, 5, 0, 2) }
     ∷ record { asks = Accessing 1 (Write 1 0 9); prints = (0, 0, 0, 0) }
-    ∷ record { asks = Cutting 0; prints = (0, 0, 0, 0) }
+    ∷ record { asks = Fusing 0 0; prints = (0, 0, 0, 0) }
     ∷ record { asks = Restarting 0; prints = (0, 0, 0, 0) }
     ∷ more
 
@@ -127,7 +127,7 @@ ownerNotUp =
     record {
       boards = 2;
       pages = 1;
-      lines = record { asks = Cutting 0; prints = (0, 0, 0, 0) } ∷ record { asks = Accessing 1 (Read 0 0); prints = (6, 0, 0, 0) } ∷ [];
+      lines = record { asks = Fusing 0 0; prints = (0, 0, 0, 0) } ∷ record { asks = Accessing 1 (Read 0 0); prints = (6, 0, 0, 0) } ∷ [];
       left = Anything;
     }
 
@@ -169,9 +169,36 @@ lastOffset =
       left = Anything;
     }
 
+-- F-1: "fuse 0 cuts the board then and there, with no store. It answers code 0", up or replaying, and a set fuse goes with it; "code 2 then covers only
+-- what is above 65,534"
+unfoldable pub zeroFuse : Script
+zeroFuse =
+    record {
+      boards = 2;
+      pages = 1;
+      lines =
+          record { asks = Fusing 0 65534; prints = (0, 0, 0, 0) }
+          ∷ record { asks = Fusing 0 65535; prints = (2, 0, 0, 0) }
+          ∷ record { asks = Fusing 2 0; prints = (2, 0, 0, 0) }
+          ∷ record { asks = Accessing 0 (Write 0 0 5); prints = (0, 0, 0, 0) }
+          ∷ record { asks = Accessing 1 (Read 0 0); prints = (0, 5, 0, 1) }
+          ∷ record { asks = Fusing 0 1; prints = (0, 0, 0, 0) }
+          ∷ record { asks = Fusing 0 0; prints = (0, 0, 0, 0) }
+          ∷ record { asks = Fusing 0 0; prints = (3, 0, 0, 0) }
+          ∷ record { asks = Fusing 1 0; prints = (0, 0, 0, 0) }
+          ∷ record { asks = Fusing 1 1; prints = (3, 0, 1, 0) }
+          ∷ record { asks = Restarting 0; prints = (0, 0, 0, 0) }
+          ∷ record { asks = Fusing 0 0; prints = (0, 0, 0, 0) }
+          ∷ record { asks = Restarting 0; prints = (0, 0, 0, 0) }
+          ∷ record { asks = Accessing 0 (Write 0 0 5); prints = (0, 0, 0, 3) }
+          ∷ [];
+      left = RecoveryPoint 0 1;
+    }
+
 unfoldable pub scripts : List Script
 scripts =
-    caseA ∷ caseB ∷ boardOutOfRange ∷ restartOfUpBoard ∷ replayDiffers ∷ ownerNotUp ∷ alternatingWrites ∷ fuseBlows ∷ lastOffset ∷ []
+    caseA ∷ caseB ∷ boardOutOfRange ∷ restartOfUpBoard ∷ replayDiffers ∷ ownerNotUp ∷ alternatingWrites ∷ fuseBlows ∷ lastOffset
+    ∷ zeroFuse ∷ []
 
 -- "length 2,191 for N 1, P 1 accepted, 2,190 code 1"; code 1: "3 bytes"
 unfoldable pub lengths : Bool

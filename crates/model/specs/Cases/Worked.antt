@@ -2,7 +2,7 @@
 use Prim.Native.Nat.{ℕ}
 use mathlib.Core.List.{List, [], _∷_, map}
 use Rattle.model.specs.Definitions.Steps.{Read, Write}
-use Rattle.model.specs.Definitions.Calls.{Call, Accessing, Checkpointing, Cutting, Fusing, Restarting}
+use Rattle.model.specs.Definitions.Calls.{Call, Accessing, Checkpointing, Fusing, Restarting}
 use Rattle.model.specs.Cases.Table.{Script, Anything, caseA, caseB}
 
 -- calls on a bank made with these numbers of boards and pages
@@ -19,15 +19,15 @@ callsOf c = map (λ l. l .asks) (c .lines)
 -- the fuse of board 0 blows at the first store of the checkpoint that ends its replay; the next replay ends well
 unfoldable pub fuseAtReplayEnd : List Call
 fuseAtReplayEnd =
-    Accessing 0 (Write 0 0 5) ∷ Accessing 1 (Read 0 0) ∷ Cutting 0 ∷ Restarting 0 ∷ Fusing 0 1 ∷ Accessing 0 (Write 0 0 5) ∷ Restarting 0
+    Accessing 0 (Write 0 0 5) ∷ Accessing 1 (Read 0 0) ∷ Fusing 0 0 ∷ Restarting 0 ∷ Fusing 0 1 ∷ Accessing 0 (Write 0 0 5) ∷ Restarting 0
     ∷ Accessing 0 (Write 0 0 5) ∷ Accessing 0 (Read 0 0) ∷ []
 
 -- reads and writes, local and fetched, new and repeated, a checkpoint, and entries that a power loss discards
 unfoldable pub everyEntry : List Call
 everyEntry =
     Accessing 0 (Write 0 0 5) ∷ Accessing 0 (Read 0 0) ∷ Accessing 0 (Read 1 0) ∷ Accessing 0 (Write 1 2 6) ∷ Checkpointing 0 ∷ Accessing 0 (Read 1 2)
-    ∷ Accessing 0 (Write 0 1 7) ∷ Accessing 1 (Read 0 1) ∷ Accessing 1 (Write 0 1 8) ∷ Cutting 0 ∷ Restarting 0 ∷ Accessing 0 (Read 1 2)
-    ∷ Accessing 0 (Write 0 1 7) ∷ Accessing 0 (Read 0 1) ∷ Accessing 0 (Write 0 3 9) ∷ Cutting 0 ∷ []
+    ∷ Accessing 0 (Write 0 1 7) ∷ Accessing 1 (Read 0 1) ∷ Accessing 1 (Write 0 1 8) ∷ Fusing 0 0 ∷ Restarting 0 ∷ Accessing 0 (Read 1 2)
+    ∷ Accessing 0 (Write 0 1 7) ∷ Accessing 0 (Read 0 1) ∷ Accessing 0 (Write 0 3 9) ∷ Fusing 0 0 ∷ []
 
 -- the fuse of board 0 blows in its flush for board 1, at a record that it had made before: all its entries are discarded
 unfoldable pub fuseInFlush : List Call
@@ -46,13 +46,13 @@ givenAfterReplay = Accessing 1 (Read 1 0) ∷ Fusing 0 1 ∷ Accessing 0 (Write 
 -- board 1 loses power before its got own is stored: board 0 is still the owner, and comes back with the page
 unfoldable pub takerCut : List Call
 takerCut =
-    Accessing 0 (Write 0 0 5) ∷ Accessing 1 (Read 2 0) ∷ Fusing 1 1 ∷ Accessing 1 (Write 0 0 6) ∷ Restarting 1 ∷ Accessing 1 (Read 2 0) ∷ Cutting 0
+    Accessing 0 (Write 0 0 5) ∷ Accessing 1 (Read 2 0) ∷ Fusing 1 1 ∷ Accessing 1 (Write 0 0 6) ∷ Restarting 1 ∷ Accessing 1 (Read 2 0) ∷ Fusing 0 0
     ∷ Restarting 0 ∷ Accessing 0 (Write 0 0 5) ∷ Accessing 0 (Read 0 0) ∷ Accessing 1 (Read 0 0) ∷ []
 
 -- a replaying board asks for what its log doesn't have, code 5, and then goes on as if it had not; its next write drops the copy that board 1 holds
 unfoldable pub refusedInReplay : List Call
 refusedInReplay =
-    Accessing 0 (Write 0 0 5) ∷ Accessing 1 (Read 0 0) ∷ Cutting 0 ∷ Restarting 0 ∷ Accessing 0 (Read 1 0) ∷ Accessing 0 (Write 0 0 5)
+    Accessing 0 (Write 0 0 5) ∷ Accessing 1 (Read 0 0) ∷ Fusing 0 0 ∷ Restarting 0 ∷ Accessing 0 (Read 1 0) ∷ Accessing 0 (Write 0 0 5)
     ∷ Accessing 0 (Write 0 0 7) ∷ Accessing 1 (Read 0 0) ∷ []
 
 unfoldable pub histories : List Worked
@@ -72,12 +72,12 @@ histories =
 
 -- board 0 writes another byte than the one that board 1 has seen, and then reads it back
 unfoldable pub otherByte : List Call
-otherByte = Accessing 0 (Write 0 0 5) ∷ Accessing 1 (Read 0 0) ∷ Cutting 0 ∷ Restarting 0 ∷ Accessing 0 (Write 0 0 7) ∷ Accessing 0 (Read 0 0) ∷ []
+otherByte = Accessing 0 (Write 0 0 5) ∷ Accessing 1 (Read 0 0) ∷ Fusing 0 0 ∷ Restarting 0 ∷ Accessing 0 (Write 0 0 7) ∷ Accessing 0 (Read 0 0) ∷ []
 
 -- board 0 writes another byte than before, and its repeated read gives that one; no new entry contradicts one memory
 unfoldable pub otherByteRepeated : List Call
 otherByteRepeated =
-    Accessing 0 (Write 0 0 5) ∷ Accessing 0 (Read 0 0) ∷ Accessing 1 (Read 0 0) ∷ Cutting 0 ∷ Restarting 0 ∷ Accessing 0 (Write 0 0 7)
+    Accessing 0 (Write 0 0 5) ∷ Accessing 0 (Read 0 0) ∷ Accessing 1 (Read 0 0) ∷ Fusing 0 0 ∷ Restarting 0 ∷ Accessing 0 (Write 0 0 7)
     ∷ Accessing 0 (Read 0 0) ∷ []
 
 -- ---- a replay
@@ -92,7 +92,7 @@ twoDue =
           record { asks = Accessing 0 (Write 0 0 5); prints = (0, 0, 0, 0) }
           ∷ record { asks = Accessing 1 (Read 0 0); prints = (0, 5, 0, 1) }
           ∷ record { asks = Accessing 1 (Read 2 0); prints = (0, 0, 0, 1) }
-          ∷ record { asks = Cutting 0; prints = (0, 0, 0, 0) }
+          ∷ record { asks = Fusing 0 0; prints = (0, 0, 0, 0) }
           ∷ record { asks = Restarting 0; prints = (0, 0, 0, 0) }
           ∷ record { asks = Accessing 0 (Write 0 0 5); prints = (0, 0, 0, 5) }
           ∷ [];

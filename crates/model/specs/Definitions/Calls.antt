@@ -1,5 +1,5 @@
--- Document 01's calls, for any numbers: first on a bank, then on bytes of any length and content. Each refusal is in the table's order, and the
--- list of tests shows that order. Assumes nothing.
+-- Document 01's calls, with document 02's F-1, for any numbers: first on a bank, then on bytes of any length and content. Each refusal is in the table's
+-- order, and the list of tests shows that order. Assumes nothing.
 use Prim.Native.Nat.{ℕ, _+_}
 use mathlib.Core.Bool.{Bool, true, false, _&&_, _||_, not}
 use mathlib.Core.Option.{Option, none, some}
@@ -17,7 +17,7 @@ use Rattle.model.specs.Definitions.Bank.{Board, Bank, boardAt, entryAt, 
 use Rattle.model.specs.Definitions.Codec.{encode, decode}
 use Rattle.model.specs.Definitions.WellFormed.{isUp, isDown, isReplaying}
 use Rattle.model.specs.Definitions.Check.{wellFormed, sizesAllowed}
-use Rattle.model.specs.Definitions.Steps.{Run, start, step, powerOff, withFuse, checkpoint, Access, Read, Write, pageNamed, takes, valueOf, access, giver}
+use Rattle.model.specs.Definitions.Steps.{Run, start, step, fuseBoard, checkpoint, Access, Read, Write, pageNamed, takes, valueOf, access, giver}
 use Rattle.model.specs.Definitions.Steps.{dropCopies, fetch}
 use Rattle.model.specs.Definitions.Replay.{restarted, lacking, differs, tookDue, replayOver, endReplay, endIfOver, replayed}
 
@@ -164,20 +164,13 @@ checkpointBank b k =
     (start k)
     (finished 0 (checkpoint b (start k)))
 
-unfoldable pub cutBank : ℕ → Bank → Result
-cutBank b k =
-    unless
-    ((not (ltb b (length (k .boards))), OutOfRange) ∷ (isDown (boardAt k b .state), WrongState b) ∷ [])
-    (start k)
-    (finished 0 (step (powerOff b) (start k)))
-
--- "Fuse k, 1 to 65,534"
+-- "For the fuse number, code 2 then covers only what is above 65,534"; "It answers code 0" (document 02, F-1)
 unfoldable pub fuseBank : ℕ → ℕ → Bank → Result
 fuseBank b n k =
     unless
-    ((not (ltb b (length (k .boards)) && (ltb 0 n && ltb n noFuse)), OutOfRange) ∷ (isDown (boardAt k b .state), WrongState b) ∷ [])
+    ((not (ltb b (length (k .boards)) && ltb n noFuse), OutOfRange) ∷ (isDown (boardAt k b .state), WrongState b) ∷ [])
     (start k)
-    (finished 0 (step (onBoard b (withFuse n)) (start k)))
+    (finished 0 (step (fuseBoard b n) (start k)))
 
 -- "restart and not dark"; "the checkpoint's access number for restart"
 unfoldable pub restartBank : ℕ → Bank → Result
@@ -190,7 +183,6 @@ restartBank b k =
 pub data Call : Type 0 where
   Accessing : (board : ℕ) (access : Access) → Call
   Checkpointing : (board : ℕ) → Call
-  Cutting : (board : ℕ) → Call
   Fusing : (board stores : ℕ) → Call
   Restarting : (board : ℕ) → Call
 
@@ -198,7 +190,6 @@ pub data Call : Type 0 where
 unfoldable pub callWithin : (largest : ℕ) → Call → Bank → Result
 callWithin largest (Accessing b a) k = accessWithin largest b a k
 callWithin largest (Checkpointing b) k = checkpointBank b k
-callWithin largest (Cutting b) k = cutBank b k
 callWithin largest (Fusing b n) k = fuseBank b n k
 callWithin largest (Restarting b) k = restartBank b k
 

@@ -1,6 +1,6 @@
--- Document 01, "Steps", up to the cut: what one board or several do to the bank, one micro-step each, and the stores that a power loss can follow.
+-- Document 01, "Steps", up to the cut, with F-1: what one board or several do to the bank, one micro-step each, and the stores that a power loss can follow.
 -- A call in progress is a `Run`: once a fuse blew, every later step passes it on unchanged. Assumes nothing.
-use Prim.Native.Nat.{ℕ, _+_, _-_}
+use Prim.Native.Nat.{ℕ, zero, suc, _+_, _-_}
 use mathlib.Core.Bool.{Bool, true, false, _&&_, _||_, not}
 use mathlib.Core.Option.{Option, none, some}
 use mathlib.Core.List.{List, [], _∷_, _++_, map, foldl}
@@ -57,6 +57,11 @@ powerOff b k = onBoard b poweredOff (record { directory = map (forgotten b) (k .
 -- "Fuse k .. : cut after its k-th next store."
 unfoldable pub withFuse : ℕ → Board → Board
 withFuse n x = record { state = x .state; fuse = n; working = x .working; stable = x .stable }
+
+-- A fuse set; "fuse 0 cuts the board then and there, with no store" (document 02, F-1).
+unfoldable pub fuseBoard : ℕ → ℕ → Bank → Bank
+fuseBoard b zero k = powerOff b k
+fuseBoard b (suc n) k = onBoard b (withFuse (suc n)) k
 
 -- "A store lowers its board's set fuse"
 unfoldable pub burnt : Board → Board

@@ -21,7 +21,7 @@ use Rattle.model.specs.Definitions.WellFormed.{isReplaying}
 use Rattle.model.specs.Definitions.Steps.{start, Access, pageNamed, Cell, cellsRead, cellsWritten, giver}
 use Rattle.model.specs.Definitions.Replay.{tookDue, replayOver, endReplay, recoveryPoint}
 use Rattle.model.specs.Definitions.Answers.{code}
-use Rattle.model.specs.Definitions.Calls.{Call, Accessing, Checkpointing, Cutting, Fusing, Restarting, call, lackingOf}
+use Rattle.model.specs.Definitions.Calls.{Call, Accessing, Checkpointing, Fusing, Restarting, call, lackingOf}
 
 -- ==== the history
 
@@ -64,12 +64,12 @@ pub data Event : Type 0 where
   LostPower : (board : ℕ) → Event
   Nothing : Event
 
--- a call answered 0
+-- a call answered 0; "in the roll fuse 0 answered 0 is a cut answered 0" (document 02, F-1)
 unfoldable pub doneEvent : Call → ℕ → Event
 doneEvent (Accessing b a) v = Accessed b a v
 doneEvent (Checkpointing b) v = Nothing
-doneEvent (Cutting b) v = LostPower b
-doneEvent (Fusing b n) v = Nothing
+doneEvent (Fusing b zero) v = LostPower b
+doneEvent (Fusing b (suc n)) v = Nothing
 doneEvent (Restarting b) v = Restarted b v
 
 -- "Cut answered 0", and "any call answered 8": under 8 it is the board that `who` names. "All else: nothing."
@@ -155,7 +155,6 @@ begin n p = made (encode (fresh n p))
 unfoldable pub accessOf : Call → Option (ℕ × Access)
 accessOf (Accessing b a) = some (b, a)
 accessOf (Checkpointing b) = none
-accessOf (Cutting b) = none
 accessOf (Fusing b n) = none
 accessOf (Restarting b) = none
 

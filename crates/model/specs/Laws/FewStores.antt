@@ -19,12 +19,12 @@ use Rattle.model.specs.Definitions.WellFormed.{isReplaying, WellFormed}
 use Rattle.model.specs.Definitions.Check.{wellFormed}
 use Rattle.types.specs.declared.State.the-variants.{Replaying}
 use Rattle.model.specs.Definitions.Steps.{Run, start, recorded, appended, Access, valueOf, access, pageNamed, takes, frameOf, giveCopy, passOwnership}
-use Rattle.model.specs.Definitions.Steps.{dropCopies, powerOff, withFuse, step, store, storeAll, note, recordStores, flush, checkpointStores}
+use Rattle.model.specs.Definitions.Steps.{dropCopies, fuseBoard, step, store, storeAll, note, recordStores, flush, checkpointStores}
 use Rattle.model.specs.Definitions.Steps.{restedWorking, checkpoint, show, giver, readFetch, writeFetch, fetch}
 use Rattle.model.specs.Definitions.Replay.{settle, loaded, usedUp, differs, tookDue, replayed, replayOver, endReplay, endIfOver}
 use Rattle.model.specs.Definitions.Calls.{Result, firstOf, unless, finished, lackingOf, copiesOut, liveRefusals, prepared, performed, live, liveAfterEnd}
-use Rattle.model.specs.Definitions.Calls.{replaying, accessRefusals, accessWithin, accessBank, checkpointBank, cutBank, fuseBank, restartBank, Call}
-use Rattle.model.specs.Definitions.Calls.{Accessing, Checkpointing, Cutting, Fusing, Restarting, callBank, Reply, refused, replyOf, call}
+use Rattle.model.specs.Definitions.Calls.{replaying, accessRefusals, accessWithin, accessBank, checkpointBank, fuseBank, restartBank, Call}
+use Rattle.model.specs.Definitions.Calls.{Accessing, Checkpointing, Fusing, Restarting, callBank, Reply, refused, replyOf, call}
 use Rattle.model.specs.Laws.Logic.{byOption, cases, casesOption}
 use Rattle.model.specs.Laws.Runs.{store-cases, step-going, follows-step, follows-note-flush, follows-show, sizes-onBoard, step-stores}
 use Rattle.model.specs.Laws.Runs.{length-recordStores, length-checkpointStores, finished-run}
@@ -182,17 +182,11 @@ module _ (b : ℕ) (k : Bank) (w : WellFormed k) where
       unless-few _ (start k) _ mostStores (omega arith)
       (λ e. finished-few 0 (checkpoint b (start k)) mostStores (omega (arith, checkpoint-few b (start k), w .sizes .pages)))
 
-  cutBank-few : cutBank b k .run .stores ≤ mostStores
-  unfolding cutBank start
-  cutBank-few =
-      unless-few _ (start k) _ mostStores (omega arith)
-      (λ e. finished-few 0 (step (powerOff b) (start k)) mostStores (omega (arith, step-stores (powerOff b) (start k))))
-
   fuseBank-few : (n : ℕ) → fuseBank b n k .run .stores ≤ mostStores
   unfolding fuseBank start
   fuseBank-few n =
       unless-few _ (start k) _ mostStores (omega arith)
-      (λ e. finished-few 0 (step (onBoard b (withFuse n)) (start k)) mostStores (omega (arith, step-stores (onBoard b (withFuse n)) (start k))))
+      (λ e. finished-few 0 (step (fuseBoard b n) (start k)) mostStores (omega (arith, step-stores (fuseBoard b n) (start k))))
 
   restartBank-few : restartBank b k .run .stores ≤ mostStores
   unfolding restartBank start
@@ -205,7 +199,6 @@ bank-few : (c : Call) (k : Bank) → WellFormed k → callBank c k .run .stores 
 unfolding callBank
 bank-few (Accessing b a) k w = access-few b k w a
 bank-few (Checkpointing b) k w = checkpointBank-few b k w
-bank-few (Cutting b) k w = cutBank-few b k w
 bank-few (Fusing b n) k w = fuseBank-few b k w n
 bank-few (Restarting b) k w = restartBank-few b k w
 

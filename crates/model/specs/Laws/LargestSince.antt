@@ -10,7 +10,7 @@ use Rattle.model.specs.Definitions.WellFormed.{isDown}
 use Rattle.model.specs.Definitions.Answers.{code}
 use Rattle.model.specs.Definitions.Steps.{Access}
 use Rattle.model.specs.Definitions.Calls.{Result, unless, firstOf, accessInRange, countersFull, refusalsWithin, accessWithin, Call, Accessing}
-use Rattle.model.specs.Definitions.Calls.{Checkpointing, Cutting, Fusing, Restarting, callWithin}
+use Rattle.model.specs.Definitions.Calls.{Checkpointing, Fusing, Restarting, callWithin}
 use Rattle.model.specs.Laws.Logic.{byBool}
 
 -- m and n are two largest sinces
@@ -22,7 +22,6 @@ module _ (m n : ℕ) where
   unfolding callWithin
   by-access P (Accessing b a) k of-access same = of-access b a refl
   by-access P (Checkpointing b) k of-access same = same _
-  by-access P (Cutting b) k of-access same = same _
   by-access P (Fusing b s) k of-access same = same _
   by-access P (Restarting b) k of-access same = same _
 

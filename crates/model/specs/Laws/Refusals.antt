@@ -16,7 +16,7 @@ use Rattle.model.specs.Definitions.Check.{wellFormed, sizesAllowed}
 use Rattle.model.specs.Definitions.Answers.{code}
 use Rattle.model.specs.Definitions.Steps.{Run, start, step, store, storeAll, checkpointStores, restedWorking, checkpoint, Access}
 use Rattle.model.specs.Definitions.Replay.{tookDue, settled, settle, endReplay}
-use Rattle.model.specs.Definitions.Calls.{Result, finished, refused, Call, Accessing, Checkpointing, Cutting, Fusing, Restarting, callBank, Reply}
+use Rattle.model.specs.Definitions.Calls.{Result, finished, refused, Call, Accessing, Checkpointing, Fusing, Restarting, callBank, Reply}
 use Rattle.model.specs.Definitions.Calls.{replyOf, call, make}
 use Rattle.model.specs.Laws.Logic.{cases, casesOption}
 use Rattle.model.specs.Laws.CodecBankBack.{encode-decode}
@@ -65,7 +65,6 @@ late-replaying : (c : Call) (k : Bank) (r : Run) → LateIn c k r → boardAt k 
 unfolding OfAccess boardNamed
 late-replaying (Accessing b a) k r l = l .state
 late-replaying (Checkpointing b) k r l = absurd l
-late-replaying (Cutting b) k r l = absurd l
 late-replaying (Fusing b n) k r l = absurd l
 late-replaying (Restarting b) k r l = absurd l
 
@@ -75,7 +74,6 @@ of-access : {P Q : ℕ → Access → Type 0} (c : Call) → ((b : ℕ) (a : Acc
 unfolding OfAccess
 of-access (Accessing b a) f l = f b a l
 of-access (Checkpointing b) f l = l
-of-access (Cutting b) f l = l
 of-access (Fusing b n) f l = l
 of-access (Restarting b) f l = l
 

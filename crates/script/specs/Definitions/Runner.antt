@@ -7,13 +7,13 @@ use lib.ListN.{length, take}
 use lib.Dec.{eqb}
 use Rattle.lines.specs.declared.print.Printed.{Printed}
 use Rattle.lines.specs.declared.request.Request.{Request}
-use Rattle.lines.specs.declared.request.Request.the-variants.{Make, Read, Write, Checkpoint, Cut, Fuse, Restart, Unreadable}
+use Rattle.lines.specs.declared.request.Request.the-variants.{Make, Read, Write, Checkpoint, Fuse, Restart, Unreadable}
 use Rattle.lines.specs.declared.tally.Tally.{Tally}
 use Rattle.model.specs.Definitions.Parts.{zeros}
 use Rattle.model.specs.Definitions.Layout.{bankSize}
 use Rattle.model.specs.Definitions.Answers.{code}
 use Rattle.model.specs.Definitions.Steps.{Read as ReadAccess, Write as WriteAccess}
-use Rattle.model.specs.Definitions.Calls.{Accessing, Checkpointing, Cutting, Fusing, Restarting, Reply, call, make}
+use Rattle.model.specs.Definitions.Calls.{Accessing, Checkpointing, Fusing, Restarting, Reply, call, make}
 use Rattle.lines.specs.Definitions.Lines.{request}
 use Rattle.lines.specs.Definitions.Output.{newline, printedOf, unreadable, lineOf, lastLine}
 use Rattle.lines.specs.Definitions.Tally.{counted, mostLines}
@@ -42,7 +42,6 @@ work i (Make n p) s = elim (eqb i 1) [ true ↦ made (make n p (zeros (bankSize 
 work i (Read b p o) s = worked (call (Accessing b (ReadAccess p o)) s)
 work i (Write b p o v) s = worked (call (Accessing b (WriteAccess p o v)) s)
 work i (Checkpoint b) s = worked (call (Checkpointing b) s)
-work i (Cut b) s = worked (call (Cutting b) s)
 work i (Fuse b k) s = worked (call (Fusing b k) s)
 work i (Restart b) s = worked (call (Restarting b) s)
 work i Unreadable s = unread s

@@ -11,7 +11,7 @@ use Rattle.types.specs.declared.Answer.the-variants.{OutOfRange}
 use Rattle.types.specs.declared.Outcome.{Outcome}
 use Rattle.lines.specs.declared.print.Printed.{Printed}
 use Rattle.lines.specs.declared.request.Request.{Request}
-use Rattle.lines.specs.declared.request.Request.the-variants.{Make, Read, Write, Checkpoint, Cut, Fuse, Restart, Unreadable}
+use Rattle.lines.specs.declared.request.Request.the-variants.{Make, Read, Write, Checkpoint, Fuse, Restart, Unreadable}
 use Rattle.script.specs.declared.work.Work.{Work}
 use Rattle.model.specs.Definitions.Parts.{zeros}
 use Rattle.model.specs.Definitions.Layout.{mostBoards, mostPages, blockSize, bankSize}
@@ -36,7 +36,6 @@ work-called i (Make n p) s h = cc (ne-eqb i 1 h)
 work-called i (Read b p o) s h = refl
 work-called i (Write b p o v) s h = refl
 work-called i (Checkpoint b) s h = refl
-work-called i (Cut b) s h = refl
 work-called i (Fuse b k) s h = refl
 work-called i (Restart b) s h = refl
 work-called i Unreadable s h = refl

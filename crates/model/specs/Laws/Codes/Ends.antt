@@ -16,10 +16,10 @@ use Rattle.model.specs.Definitions.Layout.{noFuse}
 use Rattle.model.specs.Definitions.Bank.{Bank, boardAt, onBoard}
 use Rattle.model.specs.Definitions.WellFormed.{isUp, isDown}
 use Rattle.model.specs.Definitions.Answers.{code}
-use Rattle.model.specs.Definitions.Steps.{Run, start, step, powerOff, withFuse, checkpoint, Access, valueOf, access}
+use Rattle.model.specs.Definitions.Steps.{Run, start, step, fuseBoard, checkpoint, Access, valueOf, access}
 use Rattle.model.specs.Definitions.Replay.{loaded, usedUp, tookDue, endIfOver, replayed}
-use Rattle.model.specs.Definitions.Calls.{Result, unless, finished, prepared, performed, live, replaying, accessBank, checkpointBank, cutBank, fuseBank}
-use Rattle.model.specs.Definitions.Calls.{restartBank, Call, Accessing, Checkpointing, Cutting, Fusing, Restarting, callBank}
+use Rattle.model.specs.Definitions.Calls.{Result, unless, finished, prepared, performed, live, replaying, accessBank, checkpointBank, fuseBank}
+use Rattle.model.specs.Definitions.Calls.{restartBank, Call, Accessing, Checkpointing, Fusing, Restarting, callBank}
 use Rattle.model.specs.Laws.Logic.{casesOption}
 use Rattle.model.specs.Laws.Codes.Statement.{OfAccess, boardNamed, afterReplay}
 use Rattle.model.specs.Laws.Tests.{says-replaying}
@@ -77,16 +77,13 @@ abbrev pub LateIn : Call → Bank → Run → Type 0
 LateIn c k r = OfAccess (λ b a. ReplayEnd b a k r) c
 
 pub call-ended : (c : Call) (k : Bank) → Ends (boardNamed c) k (LateIn c k) (callBank c k)
-unfolding callBank OfAccess boardNamed checkpointBank cutBank fuseBank restartBank
+unfolding callBank OfAccess boardNamed checkpointBank fuseBank restartBank
 call-ended (Accessing b a) k = access-ended b a k
 call-ended (Checkpointing b) k =
     plain-ended k (λ r. ⊥) b (not (ltb b (length (k .boards)))) (not (isUp (boardAt k b .state))) 0 (checkpoint b (start k))
-call-ended (Cutting b) k =
-    plain-ended k (λ r. ⊥) b (not (ltb b (length (k .boards)))) (isDown (boardAt k b .state)) 0 (step (powerOff b) (start k))
 call-ended (Fusing b n) k =
     plain-ended k (λ r. ⊥) b
-    (not (ltb b (length (k .boards)) && (ltb 0 n && ltb n noFuse))) (isDown (boardAt k b .state)) 0
-    (step (onBoard b (withFuse n)) (start k))
+    (not (ltb b (length (k .boards)) && ltb n noFuse)) (isDown (boardAt k b .state)) 0 (step (fuseBoard b n) (start k))
 call-ended (Restarting b) k =
     plain-ended k (λ r. ⊥) b
     (not (ltb b (length (k .boards)))) (not (isDown (boardAt k b .state)))
@@ -121,7 +118,6 @@ late-not-lost : (c : Call) (k : Bank) (r : Run) → LateIn c k r → r .lost ≡
 unfolding OfAccess
 late-not-lost (Accessing b a) k r l = l .lost
 late-not-lost (Checkpointing b) k r l = absurd l
-late-not-lost (Cutting b) k r l = absurd l
 late-not-lost (Fusing b n) k r l = absurd l
 late-not-lost (Restarting b) k r l = absurd l
 

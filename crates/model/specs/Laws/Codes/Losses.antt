@@ -1,53 +1,50 @@
--- Code 8 of every call: `PowerLost b` is answered exactly where board b was not down before the call and is down after it, and the call was no cut.
--- Assumes nothing.
+-- Code 8 of every call: `PowerLost b` is answered exactly where board b was not down before the call and is down after it, and the call was no fuse
+-- of 0. Assumes nothing.
 use mathlib.Core.Path.{_≡_, refl, ap}
-use mathlib.Core.Logic.{_↔_}
-use Prim.Native.Nat.{ℕ}
-use mathlib.Core.Bool.{not}
+use mathlib.Core.Logic.{_≢_, _↔_}
+use Prim.Native.Nat.{ℕ, zero, suc}
+use mathlib.Core.Bool.{_&&_, not}
 use mathlib.Core.Option.{none, some}
 use lib.ListN.{length}
 use lib.Dec.{ltb}
 use Rattle.types.specs.declared.Answer.{Answer}
 use Rattle.types.specs.declared.Answer.the-variants.{Done, Malformed, OutOfRange, WrongState, CountersFull, ReplayDiffers, OwnerNotUp, LogFull, PowerLost}
+use Rattle.model.specs.Definitions.Layout.{noFuse}
 use Rattle.model.specs.Definitions.Bank.{Bank, boardAt}
 use Rattle.model.specs.Definitions.WellFormed.{WellFormed, isDown}
-use Rattle.model.specs.Definitions.Steps.{Run, start, step, powerOff}
-use Rattle.model.specs.Definitions.Calls.{Result, finished, cutBank, Call, Accessing, Checkpointing, Cutting, Fusing, Restarting, callBank}
+use Rattle.model.specs.Definitions.Steps.{Run, start, step, fuseBoard}
+use Rattle.model.specs.Definitions.Calls.{Result, finished, fuseBank, Call, Accessing, Checkpointing, Fusing, Restarting, callBank}
 use Rattle.model.specs.History.Statement.{LostPower, doneEvent, eventOf}
 use Rattle.model.specs.Laws.Logic.{byOption, byEq}
 use Rattle.model.specs.Laws.Runs.{lost-not}
-use Rattle.model.specs.Laws.Codes.Statement.{IsCut, LosesPower}
+use Rattle.model.specs.Laws.Codes.Statement.{LosesPower}
 use Rattle.model.specs.Laws.Codes.Order.{never}
 use Rattle.model.specs.Laws.Codes.Cases.{plain-cases}
 use Rattle.model.specs.Laws.Codes.Ends.{power-lost}
 use Rattle.model.specs.Laws.Moves.Calls.{feeds, call-moves}
 use Rattle.model.specs.Laws.Moves.Down.{CutIn, LostBoard, Tracks, moves-track}
 
--- a cut blows no fuse
-cut-not-lost : (c : Call) (k : Bank) → IsCut c → callBank c k .run .lost ≡ none
-unfolding callBank IsCut cutBank finished step start
-cut-not-lost (Accessing d a) k i = absurd i
-cut-not-lost (Checkpointing d) k i = absurd i
-cut-not-lost (Cutting d) k i =
+-- no fuse call blows a fuse, whatever its number
+fuse-not-lost : (d n : ℕ) (k : Bank) → callBank (Fusing d n) k .run .lost ≡ none
+unfolding callBank fuseBank finished step start
+fuse-not-lost d n k =
     plain-cases (λ (t : Result). t .run .lost ≡ none) k d
-    (not (ltb d (length (k .boards)))) (isDown (boardAt k d .state)) (finished 0 (step (powerOff d) (start k)))
+    (not (ltb d (length (k .boards)) && ltb n noFuse)) (isDown (boardAt k d .state)) (finished 0 (step (fuseBoard d n) (start k)))
     (λ x l h. refl)
     (λ out wrong. refl)
-cut-not-lost (Fusing d m) k i = absurd i
-cut-not-lost (Restarting d) k i = absurd i
 
--- and only a cut that is done feeds a power loss without an answer that says so
-done-cut : (c : Call) (v b : ℕ) → doneEvent c v ≡ LostPower b → IsCut c
-unfolding doneEvent IsCut
-done-cut (Accessing d a) v b e = never (cc)
-done-cut (Checkpointing d) v b e = never (cc)
-done-cut (Cutting d) v b e = tt
-done-cut (Fusing d m) v b e = never (cc)
-done-cut (Restarting d) v b e = never (cc)
+-- only a fuse of 0 that is done feeds a power loss without an answer that says so
+fed-done : (c : Call) (v b : ℕ) → doneEvent c v ≡ LostPower b → (d : ℕ) × (c ≡ Fusing d 0)
+unfolding doneEvent
+fed-done (Accessing d a) v b e = never (cc)
+fed-done (Checkpointing d) v b e = never (cc)
+fed-done (Fusing d zero) v b e = (d, refl)
+fed-done (Fusing d (suc n)) v b e = never (cc)
+fed-done (Restarting d) v b e = never (cc)
 
-fed-lost : (c : Call) (x : Answer) (b : ℕ) → (¬ IsCut c) → eventOf c x ≡ LostPower b → x ≡ PowerLost b
+fed-lost : (c : Call) (x : Answer) (b : ℕ) → ((d : ℕ) → c ≢ Fusing d 0) → eventOf c x ≡ LostPower b → x ≡ PowerLost b
 unfolding eventOf
-fed-lost c (Done v) b n e = absurd (n (done-cut c v b e))
+fed-lost c (Done v) b n e = let z = fed-done c v b e in absurd (n (z .0) (z .1))
 fed-lost c Malformed b n e = never (cc)
 fed-lost c OutOfRange b n e = never (cc)
 fed-lost c (WrongState d) b n e = never (cc)
@@ -65,7 +62,7 @@ loses-power c k w b =
       λ e.
           let l : r .lost ≡ some b = power-lost c k b .0 e in
           let u : LostBoard b k (r .bank) = t .lost b l in
-          record { call = λ i. lost-not (cut-not-lost c k i) l; before = u .before; after = u .after },
+          record { call = λ d i. lost-not (fuse-not-lost d 0 k) (rw i at l); before = u .before; after = u .after },
       λ u.
           byOption (r .lost)
           (λ n. fed-lost c (callBank c k .answer) b (u .call) (t .going n b .wentDown (u .before) (u .after)))

@@ -17,11 +17,11 @@ use Rattle.model.specs.Definitions.Layout.{noFuse, lastSince}
 use Rattle.model.specs.Definitions.Bank.{Board, Bank, boardAt, entryAt, onBoard}
 use Rattle.model.specs.Definitions.WellFormed.{WellFormed, PlaceOk, isUp, isDown, isReplaying}
 use Rattle.model.specs.Definitions.Answers.{code, value, who}
-use Rattle.model.specs.Definitions.Steps.{Run, start, step, powerOff, withFuse, checkpoint, Access, Read, Write, valueOf, access, giver}
+use Rattle.model.specs.Definitions.Steps.{Run, start, step, fuseBoard, checkpoint, Access, Read, Write, valueOf, access, giver}
 use Rattle.model.specs.Definitions.Replay.{loaded, usedUp, differs, tookDue, replayOver, endIfOver, replayed}
 use Rattle.model.specs.Definitions.Calls.{Result, unless, finished, lackingOf, shortBoard, isSome, numberIn, liveRefusals, prepared, performed, live}
 use Rattle.model.specs.Definitions.Calls.{liveAfterEnd, replaying, accessInRange, countersFull, refusalsWithin, accessWithin, accessBank, checkpointBank}
-use Rattle.model.specs.Definitions.Calls.{cutBank, fuseBank, restartBank, Call, Accessing, Checkpointing, Cutting, Fusing, Restarting, callBank}
+use Rattle.model.specs.Definitions.Calls.{fuseBank, restartBank, Call, Accessing, Checkpointing, Fusing, Restarting, callBank}
 use Rattle.model.specs.Laws.Logic.{cases, casesOption}
 use Rattle.model.specs.Laws.Boards.{boardAt-same}
 use Rattle.model.specs.Laws.Runs.Stores.{endReplay-changed}
@@ -29,7 +29,7 @@ use Rattle.model.specs.Laws.Codes.Statement.{Row, OfAccess, boardNamed, 
 use Rattle.model.specs.Laws.Codes.Statement.{afterReplay, LiveOn, up, replayEnded, Live, ownerOf, FromNotUp, OwnerOut, SomeShort, RoomOut, LowestShort}
 use Rattle.model.specs.Laws.Codes.Statement.{refusalRows}
 use Rattle.model.specs.Laws.Tests.{Says, says-and, says-down, says-up, says-replaying}
-use Rattle.model.specs.Laws.Codes.Order.{never, fails, says-absurd, says-iff, says-no, says-not-and, says-not-lt, says-not-pos, Judged, judged-nil}
+use Rattle.model.specs.Laws.Codes.Order.{never, fails, says-absurd, says-iff, says-no, says-not-and, says-not-lt, Judged, judged-nil}
 use Rattle.model.specs.Laws.Codes.Order.{judged-past, judged-test, judged-go}
 use Rattle.model.specs.Laws.Codes.Tests.{access-out, counters-end, replay-other, LastDue, last-due}
 use Rattle.model.specs.Laws.Codes.Needs.{fetches, some-short, lowest-short}
@@ -226,25 +226,17 @@ plain-judged c k out wrong v r other d2 d3 =
     (judged-past _ (other _) (judged-past _ (other _) (judged-past _ (other _) (judged-past _ (other _) (judged-nil (finished-ran v r))))))))
 
 pub rows-judged : (c : Call) (k : Bank) → WellFormed k → Judged Ran 2 (refusalRows c k) (callBank c k .answer)
-unfolding callBank refusalRows OfAccess NumbersOut StateOut CountersOut ReplayOut OwnerOut RoomOut boardNamed accessRows liveRows checkpointBank cutBank
+unfolding callBank refusalRows OfAccess NumbersOut StateOut CountersOut ReplayOut OwnerOut RoomOut boardNamed accessRows liveRows checkpointBank
     fuseBank restartBank
 rows-judged (Accessing b a) k w = access-judged b a k w
 rows-judged (Checkpointing b) k w =
     plain-judged (Checkpointing b) k (not (ltb b (length (k .boards)))) (not (isUp (boardAt k b .state))) 0 (checkpoint b (start k))
     (λ P u. u) (says-not-lt b (length (k .boards))) (not-up (boardAt k b .state))
-rows-judged (Cutting b) k w =
-    plain-judged (Cutting b) k (not (ltb b (length (k .boards)))) (isDown (boardAt k b .state)) 0 (step (powerOff b) (start k))
-    (λ P u. u) (says-not-lt b (length (k .boards))) (says-down (boardAt k b .state))
 rows-judged (Fusing b n) k w =
     plain-judged (Fusing b n) k
-    (not (ltb b (length (k .boards)) && (ltb 0 n && ltb n noFuse))) (isDown (boardAt k b .state)) 0
-    (step (onBoard b (withFuse n)) (start k))
+    (not (ltb b (length (k .boards)) && ltb n noFuse)) (isDown (boardAt k b .state)) 0 (step (fuseBoard b n) (start k))
     (λ P u. u)
-    (says-not-and (ltb b (length (k .boards))) (ltb 0 n && ltb n noFuse)
-    (says-not-lt b (length (k .boards)))
-    (says-not-and (ltb 0 n) (ltb n noFuse)
-    (says-not-pos n)
-    (says-not-lt n noFuse)))
+    (says-not-and (ltb b (length (k .boards))) (ltb n noFuse) (says-not-lt b (length (k .boards))) (says-not-lt n noFuse))
     (says-down (boardAt k b .state))
 rows-judged (Restarting b) k w =
     plain-judged (Restarting b) k

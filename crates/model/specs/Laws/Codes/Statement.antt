@@ -22,7 +22,7 @@ use Rattle.model.specs.Definitions.Codec.{decode}
 use Rattle.model.specs.Definitions.Check.{wellFormed}
 use Rattle.model.specs.Definitions.Steps.{Run, start, Access, Read, Write, pageNamed}
 use Rattle.model.specs.Definitions.Replay.{tookDue, endReplay}
-use Rattle.model.specs.Definitions.Calls.{Call, Accessing, Checkpointing, Cutting, Fusing, Restarting, callBank}
+use Rattle.model.specs.Definitions.Calls.{Call, Accessing, Checkpointing, Fusing, Restarting, callBank}
 use Rattle.model.specs.Contracts.{storedCount, volatileCount}
 
 -- ==== rows, and their order
@@ -55,7 +55,6 @@ WhoIn (r ∷ rs) (suc i) w = WhoIn rs i w
 unfoldable pub boardNamed : Call → ℕ
 boardNamed (Accessing b a) = b
 boardNamed (Checkpointing b) = b
-boardNamed (Cutting b) = b
 boardNamed (Fusing b n) = b
 boardNamed (Restarting b) = b
 
@@ -63,7 +62,6 @@ boardNamed (Restarting b) = b
 unfoldable pub OfAccess : (ℕ → Access → Type 0) → Call → Type 0
 OfAccess P (Accessing b a) = P b a
 OfAccess P (Checkpointing b) = ⊥
-OfAccess P (Cutting b) = ⊥
 OfAccess P (Fusing b n) = ⊥
 OfAccess P (Restarting b) = ⊥
 
@@ -73,12 +71,11 @@ unfoldable pub AccessOut : ℕ → Access → Bank → Type 0
 AccessOut b (Read p o) k = (length (k .boards) ≤ b) ⊎ (length (k .directory) ≤ p) ⊎ (pageSize ≤ o)
 AccessOut b (Write p o v) k = (length (k .boards) ≤ b) ⊎ (length (k .directory) ≤ p) ⊎ (pageSize ≤ o) ⊎ (byteValues ≤ v)
 
--- "Fuse k, 1 to 65,534"
+-- "For the fuse number, code 2 then covers only what is above 65,534" (document 02, F-1)
 unfoldable pub NumbersOut : Call → Bank → Type 0
 NumbersOut (Accessing b a) k = AccessOut b a k
 NumbersOut (Checkpointing b) k = length (k .boards) ≤ b
-NumbersOut (Cutting b) k = length (k .boards) ≤ b
-NumbersOut (Fusing b n) k = (length (k .boards) ≤ b) ⊎ (n ≡ 0) ⊎ (noFuse ≤ n)
+NumbersOut (Fusing b n) k = (length (k .boards) ≤ b) ⊎ (noFuse ≤ n)
 NumbersOut (Restarting b) k = length (k .boards) ≤ b
 
 -- ==== 3: "dark and not restart; restart and not dark; checkpoint while replaying"
@@ -86,7 +83,6 @@ NumbersOut (Restarting b) k = length (k .boards) ≤ b
 unfoldable pub StateOut : Call → Bank → Type 0
 StateOut (Accessing b a) k = boardAt k b .state ≡ Down
 StateOut (Checkpointing b) k = (boardAt k b .state ≡ Down) ⊎ (boardAt k b .state ≡ Replaying)
-StateOut (Cutting b) k = boardAt k b .state ≡ Down
 StateOut (Fusing b n) k = boardAt k b .state ≡ Down
 StateOut (Restarting b) k = boardAt k b .state ≢ Down
 
@@ -209,18 +205,11 @@ pub record LowestShort (b : ℕ) (a : Access) (k : Bank) (c : ℕ) : Type 0 wher
   pub short : Short b a k c
   pub lowest : (d : ℕ) → d < c → ¬ Short b a k d
 
--- ==== 8: "a fuse blew in this call": a board went down, and no cut was called
-
-unfoldable pub IsCut : Call → Type 0
-IsCut (Accessing b a) = ⊥
-IsCut (Checkpointing b) = ⊥
-IsCut (Cutting b) = Unit
-IsCut (Fusing b n) = ⊥
-IsCut (Restarting b) = ⊥
+-- ==== 8: "a fuse blew in this call": a board went down, and not by a fuse of 0
 
 -- board b lost power in call c on bank k
 pub record LosesPower (c : Call) (k : Bank) (b : ℕ) : Type 0 where
-  pub call : ¬ IsCut c
+  pub call : (d : ℕ) → c ≢ Fusing d 0
   pub before : boardAt k b .state ≢ Down
   pub after : boardAt (callBank c k .run .bank) b .state ≡ Down
 

@@ -1,7 +1,7 @@
 -- Every call keeps banks alike and answers alike. Premises: f keeps 0, and a byte a byte and what is no byte no byte, because code 2 tests a written value;
 -- nothing else is asked of a byte. Assumes nothing.
 use mathlib.Core.Path.{_≡_, refl, ap}
-use Prim.Native.Nat.{ℕ}
+use Prim.Native.Nat.{ℕ, zero, suc}
 use mathlib.Core.Bool.{Bool, _&&_, not}
 use lib.ListN.{length}
 use lib.Dec.{ltb}
@@ -9,10 +9,10 @@ use Rattle.types.specs.declared.State.{State}
 use Rattle.model.specs.Definitions.Layout.{byteValues, noFuse}
 use Rattle.model.specs.Definitions.Bank.{Bank}
 use Rattle.model.specs.Definitions.WellFormed.{isUp, isDown}
-use Rattle.model.specs.Definitions.Steps.{Run, start}
+use Rattle.model.specs.Definitions.Steps.{Run, start, step, fuseBoard}
 use mathlib.Core.List.{[], _∷_}
 use Rattle.types.specs.declared.Answer.the-variants.{OutOfRange, WrongState}
-use Rattle.model.specs.Definitions.Calls.{unless, finished, checkpointBank, cutBank, fuseBank, restartBank, Call, Accessing, Checkpointing, Cutting}
+use Rattle.model.specs.Definitions.Calls.{unless, finished, checkpointBank, fuseBank, restartBank, Call, Accessing, Checkpointing}
 use Rattle.model.specs.Definitions.Calls.{Fusing, Restarting, callWithin}
 use Rattle.model.specs.Moves.{LosePower, SetFuse, does}
 use Rattle.model.specs.Likeness.{pairs-nil, pairs-cons, BoardAlike, Alike, mappedAccess, mapped, mappedCall, mappedValue, mappedCallValue, onValue}
@@ -40,16 +40,15 @@ module _ (f : ℕ → ℕ) (z : f 0 ≡ 0) where
       alike-tested b (ap not (sameThere b e)) (ap (λ (s : State). not (isUp s)) (alike-boardAt f b e .state)) refl e
       (alike-checkpoint f z b (alike-start f e))
 
-  alike-cutBank : (b : ℕ) {k j : Bank} → Alike f k j → ResultAlike f (λ x. x) (cutBank b k) (cutBank b j)
-  unfolding cutBank does mapped
-  alike-cutBank b e =
-      alike-tested b (ap not (sameThere b e)) (ap isDown (alike-boardAt f b e .state)) refl e (moves-alike f z (LosePower b) (alike-start f e))
+  alike-fuseBoard : (b n : ℕ) {k j : Bank} → Alike f k j → RunAlike f (step (fuseBoard b n) (start k)) (step (fuseBoard b n) (start j))
+  unfolding fuseBoard does mapped
+  alike-fuseBoard b zero e = moves-alike f z (LosePower b) (alike-start f e)
+  alike-fuseBoard b (suc n) e = moves-alike f z (SetFuse b (suc n)) (alike-start f e)
 
   alike-fuseBank : (b n : ℕ) {k j : Bank} → Alike f k j → ResultAlike f (λ x. x) (fuseBank b n k) (fuseBank b n j)
-  unfolding fuseBank does mapped
+  unfolding fuseBank
   alike-fuseBank b n e =
-      alike-tested b (ap (λ (t : Bool). not (t && (ltb 0 n && ltb n noFuse))) (sameThere b e)) (ap isDown (alike-boardAt f b e .state)) refl e
-      (moves-alike f z (SetFuse b n) (alike-start f e))
+      alike-tested b (ap (λ (t : Bool). not (t && ltb n noFuse)) (sameThere b e)) (ap isDown (alike-boardAt f b e .state)) refl e (alike-fuseBoard b n e)
 
   alike-restartBank : (b : ℕ) {k j : Bank} → Alike f k j → ResultAlike f (λ x. x) (restartBank b k) (restartBank b j)
   unfolding restartBank
@@ -64,6 +63,5 @@ module _ (f : ℕ → ℕ) (z : f 0 ≡ 0) where
   unfolding callWithin mappedCall mappedCallValue mappedAccess mappedValue
   calls-alike bytes largest (Accessing b a) e = alike-accessWithin f z b a bytes largest e
   calls-alike bytes largest (Checkpointing b) e = alike-checkpointBank b e
-  calls-alike bytes largest (Cutting b) e = alike-cutBank b e
   calls-alike bytes largest (Fusing b n) e = alike-fuseBank b n e
   calls-alike bytes largest (Restarting b) e = alike-restartBank b e

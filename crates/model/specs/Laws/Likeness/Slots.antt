@@ -8,7 +8,7 @@ use Rattle.types.specs.declared.Frame.{Frame}
 use Rattle.model.specs.Definitions.Layout.{lastSince}
 use Rattle.model.specs.Definitions.Bank.{Log, Area, Board, Bank}
 use Rattle.model.specs.Definitions.Steps.{Access, Read, Write}
-use Rattle.model.specs.Definitions.Calls.{Call, Accessing, Checkpointing, Cutting, Fusing, Restarting, callWithin, callBank}
+use Rattle.model.specs.Definitions.Calls.{Call, Accessing, Checkpointing, Fusing, Restarting, callWithin, callBank}
 use Rattle.model.specs.Likeness.{FrameAlike, RecordAlike, FramesAlike, LogAlike, AreaAlike, BoardAlike, logOver, areaOver, boardOver, slotsOver}
 use Rattle.model.specs.Likeness.{mappedAccess, mappedValue, mappedCall, mappedCallValue, onValue, ResultAlike, SameBelowCounts, SameAnswer}
 use Rattle.model.specs.Laws.Likeness.{pairs-over, pairs-same}
@@ -29,7 +29,6 @@ mappedCall-same : (c : Call) → mappedCall (λ v. v) c ≡ c
 unfolding mappedCall
 mappedCall-same (Accessing b a) = ap (Accessing b) (mappedAccess-same a)
 mappedCall-same (Checkpointing b) = refl
-mappedCall-same (Cutting b) = refl
 mappedCall-same (Fusing b n) = refl
 mappedCall-same (Restarting b) = refl
 
@@ -37,7 +36,6 @@ mappedCallValue-same : (c : Call) (v : ℕ) → mappedCallValue (λ v. v) c v �
 unfolding mappedCallValue
 mappedCallValue-same (Accessing b a) v = mappedValue-same a v
 mappedCallValue-same (Checkpointing b) v = refl
-mappedCallValue-same (Cutting b) v = refl
 mappedCallValue-same (Fusing b n) v = refl
 mappedCallValue-same (Restarting b) v = refl
 

@@ -1,7 +1,7 @@
 -- Every call of a well-formed bank is a list of moves, cut off after the store that blew a fuse; so it leaves a well-formed bank. Assumes nothing.
 use mathlib.Core.Path.{_≡_, refl, sym, ap, _∙_}
 use mathlib.Core.Logic.{_≢_, _⊎_, inl, inr}
-use Prim.Native.Nat.{ℕ, _<_}
+use Prim.Native.Nat.{ℕ, zero, suc, _<_}
 use native.Mathlib.Omega.{arith}
 use mathlib.Core.Bool.{Bool, true, false, _&&_}
 use mathlib.Core.Option.{none, some}
@@ -21,12 +21,12 @@ use Rattle.words.specs.Bytes.{Each, each-nil, each-cons}
 use Rattle.model.specs.Definitions.Layout.{noFuse}
 use Rattle.model.specs.Definitions.Bank.{Entry, Board, Bank, boardAt, entryAt, onBoard, onWorking}
 use Rattle.model.specs.Definitions.WellFormed.{WellFormed, isUp, isReplaying}
-use Rattle.model.specs.Definitions.Steps.{Run, start, step, powerOff, withFuse, checkpoint, Access, Read, Write, pageNamed, lacks, takes, valueOf, access}
+use Rattle.model.specs.Definitions.Steps.{Run, start, step, fuseBoard, checkpoint, Access, Read, Write, pageNamed, lacks, takes, valueOf, access}
 use Rattle.model.specs.Definitions.Steps.{frameOf, note, flush, giver, show, dropCopies, passOwnership, writeFetch, fetch}
 use Rattle.model.specs.Definitions.Replay.{settle, loaded, usedUp, lacking, differs, tookDue, replayOver, settled, endReplay, endIfOver, replayed}
 use Rattle.model.specs.Definitions.Calls.{Result, firstOf, unless, finished, copiesOut, lackingOf, liveRefusals, prepared, performed, live, liveAfterEnd}
-use Rattle.model.specs.Definitions.Calls.{replaying, refusalsWithin, accessRefusals, accessWithin, accessBank, checkpointBank, cutBank, fuseBank}
-use Rattle.model.specs.Definitions.Calls.{restartBank, Call, Accessing, Reply, refused, replyOf, call, Checkpointing, Cutting, Fusing, Restarting}
+use Rattle.model.specs.Definitions.Calls.{replaying, refusalsWithin, accessRefusals, accessWithin, accessBank, checkpointBank, fuseBank}
+use Rattle.model.specs.Definitions.Calls.{restartBank, Call, Accessing, Reply, refused, replyOf, call, Checkpointing, Fusing, Restarting}
 use Rattle.model.specs.Definitions.Calls.{callBank}
 use Rattle.model.specs.Definitions.Answers.{code}
 use Rattle.model.specs.Definitions.Codec.{decode}
@@ -345,26 +345,22 @@ module _ (b : ℕ) (k : Bank) (w : WellFormed k) where
         isUp-up (boardAt k b .state) (not-false (isUp (boardAt k b .state)) (firstOf-none _ _ _ (firstOf-none _ _ _ e .rest) .here)) in
         finished-moves (Checkpointing b) k 0 (checkpoint b (start k)) (ends (checkpoint-moves b begun checkpoints still (λ n. up))))
 
-    cutBank-moves : MadeBy b Again Begun (start k) (Cutting b) k (cutBank b k)
-    unfolding cutBank start does eventOf doneEvent gaveIn
-    cutBank-moves =
-        unless-moves (Cutting b) k _ (start k) _ (each-cons refl (each-cons refl each-nil)) still
-        (λ e.
-        let l : b < length (k .boards) = ltb-true b (length (k .boards)) (not-false _ (firstOf-none _ _ _ e .here)) in
-        finished-moves (Cutting b) k 0 (step (powerOff b) (start k)) (moves-do (LosePower b) still (λ n. losesPower l)))
+    fuseBoard-moves : (n : ℕ) → b < length (k .boards) → boardAt k b .state ≢ Down → n < noFuse
+        → Moves b Again Begun (start k) (feeds (Fusing b n) k (Done 0)) (step (fuseBoard b n) (start k))
+    unfolding fuseBoard start does eventOf doneEvent gaveIn
+    fuseBoard-moves zero l power high = moves-do (LosePower b) still (λ z. losesPower l)
+    fuseBoard-moves (suc n) l power high = ends (moves-do (SetFuse b (suc n)) still (λ z. setsFuse (suc n) power (omega arith) (omega arith)))
 
     fuseBank-moves : (n : ℕ) → MadeBy b Again Begun (start k) (Fusing b n) k (fuseBank b n k)
-    unfolding fuseBank start does eventOf doneEvent gaveIn
+    unfolding fuseBank start eventOf
     fuseBank-moves n =
         unless-moves (Fusing b n) k _ (start k) _ (each-cons refl (each-cons refl each-nil)) still
         (λ e.
-        let t : (ltb b (length (k .boards)) && (ltb 0 n && ltb n noFuse)) ≡ true = not-false _ (firstOf-none _ _ _ e .here) in
-        let range : (ltb 0 n && ltb n noFuse) ≡ true = and-right (ltb b (length (k .boards))) _ t in
-        let low : 0 < n = ltb-true 0 n (and-left _ (ltb n noFuse) range) in
-        let high : n < noFuse = ltb-true n noFuse (and-right (ltb 0 n) _ range) in
+        let t : (ltb b (length (k .boards)) && ltb n noFuse) ≡ true = not-false _ (firstOf-none _ _ _ e .here) in
+        let l : b < length (k .boards) = ltb-true b (length (k .boards)) (and-left _ (ltb n noFuse) t) in
+        let high : n < noFuse = ltb-true n noFuse (and-right (ltb b (length (k .boards))) _ t) in
         let power : boardAt k b .state ≢ Down = isDown-not (boardAt k b .state) (firstOf-none _ _ _ (firstOf-none _ _ _ e .rest) .here) in
-        finished-moves (Fusing b n) k 0 (step (onBoard b (withFuse n)) (start k))
-        (ends (moves-do (SetFuse b n) still (λ z. setsFuse n power low (omega arith)))))
+        finished-moves (Fusing b n) k 0 (step (fuseBoard b n) (start k)) (fuseBoard-moves n l power high))
 
     restartBank-moves : MadeBy b Again Begun (start k) (Restarting b) k (restartBank b k)
     unfolding restartBank start does step usedUp loaded onWorking eventOf doneEvent gaveIn
@@ -385,7 +381,6 @@ pub call-moves : (c : Call) (k : Bank) → WellFormed k
 unfolding callBank boardNamed
 call-moves (Accessing b a) k w = access-moves b k w a
 call-moves (Checkpointing b) k w = checkpointBank-moves b k w
-call-moves (Cutting b) k w = cutBank-moves b k w
 call-moves (Fusing b n) k w = fuseBank-moves b k w n
 call-moves (Restarting b) k w = restartBank-moves b k w
 

@@ -1,5 +1,5 @@
--- Who is down over a call: only a store and a cut bring a board down, only a restart ends that, and who restarted has no fuse. So a fuse blew exactly where a
--- board that was not down is down after a call that fed no cut. Assumes nothing.
+-- Who is down over a call: only a store and a fuse of 0 bring a board down, only a restart ends that, and who restarted has no fuse. So a fuse blew exactly
+-- where a board that was not down is down after a call that fed no power loss by a fuse of 0. Assumes nothing.
 use mathlib.Core.Path.{_≡_, refl, sym, ap, _∙_}
 use mathlib.Core.Logic.{_≢_}
 use Prim.Native.Nat.{ℕ, _<_}
@@ -79,7 +79,7 @@ states-passOwnership o w p k c =
 
 -- ==== what may have become of a board
 
--- the call is a cut of board c, and over
+-- the call is a fuse of 0 on board c, and over
 unfoldable pub CutIn : Phase → ℕ → Type 0
 CutIn Begun c = ⊥
 CutIn (Noted o p) c = ⊥
@@ -118,7 +118,7 @@ pub record Tracks (k : Bank) (χ : Phase) (r : Run) : Type 0 where
 
 -- ---- from one phase to the next
 
--- no cut before, and who may have restarted still may
+-- no power loss before, and who may have restarted still may
 abbrev Leads : Phase → Phase → Type 0
 Leads χ ψ = ((c : ℕ) → CutIn χ c → ⊥) × (RestartIn χ → RestartIn ψ)
 

@@ -42,8 +42,8 @@ printed-of-requires-3 c κs = search needs
 enum-known-request-4 : tie.Need-enum-known-request-4
 enum-known-request-4 c = search needs
 
-cut-requires : tie.Need-cut-requires
-cut-requires c κs = search needs
+fuse-requires : tie.Need-fuse-requires
+fuse-requires c κs = search needs
 
 printed-of-requires-4 : tie.Need-printed-of-requires-4
 printed-of-requires-4 c κs = search needs
@@ -51,20 +51,11 @@ printed-of-requires-4 c κs = search needs
 enum-known-request-5 : tie.Need-enum-known-request-5
 enum-known-request-5 c = search needs
 
-fuse-requires : tie.Need-fuse-requires
-fuse-requires c κs = search needs
-
-printed-of-requires-5 : tie.Need-printed-of-requires-5
-printed-of-requires-5 c κs = search needs
-
-enum-known-request-6 : tie.Need-enum-known-request-6
-enum-known-request-6 c = search needs
-
 restart-requires : tie.Need-restart-requires
 restart-requires c κs = search needs
 
-printed-of-requires-6 : tie.Need-printed-of-requires-6
-printed-of-requires-6 c κs = search needs
+printed-of-requires-5 : tie.Need-printed-of-requires-5
+printed-of-requires-5 c κs = search needs
 
 enum-told-2 : tie.Need-enum-told-2
 enum-told-2 c = search needs
@@ -109,7 +100,7 @@ same-length-4 c = search needs
 returns-5 : tie.Need-returns-5
 unfolding work
 returns-5 c =
-    call-worked _ _ (c .before .before .before .before .before .before .request4 .given .1) (c .before .before .before .cut .ensures .0)
+    call-worked _ _ (c .before .before .before .before .before .before .request4 .given .1) (c .before .before .before .fuse .ensures .0)
     (c .printed-of4 .ensures) refl
 
 same-length-5 : tie.Need-same-length-5
@@ -118,21 +109,12 @@ same-length-5 c = search needs
 returns-6 : tie.Need-returns-6
 unfolding work
 returns-6 c =
-    call-worked _ _ (c .before .before .before .before .before .before .request5 .given .1) (c .before .before .before .fuse .ensures .0)
+    call-worked _ _ (c .before .before .before .before .before .before .request5 .given .1) (c .before .before .before .restart .ensures .0)
     (c .printed-of5 .ensures) refl
-
-same-length-6 : tie.Need-same-length-6
-same-length-6 c = search needs
 
 returns-7 : tie.Need-returns-7
 unfolding work
-returns-7 c =
-    call-worked _ _ (c .before .before .before .before .before .before .request6 .given .1) (c .before .before .before .restart .ensures .0)
-    (c .printed-of6 .ensures) refl
-
-returns-8 : tie.Need-returns-8
-unfolding work
-returns-8 c = line-unread _ (c .before .enum-told2 .given .1) (c .unreadable2 .ensures) refl
+returns-7 c = line-unread _ (c .before .enum-told2 .given .1) (c .unreadable2 .ensures) refl
 
 pub do-call-spec : {M : Type 1} → statement M
 do-call-spec =
@@ -150,14 +132,11 @@ do-call-spec =
     checkpoint-requires
     printed-of-requires-3
     enum-known-request-4
-    cut-requires
+    fuse-requires
     printed-of-requires-4
     enum-known-request-5
-    fuse-requires
-    printed-of-requires-5
-    enum-known-request-6
     restart-requires
-    printed-of-requires-6
+    printed-of-requires-5
     enum-told-2
     unreadable-requires-2
     returns
@@ -171,6 +150,4 @@ do-call-spec =
     returns-5
     same-length-5
     returns-6
-    same-length-6
-    returns-7
-    returns-8)
+    returns-7)

@@ -7,7 +7,7 @@ use native.Mathlib.Omega.{arith}
 use types.Run.{OneOf}
 use denote.Enum.Declared.{tagOf}
 use Rattle.lines.specs.declared.request.Request.{Request}
-use Rattle.lines.specs.declared.request.Request.the-variants.{Make, Read, Write, Checkpoint, Cut, Fuse, Restart, Unreadable}
+use Rattle.lines.specs.declared.request.Request.the-variants.{Make, Read, Write, Checkpoint, Fuse, Restart, Unreadable}
 use Rattle.script.specs.Definitions.Runner.{work}
 use Rattle.script.specs.Laws.Work.{work-called, works-as, make-first}
 use Rattle.script.specs.Contracts.{called}
@@ -23,22 +23,20 @@ same-length : tie.Need-same-length
 same-length c = search needs
 
 -- an arm other than N's
-seven : OneOf (1 ∷ 2 ∷ 3 ∷ 4 ∷ 5 ∷ 6 ∷ 7 ∷ []) 0 → ⊥
-seven (inl e) = omega arith
-seven (inr (inl e)) = omega arith
-seven (inr (inr (inl e))) = omega arith
-seven (inr (inr (inr (inl e)))) = omega arith
-seven (inr (inr (inr (inr (inl e))))) = omega arith
-seven (inr (inr (inr (inr (inr (inl e)))))) = omega arith
-seven (inr (inr (inr (inr (inr (inr e)))))) = omega arith
+six : OneOf (1 ∷ 2 ∷ 3 ∷ 4 ∷ 5 ∷ 6 ∷ []) 0 → ⊥
+six (inl e) = omega arith
+six (inr (inl e)) = omega arith
+six (inr (inr (inl e))) = omega arith
+six (inr (inr (inr (inl e)))) = omega arith
+six (inr (inr (inr (inr (inl e))))) = omega arith
+six (inr (inr (inr (inr (inr e))))) = omega arith
 
-no-make : (q : Request) (i : ℕ) (s : List ℕ) → OneOf (1 ∷ 2 ∷ 3 ∷ 4 ∷ 5 ∷ 6 ∷ 7 ∷ []) (tagOf R.the-type q) → work i q s ≡ called q s
+no-make : (q : Request) (i : ℕ) (s : List ℕ) → OneOf (1 ∷ 2 ∷ 3 ∷ 4 ∷ 5 ∷ 6 ∷ []) (tagOf R.the-type q) → work i q s ≡ called q s
 unfolding work
-no-make (Make n p) i s h = absurd (seven h)
+no-make (Make n p) i s h = absurd (six h)
 no-make (Read b p o) i s h = refl
 no-make (Write b p o v) i s h = refl
 no-make (Checkpoint b) i s h = refl
-no-make (Cut b) i s h = refl
 no-make (Fuse b k) i s h = refl
 no-make (Restart b) i s h = refl
 no-make Unreadable i s h = refl

@@ -1,19 +1,17 @@
--- `engine::power::fuse` meets its contract: each return is one way through the call. Assumes nothing.
+-- `engine::fuse::fuse` meets its contract: each return is one way through the call. Assumes nothing.
 use mathlib.Core.Path.{_≡_, refl, sym, _∙_}
-use mathlib.Core.Bool.{true, _&&_}
+use mathlib.Core.Bool.{true}
 use native.Mathlib.Omega.{arith}
 use lib.Dec.{ltb}
-use borrow.Author.Tests.{ltb-true}
+use borrow.Author.Tests.{lt-ltb, le-ltb}
 use Rattle.model.specs.Definitions.Layout.{noFuse}
 use Rattle.model.specs.Definitions.Calls.{Fusing}
-use Rattle.model.specs.Laws.Logic.{and-right}
 use Rattle.model.specs.Laws.Codes.Statement.{boardNamed}
-use Rattle.validity.specs.Search.{failed, passed}
 use Rattle.checks.specs.Findings.{OnBoard, on-small, board-says}
 use Rattle.engine.specs.Replies.{refused-replied, found-replied, done-replied, fuse-stores, fuse-down, fuse-done}
 use borrow.Author.Needs.{needs}
-use Rattle.engine.proofs.power.fuse.Statement.{statement}
-use Rattle.engine.proofs.power.fuse.Tie as tie
+use Rattle.engine.proofs.fuse.fuse.Statement.{statement}
+use Rattle.engine.proofs.fuse.fuse.Tie as tie
 
 -- the board that was found, with its state
 found : (c : tie.After-state)
@@ -21,10 +19,8 @@ found : (c : tie.After-state)
 found c = board-says _ _ (c .before .before .enter .ensures) (c .state .given .1)
 
 -- the number of stores is one that a fuse may have
-allowed : (c : tie.Else1)
-    → (ltb 0 (c .before .before .before .before .before .before .before .before .args .stores)
-    && ltb (c .before .before .before .before .before .before .before .before .args .stores) noFuse) ≡ true
-allowed c = passed (c .before .settable .ensures) (c .if1 .left)
+allowed : (c : tie.Else1) → ltb (c .before .before .before .before .before .before .before .args .stores) noFuse ≡ true
+allowed c = lt-ltb _ _ (c .if1 .left)
 
 enter-requires : tie.Need-enter-requires
 enter-requires c κs = search needs
@@ -38,9 +34,6 @@ refuse-entry-requires c κs = search needs
 enum-known-state : tie.Need-enum-known-state
 enum-known-state c = search needs
 
-settable-requires : tie.Need-settable-requires
-settable-requires c κs = search needs
-
 refuse-requires : tie.Need-refuse-requires
 refuse-requires c κs = search needs
 
@@ -48,16 +41,13 @@ same-length : tie.Need-same-length
 same-length c = search needs
 
 returns : tie.Need-returns
-returns c =
-    refused-replied
-    (fuse-stores (found (c .before .before .before .before)) _ (failed (c .before .before .settable .ensures) (c .before .if1 .taken)))
-    (c .refuse .ensures)
+returns c = refused-replied (fuse-stores (found (c .before .before .before)) _ (le-ltb _ _ (c .before .if1 .taken))) (c .refuse .ensures)
 
 is-down-requires : tie.Need-is-down-requires
 is-down-requires c κs = search needs
 
 wrong-state-requires : tie.Need-wrong-state-requires
-wrong-state-requires c κs = on-small (found (c .before .before .before .before .before))
+wrong-state-requires c κs = on-small (found (c .before .before .before .before))
 
 same-length-2 : tie.Need-same-length-2
 same-length-2 c = search needs
@@ -65,21 +55,19 @@ same-length-2 c = search needs
 returns-2 : tie.Need-returns-2
 returns-2 c =
     refused-replied
-    (fuse-down (found (c .before .before .before .before .before .before)) _ (allowed (c .before .before .before))
+    (fuse-down (found (c .before .before .before .before .before)) _ (allowed (c .before .before .before))
     (sym (c .before .before .is-down .ensures) ∙ c .before .if2 .taken))
     (c .wrong-state .ensures)
 
 page-count-requires : tie.Need-page-count-requires
-page-count-requires c κs = found (c .before .before .before .before .before .before) .whole
+page-count-requires c κs = found (c .before .before .before .before .before) .whole
 
-cast-set-board-fuse : tie.Need-cast-set-board-fuse
-cast-set-board-fuse c =
-    let n = c .before .before .before .before .before .before .before .before .before .before .before .before .before .args .stores in
-    omega (arith, ltb-true n noFuse (and-right (ltb 0 n) (ltb n noFuse) (allowed (c .before .before .before .before .before))))
+cast-fuse-board : tie.Need-cast-fuse-board
+cast-fuse-board c = omega (arith, c .before .before .before .before .before .if1 .left)
 
-set-board-fuse-requires : tie.Need-set-board-fuse-requires
-set-board-fuse-requires c κs =
-    let on = found (c .before .before .before .before .before .before .before .before) in
+fuse-board-requires : tie.Need-fuse-board-requires
+fuse-board-requires c κs =
+    let on = found (c .before .before .before .before .before .before .before) in
     (on .whole, c .before .page-count .ensures, omega (arith, on .inside))
 
 same-length-3 : tie.Need-same-length-3
@@ -98,8 +86,8 @@ returns-4 : tie.Need-returns-4
 returns-4 c =
     let tested = c .before .before .before .before .before .before in
     let set = tested .before .before in
-    done-replied _ (fuse-done (found (set .before .before .before)) _ (allowed set) (sym (tested .before .is-down .ensures) ∙ tested .if2 .left))
-    (c .before .before .set-board-fuse .ensures)
+    done-replied _ (fuse-done (found (set .before .before)) _ (allowed set) (sym (tested .before .is-down .ensures) ∙ tested .if2 .left))
+    (c .before .before .fuse-board .ensures)
 
 pub fuse-spec : {M : Type 1} → statement M
 fuse-spec =
@@ -109,7 +97,6 @@ fuse-spec =
     enum-known-refusal
     refuse-entry-requires
     enum-known-state
-    settable-requires
     refuse-requires
     same-length
     returns
@@ -118,8 +105,8 @@ fuse-spec =
     same-length-2
     returns-2
     page-count-requires
-    cast-set-board-fuse
-    set-board-fuse-requires
+    cast-fuse-board
+    fuse-board-requires
     same-length-3
     returns-3
     same-length-4
