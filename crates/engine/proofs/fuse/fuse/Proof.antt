@@ -20,7 +20,7 @@ found c = board-says _ _ (c .before .before .enter .ensures) (c .state .given .1
 
 -- the number of stores is one that a fuse may have
 allowed : (c : tie.Else1) → ltb (c .before .before .before .before .before .before .before .args .stores) noFuse ≡ true
-allowed c = lt-ltb _ _ (c .if1 .left)
+allowed c = lt-ltb (c .before .before .before .before .before .before .before .args .stores) noFuse (omega (arith, c .if1 .left))
 
 enter-requires : tie.Need-enter-requires
 enter-requires c κs = search needs
@@ -41,7 +41,9 @@ same-length : tie.Need-same-length
 same-length c = search needs
 
 returns : tie.Need-returns
-returns c = refused-replied (fuse-stores (found (c .before .before .before)) _ (le-ltb _ _ (c .before .if1 .taken))) (c .refuse .ensures)
+returns c =
+    let n = c .before .before .before .before .before .before .before .before .args .stores in
+    refused-replied (fuse-stores (found (c .before .before .before)) n (le-ltb n noFuse (omega (arith, c .before .if1 .taken)))) (c .refuse .ensures)
 
 is-down-requires : tie.Need-is-down-requires
 is-down-requires c κs = search needs
