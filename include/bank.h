@@ -1,10 +1,11 @@
 /* The bank of a vending machine, for C and C++: boards that share pages of memory and come back after a power loss.
  *
- * A bank is one buffer of BANK_LENGTH(boards, pages) bytes, of any alignment. bank_make fills it; every other call works on
- * it in place and may be given any bytes and any numbers: what it can't use it refuses, and then it changes nothing.
+ * A bank is one buffer of BANK_LENGTH(boards, pages) bytes, of any alignment. bank_make fills it, and bank_convert does from a bank
+ * of the older form, of BANK_OLDER_LENGTH(boards, pages) bytes, which to the other calls is no bank; these work on a bank in place.
+ * Every call may be given any bytes and any numbers: what it can't use it refuses, and then it changes nothing.
  *
- * The caller promises two things. The pointer is valid for `len` bytes, to read and to write. Nobody else touches these bytes
- * until the call is back: no second thread, no interrupt, no DMA.
+ * The caller promises two things. The pointer is valid for `len` bytes, to read and, where it isn't const, to write. Nobody else
+ * touches these bytes until the call is back: no second thread, no interrupt, no DMA, and of two buffers neither reaches into the other.
  *
  * Link with libbank.a. It allocates nothing and keeps nothing between calls. */
 #ifndef BANK_H
@@ -25,16 +26,23 @@ enum {
     BANK_LOG_RECORDS = 32      /* a board's log holds so many */
 };
 
-/* How many bytes a bank has: 2,191 for one board and one page, 23,636 at most. */
-#define BANK_LENGTH(boards, pages) (4 + 2 * (size_t)(pages) + (size_t)(boards) * (2134 + 51 * (size_t)(pages)))
+/* How many bytes a bank has: 2,385 for one board and one page, 25,188 at most. */
+#define BANK_LENGTH(boards, pages) (4 + 2 * (size_t)(pages) + (size_t)(boards) * (2328 + 51 * (size_t)(pages)))
+
+/* How many bytes a bank of the older form has, in which a board could make 65,535 accesses between two records: 2,191 to 23,636.
+ * Its bytes 2 and 3 are its numbers of boards and pages, as in today's form. */
+#define BANK_OLDER_LENGTH(boards, pages) (4 + 2 * (size_t)(pages) + (size_t)(boards) * (2134 + 51 * (size_t)(pages)))
 
 /* What a call says. Under 1 to 7 nothing was done, except that an access which ended a replay keeps that end. */
 enum bank_codes {
     BANK_DONE = 0,           /* Done. */
-    BANK_MALFORMED = 1,      /* The bytes are no bank, or bank_make was given a wrong length. Sell nothing from it: bring back a good copy, or make a new bank. */
+    BANK_MALFORMED = 1,      /* The bytes are no bank, or bank_make was given a wrong length. Sell nothing from it: bring back a good copy, or make a
+                                new bank. If it has the older length, convert it. From bank_convert: the new buffer has not BANK_LENGTH of the old
+                                bank's boards and pages, or the old bytes are no bank of the older form. */
     BANK_OUT_OF_RANGE = 2,   /* A number is too large, or a size is 0. The caller is wrong: mend it. */
     BANK_WRONG_STATE = 3,    /* Board `who` is down: restart it. Or it is not down and needs no restart. Or it replays: no checkpoint until that is over. */
-    BANK_COUNTERS_FULL = 4,  /* Board `who` made 65,535 accesses since its last record: checkpoint it, then try again. If it stays so, its access number is used up: make a new bank. */
+    BANK_COUNTERS_FULL = 4,  /* Board `who` made 4,294,967,295 accesses: its access number is used up, make a new bank. (In a bank that was made by
+                                hand only the count since its last record may be used up: a checkpoint helps then.) */
     BANK_REPLAY_DIFFERS = 5, /* Board `who` replays, and this access isn't the one that its log goes on with: repeat its accesses exactly, in their order. */
     BANK_OWNER_NOT_UP = 6,   /* The page belongs to board `who`, which is down or replays: restart it, let it repeat its accesses, then try again. */
     BANK_LOG_FULL = 7,       /* The log of board `who` has no room: checkpoint that board, then try again. */
@@ -66,6 +74,12 @@ uint64_t bank_fuse(uint8_t *bank, size_t len, uint32_t board, uint32_t stores);
 /* Power is back. The value is the board's access number at its checkpoint: the board now repeats, from the next access on, what it
  * did after that, and gets the same bytes from its log. Where the log ends it goes on live. */
 uint64_t bank_restart(uint8_t *bank, size_t len, uint32_t board);
+
+/* Writes a bank of the older form anew, in today's: the same boards, pages, logs and numbers, and zero in the slots that no record is in.
+ * `old` is only read; `new_bank` has BANK_LENGTH of its boards and pages, and every byte of it is written. From then on the new bank
+ * answers every call as the old one would have until that one's first code 4; where that one had made 65,535 accesses since a record,
+ * the new one goes on. Under code 1 nothing is written. */
+uint64_t bank_convert(const uint8_t *old, size_t old_len, uint8_t *new_bank, size_t new_len);
 
 #ifdef __cplusplus
 }

@@ -6,9 +6,10 @@
 mod engines;
 mod rows;
 
-use engines::{archive, packed, Pair};
-use rows::{rows, Row};
+use engines::{archive, archive_convert, convert_both, packed, Pair};
+use rows::{rows, Row, Work};
 use second::calls::{call, make};
+use second::convert::convert;
 use second::fault::Fault;
 use second::layout::{Layout, SLOTS};
 use second::line::Line;
@@ -56,14 +57,25 @@ enum Timed {
 /// second engine's call, and nothing else. The state was copied into the buffers before.
 #[no_mangle]
 #[inline(never)]
-fn measured(timed: Timed, buffers: &mut [Buffer], calls: &[Line]) {
+fn measured(timed: Timed, buffers: &mut [Buffer], work: &mut Work) {
     for buffer in buffers {
-        for line in calls {
-            match timed {
-                Timed::Archive => black_box(archive(&mut buffer.bank, line)),
-                Timed::Second => black_box(second(buffer, line)),
-                Timed::Sum => black_box(sum(black_box(&buffer.bank))),
-            };
+        match work {
+            Work::Calls(lines) => lines.iter().for_each(|line| {
+                match timed {
+                    Timed::Archive => black_box(archive(&mut buffer.bank, line)),
+                    Timed::Second => black_box(second(buffer, line)),
+                    Timed::Sum => black_box(sum(black_box(&buffer.bank))),
+                };
+            }),
+            Work::Conversions(old, count) => (0..*count).for_each(|_| {
+                match timed {
+                    Timed::Archive => black_box(archive_convert(old, &mut buffer.bank)),
+                    Timed::Second => {
+                        black_box(packed(&convert(old, &mut buffer.bank, Fault::None)))
+                    }
+                    Timed::Sum => black_box(sum(black_box(old))),
+                };
+            }),
         }
     }
 }
@@ -119,17 +131,18 @@ fn buffers(row: &Row, count: usize) -> Vec<Buffer> {
 }
 
 /// Nanoseconds for each call of a row: the best batch of each, by turns.
-fn nanoseconds(row: &Row, least: usize, timed: &[Timed]) -> Vec<f64> {
-    let count = least.div_ceil(row.calls.len());
+fn nanoseconds(row: &mut Row, least: usize, timed: &[Timed]) -> Vec<f64> {
+    let calls = row.work.calls();
+    let count = least.div_ceil(calls);
     let mut buffers = buffers(row, count);
     let mut best = vec![f64::MAX; timed.len()];
     for _ in 0..BATCHES {
         for (best, timed) in best.iter_mut().zip(timed) {
             prepare(&mut buffers, row);
             let start = Instant::now();
-            measured(*timed, &mut buffers, &row.calls);
+            measured(*timed, &mut buffers, &mut row.work);
             let batch = start.elapsed().as_nanos() as f64;
-            *best = best.min(batch / (count * row.calls.len()) as f64);
+            *best = best.min(batch / (count * calls) as f64);
         }
     }
     best
@@ -137,8 +150,13 @@ fn nanoseconds(row: &Row, least: usize, timed: &[Timed]) -> Vec<f64> {
 
 /// Whether both engines answer a row's calls alike and leave the same bytes.
 fn agrees(row: &Row) -> bool {
-    let mut pair = Pair::new(&row.bank, Fault::None);
-    row.calls.iter().all(|line| pair.take(line).is_ok())
+    match &row.work {
+        Work::Calls(lines) => {
+            let mut pair = Pair::new(&row.bank, Fault::None);
+            lines.iter().all(|line| pair.take(line).is_ok())
+        }
+        Work::Conversions(old, _) => matches!(convert_both(old, &row.bank, Fault::None), Ok(0)),
+    }
 }
 
 fn bench() {
@@ -146,12 +164,12 @@ fn bench() {
         let Layout { boards, pages } = layout;
         println!("N {boards}, P {pages}: {} bytes", layout.length());
         println!("nanoseconds a call           archive    second     ratio     calls   of a summing pass");
-        for row in &rows(layout) {
+        for row in &mut rows(layout) {
             let accepts = row.name.starts_with("accept");
             let timed = if accepts { &TIMED[..] } else { &TIMED[..2] };
             let best = nanoseconds(row, least, timed);
             let [archive, second] = [best[0], best[1]];
-            let calls = row.calls.len();
+            let calls = row.work.calls();
             print!(
                 "{:26}{archive:>10.0}{second:>10.0}{:>10.2}{calls:>10}",
                 row.name,
@@ -169,15 +187,14 @@ fn bench() {
 /// Each engine once on one buffer, and a line for each row with its number of calls.
 fn counts() {
     for (layout, _) in SIZES {
-        let rows = rows(layout);
         let size = format!("N {}, P {}", layout.boards, layout.pages);
-        for row in &rows {
+        for row in &mut rows(layout) {
             let mut buffers = buffers(row, 1);
             for timed in &TIMED[..2] {
                 prepare(&mut buffers, row);
-                measured(*timed, &mut buffers, &row.calls);
+                measured(*timed, &mut buffers, &mut row.work);
             }
-            println!("{size}: {}|{}", row.name, row.calls.len());
+            println!("{size}: {}|{}", row.name, row.work.calls());
         }
     }
 }

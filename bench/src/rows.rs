@@ -1,4 +1,4 @@
-//! The rows of the bench: a bank in some state, and the calls that are timed on it.
+//! The rows of the bench: a bank in some state, and the calls that are timed on it; or an old bank that is converted into it.
 
 use second::calls::{call, make};
 use second::check::well_formed;
@@ -6,13 +6,30 @@ use second::fault::Fault;
 use second::gen::Generator;
 use second::layout::*;
 use second::line::{read_line, Line};
+use second::older::narrowed;
 use second::trial::Trial;
 use second::watch::Watch;
 
 pub struct Row {
     pub name: &'static str,
     pub bank: Vec<u8>,
-    pub calls: Vec<Line>,
+    pub work: Work,
+}
+
+/// What is timed on a row's bank.
+pub enum Work {
+    Calls(Vec<Line>),
+    /// So many conversions of an old bank.
+    Conversions(Vec<u8>, usize),
+}
+
+impl Work {
+    pub fn calls(&self) -> usize {
+        match self {
+            Work::Calls(lines) => lines.len(),
+            Work::Conversions(_, count) => *count,
+        }
+    }
 }
 
 const MIXED_LINES: u32 = 600;
@@ -23,7 +40,17 @@ fn row(name: &'static str, bank: &[u8], calls: Vec<Line>) -> Row {
     Row {
         name,
         bank: bank.to_vec(),
-        calls,
+        work: Work::Calls(calls),
+    }
+}
+
+/// The same bank in the older form is converted, with something in every slot past a count.
+fn conversion(name: &'static str, bank: &[u8]) -> Row {
+    let old = narrowed(bank, |slots| slots.fill(7)).expect("every number fits in two bytes");
+    Row {
+        name,
+        bank: bank.to_vec(),
+        work: Work::Conversions(old, REPEATS),
     }
 }
 
@@ -165,5 +192,7 @@ pub fn rows(layout: Layout) -> Vec<Row> {
             done(&mut replaying.clone(), repeated),
         ),
         row("mixed script", &bank, mixed(layout)),
+        conversion("convert, fresh bank", &bank),
+        conversion("convert, all logs full", &full_logs(layout)),
     ]
 }

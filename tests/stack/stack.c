@@ -12,7 +12,8 @@ enum { SIZE = 65536, PAINT = 0xa5, CALLS = 300000 };
 static uint8_t stack[SIZE] __attribute__((aligned(64)));
 static ucontext_t back, there;
 static uint8_t *bank;
-static size_t len;
+static uint8_t old[BANK_OLDER_LENGTH(8, 16)];
+static size_t len, old_len;
 static int kind;
 static uint32_t arg[4];
 static uint64_t answer;
@@ -25,6 +26,7 @@ static void call(void) {
     case 3: answer = bank_checkpoint(bank, len, arg[0]); break;
     case 4: answer = bank_fuse(bank, len, arg[0], arg[1]); break;
     case 5: answer = bank_restart(bank, len, arg[0]); break;
+    case 6: answer = bank_convert(old, old_len, bank, len); break;
     default: answer = 0; break; /* nothing: what the measuring itself takes */
     }
 }
@@ -52,12 +54,13 @@ static uint32_t below(uint32_t n) {
     return (uint32_t)((seed >> 11) % n);
 }
 
-int main(void) {
-    static const char *names[] = {"bank_make", "bank_read", "bank_write", "bank_checkpoint", "bank_fuse", "bank_restart"};
-    size_t most[6] = {0};
+int main(int count, char **files) {
+    static const char *names[] = {"bank_make", "bank_read", "bank_write", "bank_checkpoint", "bank_fuse", "bank_restart", "bank_convert"};
+    enum { KINDS = sizeof names / sizeof *names };
+    size_t most[KINDS] = {0};
     len = BANK_LENGTH(8, 16);
     bank = malloc(len);
-    kind = 6;
+    kind = KINDS;
     size_t none = used();
     kind = 0, arg[0] = 8, arg[1] = 16;
     most[0] = used();
@@ -68,7 +71,20 @@ int main(void) {
         size_t n = used();
         if (n > most[kind]) most[kind] = n;
     }
-    for (int k = 0; k < 6; k++) printf("%-16s %5zu bytes of stack\n", names[k], most[k] - none);
+    FILE *file = count == 2 ? fopen(files[1], "rb") : NULL;
+    if (file == NULL) {
+        fprintf(stderr, "stack: name a bank of the older form\n");
+        return 1;
+    }
+    old_len = fread(old, 1, sizeof old, file);
+    fclose(file);
+    kind = 6, len = BANK_LENGTH(old[2], old[3]);
+    most[kind] = used();
+    if (bank_code(answer) != BANK_DONE) {
+        fprintf(stderr, "stack: %s can't be converted\n", files[1]);
+        return 1;
+    }
+    for (int k = 0; k < KINDS; k++) printf("%-16s %5zu bytes of stack\n", names[k], most[k] - none);
     free(bank);
     return 0;
 }

@@ -3,11 +3,13 @@ use answers::pack::pack;
 use engine::access::read;
 use engine::access::write;
 use engine::checkpoint::checkpoint;
+use engine::convert::convert;
 use engine::fuse::fuse;
 use engine::make::make;
 use engine::restart::restart;
 ghost use Rattle.model.specs.Definitions.Steps.{Read, Write};
 ghost use Rattle.model.specs.Definitions.Calls.{make as making, call, Accessing, Checkpointing, Fusing, Restarting};
+ghost use Rattle.model.specs.Definitions.Older.{convert as converting};
 ghost use Rattle.bank.specs.Contracts.{RepliedPacked};
 
 #[no_mangle]
@@ -50,4 +52,11 @@ pub extern "C" fn bank_restart(bank: &mut [u8], board: u32) -> u64
     ensures { λ r. ⌜ RepliedPacked (call (Restarting board) (now (bank .entry))) r (now (bank .exit)) ⌝ }
 {
     pack(restart(bank, board))
+}
+
+#[no_mangle]
+pub extern "C" fn bank_convert(old: &[u8], new: &mut [u8]) -> u64
+    ensures { λ r. ⌜ RepliedPacked (converting (now (old .entry)) (now (new .entry))) r (now (new .exit)) ⌝ }
+{
+    pack(convert(old, new))
 }

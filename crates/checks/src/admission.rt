@@ -35,7 +35,7 @@ pub enum Admission {
     Pass,
 }
 
-// "access with since 65,535 or number 4,294,967,295", then of a replaying board an access that its log doesn't have.
+// "since or access number at 4,294,967,295" (document 02, F-2), then of a replaying board an access that its log doesn't have.
 fn admit_block(block: &[u8], pages: usize, replaying: bool, page: usize, writes: bool) -> Admission
     requires { ⌜ IsBlock pages (now block) × (page < pages) ⌝ }
     ensures { λ r. ⌜ ((o v : ℕ) → r ≡ admissionOf replaying (readOrWrite writes page o v) (boardOf pages (now (block .entry)))) ⌝ }

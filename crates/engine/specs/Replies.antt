@@ -11,7 +11,7 @@ use Rattle.types.specs.declared.State.{State}
 use Rattle.types.specs.declared.Answer.{Answer}
 use Rattle.types.specs.declared.Answer.the-variants.{Done, Malformed, OutOfRange, WrongState}
 use Rattle.types.specs.declared.Outcome.{Outcome}
-use Rattle.model.specs.Definitions.Layout.{noFuse}
+use Rattle.model.specs.Definitions.Layout.{noFuse, today}
 use Rattle.model.specs.Definitions.Bank.{Bank, boardAt}
 use Rattle.model.specs.Definitions.Codec.{encode, decode}
 use Rattle.model.specs.Definitions.WellFormed.{isUp, isDown}
@@ -94,7 +94,7 @@ module _ (s : List ℕ) (v : wellFormed s ≡ true) where
   -- the bytes as they were
   pub refusal : (a : Answer) → replyOf (record { answer = a; run = start (decode s) }) ≡ refused a s
   unfolding replyOf refused start
-  refusal a = rw (encode-decode s v)
+  refusal a = rw (encode-decode today s v)
 
   -- a way through a call that ends in a refusal
   pub call-refused : (c : Call) (a : Answer) → callBank c (decode s) ≡ record { answer = a; run = start (decode s) } → call c s ≡ refused a s

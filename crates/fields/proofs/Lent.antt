@@ -9,6 +9,11 @@ use Rattle.model.specs.Definitions.Parts.{part, splice, zeros}
 use Rattle.model.specs.Laws.Parts.{length-part}
 
 module _ {A : Type 0} where
+  -- what is lent is the part
+  pub lent-part : (l : List A) (a n : ℕ) → take (a + n - a) (drop a l) ≡ part l a n
+  unfolding part
+  lent-part l a n = let e : a + n - a ≡ n = omega arith in rw e
+
   -- lent as `&`: the callee's answer is that of the part
   pub lent-read : {X : Type 0} (l : List A) (a n : ℕ) (f : List A → X) (r : X) → r ≡ f (take (a + n - a) (drop a l)) → r ≡ f (part l a n)
   unfolding part

@@ -84,6 +84,18 @@ pub fn write_page(s: &mut [u8], at: usize, page: [u8; PAGE_SIZE])
     }
 }
 
+// The `n` bytes at a place of one slice over those at a place of another.
+pub fn copy(from: &[u8], a: usize, to: &mut [u8], b: usize, n: usize)
+    requires { ⌜ (a + n ≤ length (now from)) × (b + n ≤ length (now to)) ⌝ }
+    ensures { λ _. ⌜ now (to .exit) ≡ splice (now (to .entry)) b (part (now (from .entry)) a n) ⌝ }
+{
+    let mut i = 0;
+    while i < n {
+        to[b + i] = from[a + i];
+        i += 1;
+    }
+}
+
 // All of a part made zero.
 pub fn clear(s: &mut [u8])
     ensures { λ _. ⌜ now (s .exit) ≡ zeros (length (now (s .entry))) ⌝ }

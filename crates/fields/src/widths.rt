@@ -8,7 +8,10 @@ pub const FUSE_SIZE: usize = 2;
 
 pub const NUMBER_SIZE: usize = 4;
 
-pub const SINCE_SIZE: usize = 2;
+pub const SINCE_SIZE: usize = 4;
+
+// The width of since in document 01's form, which a conversion reads.
+pub const OLDER_SINCE_SIZE: usize = 2;
 
 // A frame: right, page bytes.
 pub const RIGHT_AT: usize = 0;
@@ -33,3 +36,8 @@ pub const SLOT_BYTES_AT: usize = RECORD_COUNT_AT + SINCE_SIZE;
 pub const SLOT_SIZE: usize = SLOT_BYTES_AT + PAGE_SIZE;
 
 pub const SLOTS_SIZE: usize = SLOT_COUNT * SLOT_SIZE;
+
+// A slot of document 01's form.
+pub const OLDER_SLOT_BYTES_AT: usize = RECORD_COUNT_AT + OLDER_SINCE_SIZE;
+
+pub const OLDER_SLOT_SIZE: usize = OLDER_SLOT_BYTES_AT + PAGE_SIZE;

@@ -127,18 +127,18 @@ pub fn write_number(block: &mut [u8], number: u32)
     put_u32(block, NUMBER_AT, number);
 }
 
-pub fn read_since(block: &[u8]) -> u16
+pub fn read_since(block: &[u8]) -> u32
     requires { ⌜ framesAt ≤ length (now block) ⌝ }
     ensures { λ r. ⌜ r ≡ numberOf (part (now (block .entry)) sinceAt sinceSize) ⌝ }
 {
-    get_u16(block, SINCE_AT)
+    get_u32(block, SINCE_AT)
 }
 
-pub fn write_since(block: &mut [u8], since: u16)
+pub fn write_since(block: &mut [u8], since: u32)
     requires { ⌜ framesAt ≤ length (now block) ⌝ }
     ensures { λ _. ⌜ now (block .exit) ≡ splice (now (block .entry)) sinceAt (bytesOf sinceSize since) ⌝ }
 {
-    put_u16(block, SINCE_AT, since);
+    put_u32(block, SINCE_AT, since);
 }
 
 // ---- replay place, volatile count

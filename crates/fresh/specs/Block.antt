@@ -14,7 +14,8 @@ use Rattle.model.specs.Definitions.Parts.{splice, zeros, encodeAll}
 use Rattle.model.specs.Definitions.Layout.{noFuse, fuseSize, numberSize, rightAt, frameSize, slotsSize, fuseAt, numberAt, framesAt, areaAt, areaFramesAt}
 use Rattle.model.specs.Definitions.Layout.{blockSize}
 use Rattle.model.specs.Definitions.Bank.{emptyLog, freshFrames, freshBoard}
-use Rattle.model.specs.Definitions.Codec.{rightByte, stateByte, selectorByte, encodeFrame, encodeArea, encodeFixed, encodeStable, encodeBoard}
+use Rattle.model.specs.Definitions.Codec.{rightByte, stateByte, selectorByte, encodeFrame, encodeFixed, encodeBoard, encodeAreaIn, encodeFixedIn}
+use Rattle.model.specs.Definitions.Codec.{encodeStableIn, encodeBoardIn}
 use Rattle.model.specs.Laws.Parts.{length-splice, splice-amid, splice-at}
 use Rattle.model.specs.Laws.Fresh.{zeros-length}
 use Rattle.model.specs.Laws.BlockWorking.{zeros-append, encode-emptyLog}
@@ -91,7 +92,7 @@ owned-with pages p v n h =
 -- ---- from zeros to a fresh board
 
 fixed-bytes : (boards pages b : ℕ) → encodeFixed (freshBoard boards pages b) ≡ fixedBytes
-unfolding encodeFixed freshBoard emptyLog stateByte selectorByte bytesOf zeros
+unfolding encodeFixedIn freshBoard emptyLog stateByte selectorByte bytesOf zeros
 fixed-bytes boards pages b = refl
 
 head-bytes : (l : List ℕ) → bytesOf numberSize 0 ++ 0 ∷ l ≡ zeros areaFramesAt ++ l
@@ -111,7 +112,7 @@ fused pages =
 
 module _ (boards pages b : ℕ) where
   block-bytes : blockWith (framesWhere (λ p. eqb (p % boards) b) pages) ≡ encodeBoard (freshBoard boards pages b)
-  unfolding blockWith frameWhere encodeBoard encodeStable encodeArea freshBoard freshFrames emptyLog
+  unfolding blockWith frameWhere encodeBoardIn encodeStableIn encodeAreaIn freshBoard freshFrames emptyLog
   block-bytes =
       rw (fixed-bytes boards pages b, encode-emptyLog, head-bytes (encodeAll encodeFrame (freshFrames boards pages b) ++ zeros slotsSize))
 

@@ -8,7 +8,7 @@ use lib.ListN.{length, take, drop}
 use Rattle.model.specs.Definitions.Parts.{part, splice, zeros, encodeAll, tabulate}
 use Rattle.model.specs.Definitions.Layout.{entrySize, blockSize, headMark0, headMark1, boardsAt, pagesAt, headSize, blocksAt, bankSize}
 use Rattle.model.specs.Definitions.Bank.{Entry, freshBoard, fresh}
-use Rattle.model.specs.Definitions.Codec.{encodeEntry, encodeBoard, encode}
+use Rattle.model.specs.Definitions.Codec.{encodeEntry, encodeBoard, encode, encodeIn}
 use Rattle.model.specs.Laws.Lists.{length-tabulate}
 use Rattle.model.specs.Laws.Parts.{index-in, length-splice, part-at, part-part, part-splice-after, splice-next}
 use Rattle.model.specs.Laws.Codec.{length-encodeEntry}
@@ -58,7 +58,7 @@ head-made s boards pages h e₁ e₂ e₃ e₄ =
 pub bank-written : (boards pages : ℕ) (s : List ℕ) → length s ≡ bankSize boards pages
     → splice (splice (splice s 0 (freshHead boards pages)) headSize (freshDirectory boards pages)) (blocksAt pages) (freshBlocks boards pages boards)
     ≡ encode (fresh boards pages)
-unfolding encode fresh
+unfolding encodeIn fresh
 bank-written boards pages s e =
     let d : length (freshDirectory boards pages) ≡ pages * entrySize = directory-length boards pages in
     let k : length (freshBlocks boards pages boards) ≡ boards * blockSize pages = blocks-length boards pages boards in

@@ -1,7 +1,8 @@
--- Document 01's marked cases and worked histories: tables, and one theorem for each.
+-- Document 01's marked cases, with document 02's, and worked histories: tables, and one theorem for each.
 pub mod Evaluate
 pub mod Digest
 pub mod Table
+pub mod Conversions
 pub mod Worked
 pub mod Running
 pub mod Computed

@@ -1,4 +1,5 @@
--- Document 01 as definitions, in its order, and its stores on one board by itself. No proof stands here: what guards these definitions is under Laws and Cases.
+-- Document 01, with document 02's F-1 and F-2, as definitions, in its order, and its stores on one board by itself. No proof stands
+-- here: what guards these definitions is under Laws and Cases.
 pub mod Parts
 pub mod Layout
 pub mod Bank
@@ -10,3 +11,4 @@ pub mod BoardRuns
 pub mod Replay
 pub mod Answers
 pub mod Calls
+pub mod Older

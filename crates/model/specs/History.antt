@@ -1,5 +1,5 @@
--- Demand 3 and document 01's other claims: the history of a bank, what is claimed of it, executable tests of it, and how it runs on bytes. The proofs are the
--- crate history.
+-- Demand 3 and document 01's other claims: the history of a bank, what is claimed of it, executable tests of it, and how it runs on bytes; the proofs are the
+-- crate history. What document 02 claims of a conversion, proved in Laws/Conversion.
 pub mod Statement
 pub mod Banks
 pub mod Tests
@@ -7,3 +7,4 @@ pub mod RecoveryStatement
 pub mod OnBytes
 pub mod ReplayEndsStatement
 pub mod AloneStatement
+pub mod ConversionStatement

@@ -24,6 +24,7 @@ pub mod Codes
 pub mod Refusals
 pub mod FewStores
 pub mod LargestSince
+pub mod SinceBound
 pub mod ZeroFuse
 pub mod BlockFields
 pub mod BlockWorking
@@ -35,3 +36,4 @@ pub mod EachFirst
 pub mod BankSteps
 pub mod BankLoops
 pub mod Likeness
+pub mod Conversion

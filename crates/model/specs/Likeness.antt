@@ -9,8 +9,7 @@ use Rattle.types.specs.declared.Answer.the-variants.{Done, Malformed, OutOfRang
 use Rattle.types.specs.declared.Frame.{Frame}
 use Rattle.types.specs.declared.Record.{Record}
 use Rattle.model.specs.Definitions.Parts.{each}
-use Rattle.model.specs.Definitions.Bank.{Log, Area, Working, Stable, Board, Bank, withWorking, withStable, withSelectedArea, withSpareArea, withAreaLog}
-use Rattle.model.specs.Definitions.Bank.{withLog}
+use Rattle.model.specs.Definitions.Bank.{Log, Area, Working, Stable, Board, Bank, boardOver}
 use Rattle.model.specs.Definitions.Steps.{Run, Access, Read, Write}
 use Rattle.model.specs.Definitions.Calls.{Result, Call, Accessing, Checkpointing, Fusing, Restarting}
 use Rattle.model.specs.Moves.{Move, NoteShown, NoteGot, StoreRecord, StoreFrame, StoreHead, StoreSelector, GiveCopy, PassOwnership, DropCopies, Perform}
@@ -155,22 +154,6 @@ pub record SameAnswer (x y : Result) : Type 0 where
   pub stores : y .run .stores ≡ x .run .stores
   pub lost : y .run .lost ≡ x .run .lost
   pub bank : SameBelowCounts (x .run .bank) (y .run .bank)
-
--- a log with these bytes in the slots behind its records
-unfoldable pub logOver : List ℕ → Log → Log
-logOver l x = record { records = x .records; rest = l }
-
--- an area with these bytes in the slots past its count
-unfoldable pub areaOver : List ℕ → Area → Area
-areaOver l x = withAreaLog (logOver l (x .log)) x
-
--- a board with these bytes in the slots past its three counts
-unfoldable pub boardOver : (volatile selected spare : List ℕ) → Board → Board
-boardOver volatile selected spare x =
-    withWorking (withLog (logOver volatile (x .working .log)) (x .working))
-    (withStable
-    (withSelectedArea (areaOver selected (x .stable .selected)) (withSpareArea (areaOver spare (x .stable .spare)) (x .stable)))
-    x)
 
 -- a bank with these bytes in the slots past the counts of each board
 unfoldable pub slotsOver : (volatile selected spare : ℕ → List ℕ) → Bank → Bank

@@ -14,7 +14,7 @@ use Rattle.types.specs.declared.Record.{Record}
 use Rattle.model.specs.Definitions.Parts.{part, byteAt}
 use Rattle.model.specs.Definitions.Layout.{sinceSize, slotSize, sinceAt, placeAt, areaCountAt, areaSlotsAt}
 use Rattle.model.specs.Definitions.Bank.{Board}
-use Rattle.model.specs.Definitions.Codec.{decodeRecord, decodeBoard}
+use Rattle.model.specs.Definitions.Codec.{decodeRecord, decodeBoardIn}
 use Rattle.model.specs.Definitions.WellFormed.{RecordOk, FieldsOk}
 use Rattle.model.specs.Definitions.Replay.{recordsLeft, replayOver}
 use Rattle.model.specs.Laws.Logic.{byBool, clash}
@@ -54,14 +54,14 @@ ready-at x r h e = rw (drop-cons (x .stable .selected .log .records) (x .working
 module _ {pages : ℕ} {l : List ℕ} (b : IsBlock pages l) where
   -- "when no record is left", by the count and the place that are read
   pub over-read : (n p : ℕ) → n ≡ byteAt (selectedPart pages l) areaCountAt → p ≡ byteAt l placeAt → leb n p ≡ replayOver (boardOf pages l)
-  unfolding replayOver decodeBoard
+  unfolding replayOver decodeBoardIn
   over-read n p e f = rw (e, f, stored-count b)
 
   -- the record that is read at the place: its count equals since, or doesn't
   module _ (p s : ℕ) (r : Record) (h : replayOver (boardOf pages l) ≡ false) (e : p ≡ byteAt l placeAt) (f : s ≡ numberOf (part l sinceAt sinceSize))
       (g : r ≡ decodeRecord (part (selectedPart pages l) (areaSlotsAt pages + p * slotSize) slotSize)) where
     read-at : ready (boardOf pages l) ≡ elim (eqb (r .count) s) [ true ↦ some r | false ↦ none ]
-    unfolding replayOver decodeBoard
+    unfolding replayOver decodeBoardIn
     read-at =
         let x : Board = boardOf pages l in
         let k : p < length (x .stable .selected .log .records) = rw e (leb-false (length (x .stable .selected .log .records)) (x .working .place) h) in

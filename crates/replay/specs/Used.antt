@@ -16,7 +16,7 @@ use Rattle.types.specs.declared.Record.{Record}
 use Rattle.model.specs.Definitions.Parts.{splice, byteAt}
 use Rattle.model.specs.Definitions.Layout.{pageSize, sinceSize, frameSize, sinceAt, placeAt, framesAt}
 use Rattle.model.specs.Definitions.Bank.{Working, Board, emptyFrame, onWorking}
-use Rattle.model.specs.Definitions.Codec.{encodeFrame, encodeBoard, decodeBoard}
+use Rattle.model.specs.Definitions.Codec.{encodeFrame, encodeBoard, decodeBoardIn}
 use Rattle.model.specs.Definitions.WellFormed.{isGot, FramesOk, FieldsOk}
 use Rattle.model.specs.Definitions.Replay.{recordsLeft, used, useUp, usedUp}
 use Rattle.model.specs.Laws.Logic.{byBool, byOption, clash}
@@ -32,7 +32,7 @@ use Rattle.replay.specs.Next.{Ready, readyIn-some}
 module _ {pages : ℕ} {l : List ℕ} (b : IsBlock pages l) where
   pub record-used : (p : ℕ) → p ≡ byteAt l placeAt
       → splice (splice l placeAt ((p + 1) ∷ [])) sinceAt (bytesOf sinceSize 0) ≡ encodeBoard (onWorking (λ w. used (w .frames) w) (boardOf pages l))
-  unfolding decodeBoard
+  unfolding decodeBoardIn
   record-used p e = rw e (rw (b .back) at (used-shown (boardOf pages l)))
 
   pub frame-used : (p : ℕ) (f : Frame) (m : List ℕ) → p < pages → length (f .bytes) ≡ pageSize

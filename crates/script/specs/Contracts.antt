@@ -17,7 +17,7 @@ use Rattle.script.specs.Feeding.{Machine, feedByte, feed}
 
 -- ---- one line's work
 
--- "N 8, P 16 has 23,636 bytes": the largest bank
+-- N 8, P 16 has 25,188 bytes: the largest bank
 abbrev pub mostBank : ℕ
 mostBank = bankSize mostBoards mostPages
 

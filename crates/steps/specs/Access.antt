@@ -14,7 +14,7 @@ use Rattle.model.specs.Definitions.Parts.{part, splice, byteAt}
 use Rattle.model.specs.Definitions.Layout.{byteValues, pageSize, lastSince, lastNumber, numberSize, sinceSize, frameSize, rightAt, frameBytesAt, numberAt}
 use Rattle.model.specs.Definitions.Layout.{sinceAt, framesAt}
 use Rattle.model.specs.Definitions.Bank.{Board, frameAt, onWorking, onFrames}
-use Rattle.model.specs.Definitions.Codec.{rightOf, encodeFrame, encodeBoard, decodeBoard}
+use Rattle.model.specs.Definitions.Codec.{rightOf, encodeFrame, encodeBoard, decodeBoardIn}
 use Rattle.model.specs.Definitions.WellFormed.{FieldsOk}
 use Rattle.model.specs.Definitions.Steps.{Read, Write, pageNamed, lacks, cellsWritten, cellByte, withBytes, accessed, withFrame}
 use Rattle.model.specs.Definitions.Replay.{lacking}
@@ -44,7 +44,7 @@ module _ {pages : ℕ} {l : List ℕ} (b : IsBlock pages l) where
   pub access-counted : (n s : ℕ) → n ≡ numberOf (part l numberAt numberSize) → s ≡ numberOf (part l sinceAt sinceSize) → (p o : ℕ)
       → splice (splice l numberAt (bytesOf numberSize (n + 1))) sinceAt (bytesOf sinceSize (s + 1))
       ≡ encodeBoard (onWorking (accessed (Read p o)) (boardOf pages l))
-  unfolding decodeBoard
+  unfolding decodeBoardIn
   access-counted n s e f p o = rw (e, f) (rw (b .back) at (accessed-read (boardOf pages l) p o))
 
   -- the byte of a write, after the counters
@@ -72,11 +72,11 @@ unfolding lacking pageNamed readOrWrite
 lacking-of true p o v fs r e = rw e
 lacking-of false p o v fs r e = rw e
 
--- "access with since 65,535 or number 4,294,967,295"
+-- "since or access number at 4,294,967,295" (document 02, F-2)
 pub counters-test : (pages : ℕ) (l : List ℕ) (t : Bool)
     → t ≡ (eqb (numberOf (part l sinceAt sinceSize)) lastSince || eqb (numberOf (part l numberAt numberSize)) lastNumber)
     → t ≡ countersFull lastSince (boardOf pages l)
-unfolding countersFull decodeBoard
+unfolding countersFull decodeBoardIn
 counters-test pages l t e = e
 
 -- ---- an access that doesn't lack its right leaves every field in range

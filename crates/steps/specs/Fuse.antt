@@ -9,7 +9,7 @@ use Rattle.words.specs.LittleEndian.{bytesOf, numberOf}
 use Rattle.model.specs.Definitions.Parts.{part, splice}
 use Rattle.model.specs.Definitions.Layout.{noFuse, fuseSize, fuseAt}
 use Rattle.model.specs.Definitions.Bank.{Board}
-use Rattle.model.specs.Definitions.Codec.{encodeBoard, decodeBoard}
+use Rattle.model.specs.Definitions.Codec.{encodeBoard, decodeBoardIn}
 use Rattle.model.specs.Definitions.Steps.{withFuse, burnt}
 use Rattle.model.specs.Laws.BlockFields.{write-fuse}
 use Rattle.model.specs.Laws.BlockWorking.{burnt-none}
@@ -26,7 +26,7 @@ module _ {pages : ℕ} {l : List ℕ} (b : IsBlock pages l) where
   -- one store, by the fuse that is read
   module _ (n : ℕ) (r : n ≡ numberOf (part l fuseAt fuseSize)) where
     fuse-read : boardOf pages l .fuse ≡ n
-    unfolding decodeBoard
+    unfolding decodeBoardIn
     fuse-read = sym r
 
     -- no fuse is set: nothing is written

@@ -14,9 +14,9 @@ use Rattle.types.specs.declared.Kind.{Kind}
 use Rattle.types.specs.declared.Record.{Record}
 use Rattle.model.specs.Definitions.Parts.{part, splice, byteAt, zeros}
 use Rattle.model.specs.Definitions.Layout.{slotCount, slotSize, slotsSize, sinceSize, sinceAt, volatileCountAt, slotsAt, selectorAt, areaCountAt, areaSlotsAt}
-use Rattle.model.specs.Definitions.Layout.{areaSize, blockSize}
+use Rattle.model.specs.Definitions.Layout.{areaSize, blockSize, today}
 use Rattle.model.specs.Definitions.Bank.{Board, onWorking}
-use Rattle.model.specs.Definitions.Codec.{encodeRecord, decodeRecord, selectorByte, decodeLog, encodeBoard, decodeBoard}
+use Rattle.model.specs.Definitions.Codec.{encodeRecord, decodeRecord, selectorByte, encodeBoard, decodeLogIn, decodeBoardIn}
 use Rattle.model.specs.Definitions.Steps.{recorded}
 use Rattle.model.specs.Definitions.WellFormed.{RecordOk, FieldsOk}
 use Rattle.model.specs.Laws.Logic.{byBool}
@@ -35,7 +35,7 @@ use Rattle.steps.specs.Selected.{selected-place}
 
 -- the volatile count stands at the same place for any number of pages
 pub volatile-read : (pages : ℕ) (l : List ℕ) → byteAt l volatileCountAt ≡ volatileCount (boardOf pages l)
-unfolding decodeBoard decodeLog
+unfolding decodeBoardIn decodeLogIn
 volatile-read pages l = sym (length-decodeAll decodeRecord slotSize (byteAt l volatileCountAt) (part l (slotsAt pages) slotsSize))
 
 -- whether so many more fit, as the code asks it
@@ -83,7 +83,7 @@ module _ {pages : ℕ} {l : List ℕ} (block : IsBlock pages l) where
       ≡ encodeBoard (onWorking (recorded kind bytes) (boardOf pages l))
   record-bytes kind bytes count at p q v h =
       let s : count ≡ x .working .since = p ∙ (rw (block .back) at (read-since pages x ok)) in
-      rw (s, q) (rw (block .back) at (recorded-bytes pages x ok kind bytes (v (x .working .since) (ok .working .since)) (omega arith)))
+      rw (s, q) (rw (block .back) at (recorded-bytes pages x ok kind bytes (v (x .working .since) (omega (arith, ok .working .since))) (omega arith)))
 
   -- a record stored: its slot of the selected area, the stored count
   pub append-bytes : (r : Record) (at : ℕ) → at ≡ storedCount (boardOf pages l) → RecordOk pages r → at < slotCount
@@ -92,7 +92,7 @@ module _ {pages : ℕ} {l : List ℕ} (block : IsBlock pages l) where
       ≡ encodeBoard (withStored r (boardOf pages l))
   append-bytes r at q v h =
       let n : length l ≡ blockSize pages = block-length block in
-      let w : length (encodeRecord r) ≡ slotSize = length-encodeRecord r (v .size) in
+      let w : length (encodeRecord r) ≡ slotSize = length-encodeRecord today r (v .size) in
       let i : at * slotSize + slotSize ≤ slotsSize = index-in slotSize slotCount at h in
       let b : ℕ = areaSlotsAt pages + at * slotSize in
       let m : List ℕ = splice l (selectedAt pages l + b) (encodeRecord r) in

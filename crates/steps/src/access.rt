@@ -25,8 +25,8 @@ ghost use Rattle.model.specs.Definitions.Replay.{lacking};
 ghost use Rattle.model.specs.Definitions.Calls.{countersFull};
 ghost use Rattle.steps.specs.Blocks.{IsBlock, boardOf, readOrWrite};
 
-// "access with since 65,535 or number 4,294,967,295": the last value of each counter
-const LAST_SINCE: u16 = 65535;
+// "since or access number at 4,294,967,295" (document 02, F-2): the last value of each counter
+const LAST_SINCE: u32 = 4294967295;
 
 const LAST_NUMBER: u32 = 4294967295;
 

@@ -31,7 +31,7 @@ pub enum Kind {
 
 // "Each record is a count together with its kind"; the page bytes stand beside the kind, zero unless it is a got.
 pub struct Record {
-    pub count: u16,
+    pub count: u32,
     pub kind: Kind,
     pub bytes: [u8; PAGE_SIZE],
 }

@@ -7,7 +7,7 @@ use mathlib.Core.Bool.{Bool, true, false, not}
 use mathlib.Core.List.{List}
 use lib.Dec.{ltb}
 use borrow.Author.Tests.{ltb-true, ltb-false, le-ltb, leb-true}
-use Rattle.model.specs.Definitions.Layout.{slotCount, volatileCountAt}
+use Rattle.model.specs.Definitions.Layout.{slotCount, Form, volatileCountAtIn}
 use Rattle.model.specs.Definitions.Parts.{byteAt, everyFrom, everyBelow}
 use Rattle.model.specs.Definitions.Check.{areaCount, countsValid, recordValid, storedValid, slotsValid, recordsValid}
 use Rattle.model.specs.Laws.Logic.{clash, byBool, byEq, and-left, and-right}
@@ -40,35 +40,39 @@ module _ (f : ℕ → Bool) where
 -- ---- the search through a block's logs
 
 -- how many records the longest log holds
-unfoldable pub longestLog : ℕ → List ℕ → ℕ
-longestLog pages l = max (byteAt l volatileCountAt) (max (areaCount pages 0 l) (areaCount pages 1 l))
+unfoldable pub longestLog : Form → ℕ → List ℕ → ℕ
+longestLog form pages l = max (byteAt l (volatileCountAtIn form)) (max (areaCount form pages 0 l) (areaCount form pages 1 l))
 
-module _ (pages : ℕ) (l : List ℕ) where
-  pub longest-few : countsValid pages l ≡ true → longestLog pages l ≤ slotCount
+module _ (form : Form) (pages : ℕ) (l : List ℕ) where
+  pub longest-few : countsValid form pages l ≡ true → longestLog form pages l ≤ slotCount
   unfolding longestLog countsValid
   longest-few h =
-      let v : byteAt l volatileCountAt ≤ slotCount = leb-true (byteAt l volatileCountAt) slotCount (and-left _ _ h) in
-      let s : areaCount pages 0 l ≤ slotCount = leb-true (areaCount pages 0 l) slotCount (search (and-left, and-right)) in
-      let t : areaCount pages 1 l ≤ slotCount = leb-true (areaCount pages 1 l) slotCount (search (and-left, and-right)) in
+      let v : byteAt l (volatileCountAtIn form) ≤ slotCount = leb-true (byteAt l (volatileCountAtIn form)) slotCount (and-left _ _ h) in
+      let s : areaCount form pages 0 l ≤ slotCount = leb-true (areaCount form pages 0 l) slotCount (search (and-left, and-right)) in
+      let t : areaCount form pages 1 l ≤ slotCount = leb-true (areaCount form pages 1 l) slotCount (search (and-left, and-right)) in
       omega arith
 
   -- past the longest log every slot may hold anything
-  past-logs : (i : ℕ) → longestLog pages l ≤ i → slotsValid pages l i ≡ true
+  past-logs : (i : ℕ) → longestLog form pages l ≤ i → slotsValid form pages l i ≡ true
   unfolding longestLog slotsValid storedValid recordValid
   past-logs i h =
-      cc (le-ltb i (byteAt l volatileCountAt) (omega arith), le-ltb i (areaCount pages 0 l) (omega arith), le-ltb i (areaCount pages 1 l) (omega arith))
+      cc (
+        le-ltb i (byteAt l (volatileCountAtIn form)) (omega arith),
+        le-ltb i (areaCount form pages 0 l) (omega arith),
+        le-ltb i (areaCount form pages 1 l) (omega arith),
+      )
 
   -- a block whose records were all passed, and one with a record that failed
-  module _ {slots : ℕ} (e : slots ≡ longestLog pages l) (index : ℕ) where
-    pub ended : slots ≤ index → everyBelow index (slotsValid pages l) ≡ true → recordsValid pages l ≡ true
+  module _ {slots : ℕ} (e : slots ≡ longestLog form pages l) (index : ℕ) where
+    pub ended : slots ≤ index → everyBelow index (slotsValid form pages l) ≡ true → recordsValid form pages l ≡ true
     unfolding recordsValid
     ended h p =
-        everyBelow-all slotCount (slotsValid pages l)
+        everyBelow-all slotCount (slotsValid form pages l)
         (λ i m.
         byBool (ltb i index)
-        (λ t. everyBelow-at index i (slotsValid pages l) p (ltb-true i index t))
+        (λ t. everyBelow-at index i (slotsValid form pages l) p (ltb-true i index t))
         (λ t. past-logs i (omega (arith, ltb-false i index t))))
 
-    pub stopped : countsValid pages l ≡ true → index < slots → slotsValid pages l index ≡ false → recordsValid pages l ≡ false
+    pub stopped : countsValid form pages l ≡ true → index < slots → slotsValid form pages l index ≡ false → recordsValid form pages l ≡ false
     unfolding recordsValid
-    stopped c h p = sym (below-stop (slotsValid pages l) slotCount index (omega (arith, longest-few c)) p)
+    stopped c h p = sym (below-stop (slotsValid form pages l) slotCount index (omega (arith, longest-few c)) p)

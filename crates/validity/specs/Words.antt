@@ -12,7 +12,7 @@ use lib.Dec.{eqb, ltb}
 use borrow.Author.Tests.{ltb-true, ltb-false, lt-ltb, eq-eqb, ne-eqb}
 use Rattle.words.specs.LittleEndian.{numberOf}
 use Rattle.types.specs.declared.Right.the-variants.{None, Copy, Own}
-use Rattle.model.specs.Definitions.Layout.{byteValues, pageSize, letterG, letterC, letterO, letterS, letterH, letterD, letterR, areaAt, areaSize, blockSize}
+use Rattle.model.specs.Definitions.Layout.{byteValues, pageSize, letterG, letterC, letterO, letterS, letterH, letterD, letterR}
 use Rattle.model.specs.Definitions.Parts.{part, byteAt, every}
 use Rattle.model.specs.Definitions.Codec.{rightByte, rightOf}
 use Rattle.model.specs.Definitions.Check.{isZero, gotMark, bareMark, sameRight}
@@ -36,7 +36,7 @@ times-zero n =
     (λ h. rw (ne-eqb n 0 h) (ne-eqb (256 * n) 0 (λ e. h (omega arith))))
 
 -- a number is zero where its bytes are
-number-zero : (l : List ℕ) → eqb (numberOf l) 0 ≡ isZero l
+pub number-zero : (l : List ℕ) → eqb (numberOf l) 0 ≡ isZero l
 unfolding numberOf isZero every
 number-zero [] = refl
 number-zero (b ∷ bs) = rw (sum-zero b (256 * numberOf bs), times-zero (numberOf bs), number-zero bs)
@@ -131,10 +131,3 @@ unfolding rightOf sameRight rightByte
 own-test zero = refl
 own-test (suc zero) = refl
 own-test (suc (suc n)) = lt-ltb 1 (suc (suc n)) (omega arith)
-
--- ---- an area lies inside its block
-
-pub area-inside : (pages area : ℕ) → area < 2 → areaAt pages area + areaSize pages ≤ blockSize pages
-area-inside pages zero h = omega arith
-area-inside pages (suc zero) h = omega arith
-area-inside pages (suc (suc n)) h = absurd (omega arith)

@@ -16,19 +16,20 @@ use fields::widths::MARK0_AT;
 use fields::widths::MARK1_AT;
 use fields::widths::NUMBER_SIZE;
 use fields::widths::RIGHT_AT;
-use fields::widths::SLOT_BYTES_AT;
 use fields::widths::SLOT_PAGE_AT;
 use fields::widths::SLOT_ZERO_AT;
 use format::layout::COPIES_AT;
 use format::layout::ENTRY_SIZE;
 use format::layout::OWNER_AT;
+use format::layout::slot_bytes_at_in;
 use types::Right;
 ghost use mathlib.Core.Path.{_≡_};
 ghost use Prim.Native.Nat.{_+_, _*_, _≤_, _<_};
 ghost use lib.ListN.{length};
 ghost use Rattle.words.specs.LittleEndian.{numberOf};
 ghost use Rattle.model.specs.Definitions.Parts.{part};
-ghost use Rattle.model.specs.Definitions.Layout.{mostBoards, mostPages, byteValues, lastNumber, numberSize, entrySize, pageSize, frameSize, slotSize};
+ghost use Rattle.model.specs.Definitions.Layout.{mostBoards, mostPages, byteValues, lastNumber, numberSize, entrySize, pageSize, frameSize, formOf, sinceSize};
+ghost use Rattle.model.specs.Definitions.Layout.{slotSizeIn};
 ghost use Rattle.model.specs.Definitions.Codec.{decodeEntry};
 ghost use Rattle.model.specs.Definitions.Check.{isZero, frameValid, framesValid, gotMark, bareMark, markFits, slotValid, entryValid, directoryValid};
 
@@ -145,11 +146,11 @@ fn mark_fits(m0: u8, m1: u8, zero: bool) -> bool
 }
 
 // A slot below a count holds a record: a mark, a page of the bank, the zero byte, and no page bytes unless it is a got.
-pub fn slot_valid(slot: &[u8], pages: usize) -> bool
-    requires { ⌜ length (now slot) ≡ slotSize ⌝ }
-    ensures { λ r. ⌜ r ≡ slotValid pages (now (slot .entry)) ⌝ }
+pub fn slot_valid(slot: &[u8], since: usize, pages: usize) -> bool
+    requires { ⌜ (since ≤ sinceSize) × (length (now slot) ≡ slotSizeIn (formOf since)) ⌝ }
+    ensures { λ r. ⌜ r ≡ slotValid (formOf since) pages (now (slot .entry)) ⌝ }
 {
-    let zero = zero_page(slot, SLOT_BYTES_AT);
+    let zero = zero_page(slot, slot_bytes_at_in(since));
     if !mark_fits(slot[MARK0_AT], slot[MARK1_AT], zero) {
         return false;
     }

@@ -1,10 +1,11 @@
-//! Both engines on the same bank: the archive by its six C names, the second engine in place.
+//! Both engines on the same bytes: the archive by its seven C names, the second engine in place.
 //! An answer is the number that C gets: code + 2^8 who + 2^16 stores + 2^32 value.
 
 use second::calls::{self, Answer, Call};
 use second::check::well_formed;
+use second::convert;
 use second::fault::Fault;
-use second::layout::Layout;
+use second::layout::{Form, NEWEST, OLDER};
 use second::line::Line;
 use second::runner::call_for;
 use second::watch::Watch;
@@ -17,6 +18,7 @@ extern "C" {
     fn bank_checkpoint(bank: *mut u8, len: usize, board: u32) -> u64;
     fn bank_fuse(bank: *mut u8, len: usize, board: u32, stores: u32) -> u64;
     fn bank_restart(bank: *mut u8, len: usize, board: u32) -> u64;
+    fn bank_convert(old: *const u8, old_len: usize, new: *mut u8, new_len: usize) -> u64;
 }
 
 /// A call of the archive; the slice is what it may touch.
@@ -45,6 +47,12 @@ pub fn archive(bank: &mut [u8], line: &Line) -> u64 {
     }
 }
 
+/// A conversion by the archive. It only reads the old bank, which is lent for writing so that the caller may look.
+pub fn archive_convert(old: &mut [u8], new: &mut [u8]) -> u64 {
+    // Safe as the header asks: both pointers are valid for their lengths, and the two don't overlap.
+    unsafe { bank_convert(old.as_mut_ptr(), old.len(), new.as_mut_ptr(), new.len()) }
+}
+
 pub fn packed(answer: &Answer) -> u64 {
     answer.code as u64
         + ((answer.who as u64) << 8)
@@ -62,16 +70,29 @@ pub fn unpacked(answer: u64) -> Answer {
     }
 }
 
-/// A watch for a bank that it hasn't seen grow: as many notes as there are volatile records.
-pub fn watch_of(bank: &[u8]) -> Watch {
-    let mut watch = Watch::new();
-    if well_formed(bank) {
-        let layout = Layout::of(bank);
-        for board in 0..layout.boards {
-            (0..bank[layout.volatile(board)]).for_each(|_| watch.record_made(board, 0));
-        }
+/// The second engine's notes about a bank; none about bytes that are no bank.
+fn watch_of(bank: &[u8]) -> Watch {
+    match well_formed(bank) {
+        true => Watch::of::<NEWEST>(bank),
+        false => Watch::new(),
     }
-    watch
+}
+
+/// How the two engines differed.
+pub struct Difference {
+    /// As the runner writes it; a conversion in words.
+    pub call: String,
+    pub answers: [u64; 2],
+    pub buffers: Vec<Buffer>,
+}
+
+/// A buffer of a call: as it was given, and as each engine left it.
+pub struct Buffer {
+    pub name: &'static str,
+    pub form: Form,
+    pub before: Box<[u8]>,
+    pub archive: Box<[u8]>,
+    pub second: Box<[u8]>,
 }
 
 /// One bank held twice, each copy in an allocation of exactly its length.
@@ -81,15 +102,6 @@ pub struct Pair {
     before: Box<[u8]>,
     watch: Watch,
     fault: Fault,
-}
-
-/// How the two engines differed, and the bank that they were given.
-pub struct Difference {
-    pub line: Line,
-    pub answers: [u64; 2],
-    pub before: Box<[u8]>,
-    pub archive: Box<[u8]>,
-    pub second: Box<[u8]>,
 }
 
 impl Pair {
@@ -111,12 +123,17 @@ impl Pair {
         if answer == other && self.archive == self.second {
             return Ok(answer);
         }
-        Err(Box::new(Difference {
-            line: *line,
-            answers: [answer, other],
+        let bank = Buffer {
+            name: "bank",
+            form: NEWEST,
             before: self.before.clone(),
             archive: self.archive.clone(),
             second: self.second.clone(),
+        };
+        Err(Box::new(Difference {
+            call: line.to_string(),
+            answers: [answer, other],
+            buffers: vec![bank],
         }))
     }
 
@@ -134,4 +151,35 @@ impl Pair {
             &mut self.watch,
         ))
     }
+}
+
+/// One conversion by both, each buffer an allocation of exactly its length; its packed answer if all agrees.
+pub fn convert_both(old: &[u8], target: &[u8], fault: Fault) -> Result<u64, Box<Difference>> {
+    let mut read: Box<[u8]> = old.into();
+    let mut archive: Box<[u8]> = target.into();
+    let mut second = archive.clone();
+    let answer = archive_convert(&mut read, &mut archive);
+    let other = packed(&convert::convert(old, &mut second, fault));
+    if answer == other && archive == second && *read == *old {
+        return Ok(answer);
+    }
+    let source = Buffer {
+        name: "old bank",
+        form: OLDER,
+        before: old.into(),
+        archive: read,
+        second: old.into(),
+    };
+    let target = Buffer {
+        name: "target",
+        form: NEWEST,
+        before: target.into(),
+        archive,
+        second,
+    };
+    Err(Box::new(Difference {
+        call: "conversion".into(),
+        answers: [answer, other],
+        buffers: vec![source, target],
+    }))
 }

@@ -1,20 +1,20 @@
-//! Compares the archive of the proved engine with the second engine, call by call: the answer and all bytes.
-//! It ends at the first difference, with status 1.
+//! Compares the archive of the proved engine with the second engine, call by call: the answer and all bytes, of a
+//! conversion those of both buffers. It ends at the first difference, with status 1.
 
-mod asked;
-mod damage;
 mod engines;
-mod made;
 mod met;
 mod place;
 
-use engines::{unpacked, Difference, Pair};
+use engines::{convert_both, unpacked, Buffer, Difference, Pair};
 use met::{Met, Source};
+use second::asked;
 use second::calls::Answer;
+use second::damage;
 use second::fault::{self, Fault, FAULTS};
 use second::gen::{Generator, LONG_SCRIPT};
-use second::layout::Layout;
+use second::layout::{Layout, NEWEST, OLDER};
 use second::line::Line;
+use second::made;
 use second::random::Random;
 use second::trial::Trial;
 use std::process::ExitCode;
@@ -26,8 +26,9 @@ const DEFAULT_CALLS: u64 = 10_000_000;
 /// So many calls must show each fault of the second engine.
 const CALLS_FOR_A_FAULT: u64 = 300_000;
 
-/// One script in so many reads until code 4.
+/// One script in so many has a board that reads more often than two bytes can count, if there are calls enough.
 const LONG_SCRIPT_EVERY: u32 = 2_000;
+const ENOUGH_FOR_LONG_SCRIPTS: u64 = 1_000_000;
 
 type Found = Result<(), Box<Difference>>;
 
@@ -48,15 +49,17 @@ impl Comparing {
         }
     }
 
-    /// A wrong second engine takes every bank as well formed, so it is only given such.
+    /// A second engine whose calls are wrong takes every bank as well formed, so it is only given such.
     fn run(&mut self) -> Found {
         while self.left() > 0 {
             match self.random.below(100) {
                 0..=4 => self.script()?,
-                5..=69 => self.made()?,
-                _ if self.fault != Fault::None => self.made()?,
-                70..=93 => self.damaged()?,
-                94..=97 => self.wrong_length()?,
+                5..=59 => self.made()?,
+                60..=74 => self.conversions()?,
+                _ if self.fault.trusts_its_bank() => self.made()?,
+                75..=92 => self.damaged()?,
+                93..=95 => self.wrong_length()?,
+                96 | 97 => self.old_form()?,
                 _ => self.making()?,
             }
         }
@@ -80,10 +83,18 @@ impl Comparing {
         Ok(())
     }
 
+    fn convert(&mut self, source: Source, old: &[u8], target: &[u8]) -> Found {
+        if self.left() > 0 {
+            let answer = convert_both(old, target, self.fault)?;
+            self.met.conversion(source, answer);
+        }
+        Ok(())
+    }
+
     /// A random script of the second engine's generator, from a fresh bank on.
     fn script(&mut self) -> Found {
         let lines = match self.random.below(LONG_SCRIPT_EVERY) {
-            0 => LONG_SCRIPT,
+            0 if self.wanted >= ENOUGH_FOR_LONG_SCRIPTS => LONG_SCRIPT,
             _ => self.random.between(20, 400),
         };
         let seed = self.random.below(u32::MAX) as u64;
@@ -113,7 +124,7 @@ impl Comparing {
 
     /// Some calls on a bank made by hand.
     fn made(&mut self) -> Found {
-        let bank = made::bank(&mut self.random);
+        let bank = made::bank::<NEWEST>(&mut self.random);
         let mut pair = self.pair(Source::Made, &bank);
         for _ in 0..self.random.between(4, 24) {
             let line = asked::fitting(&mut self.random, &pair.archive);
@@ -125,9 +136,9 @@ impl Comparing {
     /// A bank made by hand or a fresh one.
     fn any_bank(&mut self) -> Vec<u8> {
         if self.random.permille(700) {
-            return made::bank(&mut self.random);
+            return made::bank::<NEWEST>(&mut self.random);
         }
-        made::fresh(made::size(&mut self.random))
+        made::fresh(made::size::<NEWEST>(&mut self.random))
     }
 
     /// A bank, damaged anew before each call or two.
@@ -136,7 +147,7 @@ impl Comparing {
         let layout = Layout::of(&good);
         for _ in 0..4 {
             let mut bank = good.clone();
-            damage::bytes(&mut self.random, &mut bank);
+            damage::bytes::<NEWEST>(&mut self.random, &mut bank);
             let mut pair = self.pair(Source::Damaged, &bank);
             for _ in 0..self.random.between(1, 3) {
                 let line = asked::any(&mut self.random, layout, 970);
@@ -151,7 +162,7 @@ impl Comparing {
         let layout = Layout::of(&good);
         for _ in 0..4 {
             let mut bank = good.clone();
-            damage::length(&mut self.random, &mut bank);
+            damage::length::<NEWEST>(&mut self.random, &mut bank);
             let mut pair = self.pair(Source::Length, &bank);
             let line = asked::any(&mut self.random, layout, 900);
             self.take(Source::Length, &mut pair, &line)?;
@@ -159,12 +170,101 @@ impl Comparing {
         Ok(())
     }
 
+    /// A well-formed old bank: fresh, reached or made by hand.
+    fn old_bank(&mut self) -> Vec<u8> {
+        match self.random.below(10) {
+            0 => made::fresh(made::size::<OLDER>(&mut self.random)),
+            1..=3 => made::reached_old(&mut self.random),
+            _ => made::bank::<OLDER>(&mut self.random),
+        }
+    }
+
+    /// An old bank, which the calls that know the newest form alone take for no bank.
+    fn old_form(&mut self) -> Found {
+        let old = self.old_bank();
+        let mut pair = self.pair(Source::OldForm, &old);
+        for _ in 0..4 {
+            let line = asked::any(&mut self.random, Layout::of(&old), 970);
+            self.take(Source::OldForm, &mut pair, &line)?;
+        }
+        Ok(())
+    }
+
+    /// Conversions of one old bank: as it is, damaged, of another length, and into targets of another length.
+    fn conversions(&mut self) -> Found {
+        let old = self.old_bank();
+        let target = self.target(&old);
+        self.convert(Source::Converted, &old, &target)?;
+        for _ in 0..4 {
+            let mut damaged = old.clone();
+            damage::bytes::<OLDER>(&mut self.random, &mut damaged);
+            let target = self.target(&old);
+            self.convert(Source::ConvertedDamaged, &damaged, &target)?;
+        }
+        let (other, target) = (self.other_source(&old), self.target(&old));
+        self.convert(Source::ConvertedLength, &other, &target)?;
+        let (source, target) = (self.any_source(&old), self.other_target(&old));
+        self.convert(Source::Target, &source, &target)
+    }
+
+    /// A target of the right length: any bytes, all the same, or a bank.
+    fn target(&mut self, old: &[u8]) -> Vec<u8> {
+        let layout = Layout::of(old);
+        let mut target = vec![0; layout.length()];
+        match self.random.below(8) {
+            0 => (),
+            1 => target.fill(255),
+            2 => target = made::fresh(layout),
+            3 => target[..old.len()].copy_from_slice(old),
+            _ => made::fill(&mut self.random, &mut target),
+        }
+        target
+    }
+
+    /// What is no old bank by its length: shorter, longer, nothing, or a bank of the newest form.
+    fn other_source(&mut self, old: &[u8]) -> Vec<u8> {
+        let mut source = old.to_vec();
+        match self.random.below(6) {
+            0 => source.clear(),
+            1 => source = made::fresh(Layout::of(old)),
+            2 => source = made::bank::<NEWEST>(&mut self.random),
+            _ => damage::length::<OLDER>(&mut self.random, &mut source),
+        }
+        source
+    }
+
+    /// An old bank, mostly as it is.
+    fn any_source(&mut self, old: &[u8]) -> Vec<u8> {
+        let mut source = old.to_vec();
+        match self.random.below(8) {
+            0 => damage::bytes::<OLDER>(&mut self.random, &mut source),
+            1 => damage::length::<OLDER>(&mut self.random, &mut source),
+            _ => (),
+        }
+        source
+    }
+
+    /// A target of a wrong length: shorter, longer, nothing, an old bank's, or that of another size of bank.
+    fn other_target(&mut self, old: &[u8]) -> Vec<u8> {
+        let mut target = made::fresh(Layout::of(old));
+        match self.random.below(8) {
+            0 => target.clear(),
+            1 => target.truncate(old.len()),
+            2 => target = made::fresh(made::size::<NEWEST>(&mut self.random)),
+            _ => damage::length::<NEWEST>(&mut self.random, &mut target),
+        }
+        if self.random.permille(700) {
+            made::fill(&mut self.random, &mut target);
+        }
+        target
+    }
+
     /// A buffer of any bytes, of the length of some bank or not, in which a bank is made.
     fn making(&mut self) -> Found {
-        let layout = made::size(&mut self.random);
+        let layout = made::size::<NEWEST>(&mut self.random);
         let mut bytes = made::fresh(layout);
         if self.random.permille(300) {
-            damage::length(&mut self.random, &mut bytes);
+            damage::length::<NEWEST>(&mut self.random, &mut bytes);
         }
         made::fill(&mut self.random, &mut bytes);
         let mut pair = self.pair(Source::Making, &bytes);
@@ -187,42 +287,57 @@ fn told(answer: u64) -> String {
     format!("code {code}, value {value}, who {who}, stores {stores}")
 }
 
-/// Says how the two differ, and leaves the bank from before the call in a file.
+/// Says how the two differ, and leaves the bank from before the call, of a conversion the old one, in a file.
 fn tell(difference: &Difference, call: u64) {
     let Difference {
-        line,
+        call: asked,
         answers,
+        buffers,
+    } = difference;
+    println!("difference at call {call}: {asked}");
+    println!("archive: {}", told(answers[0]));
+    println!("second:  {}", told(answers[1]));
+    buffers.iter().for_each(tell_buffer);
+    let before = buffers.first().map(|buffer| &buffer.before);
+    if let (Some(path), Some(before)) = (option_env!("BEFORE"), before) {
+        if std::fs::write(path, before).is_ok() {
+            println!("the {} before that call: {path}", buffers[0].name);
+        }
+    }
+}
+
+fn tell_buffer(buffer: &Buffer) {
+    let Buffer {
+        name,
         before,
         archive,
         second,
-    } = difference;
-    println!(
-        "difference at call {call}: {line}, on {} bytes",
-        before.len()
-    );
-    println!("archive: {}", told(answers[0]));
-    println!("second:  {}", told(answers[1]));
+        ..
+    } = buffer;
+    print!("{name} of {} bytes: ", before.len());
     let differing: Vec<usize> = (0..archive.len())
         .filter(|at| archive[*at] != second[*at])
         .collect();
     match differing.first() {
         None => println!("all bytes agree"),
         Some(at) => {
-            let bank = if second.len() < 4 {
-                &[0; 4]
-            } else {
-                &second[..]
-            };
-            let place = place::name(Layout::of(bank), *at);
-            let count = differing.len();
+            let (count, place) = (differing.len(), place_in(buffer, *at));
             println!("{count} bytes differ, the first at {at} ({place}): before {}, archive {}, second {}",
                 before[*at], archive[*at], second[*at]);
         }
     }
-    if let Some(path) = option_env!("BEFORE") {
-        if std::fs::write(path, before).is_ok() {
-            println!("the bank before that call: {path}");
-        }
+}
+
+/// What stands at an offset of a buffer, as its head has it.
+fn place_in(buffer: &Buffer, at: usize) -> String {
+    let head = if buffer.second.len() < 4 {
+        &[0; 4]
+    } else {
+        &buffer.second[..]
+    };
+    match buffer.form {
+        OLDER => place::name(Layout::<OLDER>::named_by(head), at),
+        _ => place::name(Layout::of(head), at),
     }
 }
 
@@ -255,7 +370,7 @@ fn faults() -> bool {
                 "{}: seen at call {}, {}",
                 kind.name,
                 comparing.met.calls + 1,
-                difference.line
+                difference.call
             ),
         }
     }

@@ -10,19 +10,29 @@ pub enum Source {
     Made,
     Damaged,
     Length,
+    OldForm,
     Making,
+    Converted,
+    ConvertedDamaged,
+    ConvertedLength,
+    Target,
 }
 
-const SOURCES: [&str; 5] = [
+const SOURCES: [&str; 10] = [
     "random scripts from a fresh bank",
     "well-formed banks made by hand",
     "banks with damaged bytes",
     "banks of a wrong length",
+    "old banks, not converted",
     "makings in any buffer",
+    "conversions of well-formed old banks",
+    "conversions of damaged old banks",
+    "conversions of old banks of a wrong length",
+    "conversions into a target of a wrong length",
 ];
 
 /// The runner's letters, a fuse of 0 apart from the others, and which codes each call can answer.
-const KINDS: [(&str, &[usize]); 7] = [
+const KINDS: [(&str, &[usize]); 8] = [
     ("N", &[0, 1, 2]),
     ("R", &[0, 1, 2, 3, 4, 5, 6, 7, 8]),
     ("W", &[0, 1, 2, 3, 4, 5, 6, 7, 8]),
@@ -30,8 +40,10 @@ const KINDS: [(&str, &[usize]); 7] = [
     ("F 0", &[0, 1, 2, 3]),
     ("F", &[0, 1, 2, 3]),
     ("S", &[0, 1, 2, 3]),
+    ("convert", &[0, 1]),
 ];
 const CODES: usize = 9;
+const CONVERT: usize = 7;
 
 #[derive(Default)]
 pub struct Met {
@@ -59,23 +71,32 @@ impl Met {
     }
 
     pub fn call(&mut self, source: Source, line: &Line, answer: u64) {
+        self.count(source, kind_of(line), answer);
+    }
+
+    pub fn conversion(&mut self, source: Source, answer: u64) {
+        self.bank(source);
+        self.count(source, CONVERT, answer);
+    }
+
+    fn count(&mut self, source: Source, kind: usize, answer: u64) {
         let code = unpacked(answer).code as usize;
         self.calls += 1;
-        self.answered[kind_of(line)][code.min(CODES - 1)] += 1;
+        self.answered[kind][code.min(CODES - 1)] += 1;
         self.sources[source as usize][1] += 1;
         self.sources[source as usize][2] += (code == 1) as u64;
     }
 
     pub fn print(&self) {
         let codes = (0..CODES).map(|code| format!("{:>10}", format!("code {code}")));
-        println!("call       calls{}", codes.collect::<String>());
+        println!("call          calls{}", codes.collect::<String>());
         for ((kind, _), codes) in KINDS.iter().zip(&self.answered) {
             let columns = codes.iter().map(|count| format!("{count:>10}"));
             let all: u64 = codes.iter().sum();
-            println!("{kind:>4}{all:>12}{}", columns.collect::<String>());
+            println!("{kind:>7}{all:>12}{}", columns.collect::<String>());
         }
-        for (name, [banks, calls, malformed]) in SOURCES.iter().zip(&self.sources) {
-            println!("{name}: {banks} banks, {calls} calls, {malformed} of them malformed");
+        for (name, [banks, calls, refused]) in SOURCES.iter().zip(&self.sources) {
+            println!("{name}: {banks} banks, {calls} calls, {refused} of them with code 1");
         }
         println!("never met: {}", self.never_met());
     }

@@ -2,7 +2,7 @@
 
 use second::layout::*;
 
-pub fn name(layout: Layout, at: usize) -> String {
+pub fn name<const FORM: Form>(layout: Layout<FORM>, at: usize) -> String {
     if at < layout.owner(0) {
         return format!("head byte {at}");
     }
@@ -19,29 +19,16 @@ pub fn name(layout: Layout, at: usize) -> String {
     format!("board {board}, {}", in_block(layout, board, at))
 }
 
-fn in_block(layout: Layout, board: usize, at: usize) -> String {
+fn in_block<const FORM: Form>(layout: Layout<FORM>, board: usize, at: usize) -> String {
     if at < layout.frame(board, 0) {
-        let fixed = [
-            "state",
-            "selector",
-            "fuse",
-            "fuse",
-            "access number",
-            "access number",
-            "access number",
-            "access number",
-            "since",
-            "since",
-            "replay place",
-            "volatile count",
-        ];
-        return fixed[at - layout.block(board)].into();
+        return fixed_field(layout, board, at).into();
     }
     if at < layout.volatile_slot(board, 0) {
         return frame(at - layout.frame(board, 0));
     }
     if at < layout.area(board, 0) {
-        return format!("volatile {}", slot(at - layout.volatile_slot(board, 0)));
+        let slot = slot::<FORM>(at - layout.volatile_slot(board, 0));
+        return format!("volatile {slot}");
     }
     let which = (at >= layout.area(board, 1)) as usize;
     let area = layout.area(board, which);
@@ -52,9 +39,23 @@ fn in_block(layout: Layout, board: usize, at: usize) -> String {
     } else if at < layout.area_slot(area, 0) {
         frame(at - layout.area_frame(area, 0))
     } else {
-        slot(at - layout.area_slot(area, 0))
+        slot::<FORM>(at - layout.area_slot(area, 0))
     };
     format!("area {which}, {part}")
+}
+
+/// The last field that begins at the offset or before it.
+fn fixed_field<const FORM: Form>(layout: Layout<FORM>, board: usize, at: usize) -> &'static str {
+    let fields = [
+        (layout.volatile(board), "volatile count"),
+        (layout.place(board), "replay place"),
+        (layout.since(board), "since"),
+        (layout.number(board), "access number"),
+        (layout.fuse(board), "fuse"),
+        (layout.selector(board), "selector"),
+    ];
+    let field = fields.iter().find(|(first, _)| *first <= at);
+    field.map_or("state", |(_, name)| name)
 }
 
 fn frame(from: usize) -> String {
@@ -64,13 +65,14 @@ fn frame(from: usize) -> String {
     }
 }
 
-fn slot(from: usize) -> String {
-    let field = match from % SLOT {
+fn slot<const FORM: Form>(from: usize) -> String {
+    let size = Layout::<FORM>::SLOT;
+    let field = match from % size {
         0 | 1 => "mark",
         SLOT_PAGE => "page",
         SLOT_ZERO => "zero byte",
-        4 | 5 => "count",
+        at if at < Layout::<FORM>::SLOT_BYTES => "count",
         _ => "page bytes",
     };
-    format!("slot {}, {field}", from / SLOT)
+    format!("slot {}, {field}", from / size)
 }

@@ -18,7 +18,7 @@ pub struct Access {
 /// How many records each board must have room for.
 type Needs = [usize; MAX_BOARDS];
 
-impl Engine<'_> {
+impl<const FORM: Form> Engine<'_, FORM> {
     /// An access of an up board; gives the byte read, or 0 for a write.
     pub fn live(&mut self, access: &Access) -> Step<u8> {
         if self.fault == Fault::AlwaysSeven {

@@ -2,10 +2,11 @@
 //! A call never fails otherwise than by its code.
 
 use crate::access::Access;
-use crate::check::well_formed;
+use crate::check::fits;
 use crate::engine::{Engine, Refusal, Step};
 use crate::fault::Fault;
 use crate::layout::*;
+use crate::older;
 use crate::watch::{During, Watch};
 
 #[derive(Clone, Copy, PartialEq, Eq, Debug)]
@@ -61,7 +62,7 @@ impl Call {
     }
 
     /// Code 2 is for numbers that are not in range.
-    pub fn in_range(&self, layout: Layout) -> bool {
+    pub fn in_range<const FORM: Form>(&self, layout: Layout<FORM>) -> bool {
         let place_fits =
             |page: u32, offset: u32| (page as usize) < layout.pages && (offset as usize) < PAGE;
         (self.board() as usize) < layout.boards
@@ -105,10 +106,15 @@ impl Call {
 
 /// Makes a fresh bank in a buffer; checks the numbers before the length.
 pub fn make(buffer: &mut [u8], boards: u32, pages: u32) -> Answer {
+    make_in::<NEWEST>(buffer, boards, pages)
+}
+
+/// The same in a form: the older one's fresh banks are what the tests begin with.
+pub fn make_in<const FORM: Form>(buffer: &mut [u8], boards: u32, pages: u32) -> Answer {
     if !(1..=MAX_BOARDS as u32).contains(&boards) || !(1..=MAX_PAGES as u32).contains(&pages) {
         return Answer::refused(2);
     }
-    let layout = Layout {
+    let layout = Layout::<FORM> {
         boards: boards as usize,
         pages: pages as usize,
     };
@@ -131,13 +137,24 @@ pub fn make(buffer: &mut [u8], boards: u32, pages: u32) -> Answer {
     Answer::default()
 }
 
-/// Any call on a bank. A wrong engine takes its own bank as well formed.
+/// Any call on a bank.
 pub fn call(bank: &mut [u8], call: &Call, fault: Fault, watch: &mut Watch) -> Answer {
+    call_in::<NEWEST>(bank, call, fault, watch)
+}
+
+/// The same in a form. In the older one it is what an old bank would answer, were it not converted: the rules of the
+/// day on its own bytes, with its own largest since.
+pub fn call_in<const FORM: Form>(
+    bank: &mut [u8],
+    call: &Call,
+    fault: Fault,
+    watch: &mut Watch,
+) -> Answer {
     watch.begin_call();
-    if fault == Fault::None && !well_formed(bank) {
+    if !fault.trusts_its_bank() && !fits::<FORM>(bank) {
         return Answer::refused(1);
     }
-    if !call.in_range(Layout::of(bank)) {
+    if !call.in_range(Layout::<FORM>::named_by(bank)) {
         return Answer::refused(2);
     }
     let mut scratch;
@@ -147,7 +164,7 @@ pub fn call(bank: &mut [u8], call: &Call, fault: Fault, watch: &mut Watch) -> An
     } else {
         bank
     };
-    let mut engine = Engine::new(target, fault, watch);
+    let mut engine = Engine::<FORM>::new(target, fault, watch);
     let result = perform(&mut engine, call);
     let stores = if fault == Fault::MadeUpStores {
         1
@@ -171,7 +188,7 @@ pub fn call(bank: &mut [u8], call: &Call, fault: Fault, watch: &mut Watch) -> An
 }
 
 /// Code 3, then the call's own steps.
-fn perform(engine: &mut Engine, call: &Call) -> Step<u32> {
+fn perform<const FORM: Form>(engine: &mut Engine<FORM>, call: &Call) -> Step<u32> {
     let board = call.board() as usize;
     let state = engine.state(board);
     let fits = match call {
@@ -194,12 +211,16 @@ fn perform(engine: &mut Engine, call: &Call) -> Step<u32> {
 }
 
 /// Code 4 looks at the counters as they are at entry, before a replay looks at its log.
-fn access(engine: &mut Engine, call: &Call) -> Step<u32> {
+fn access<const FORM: Form>(engine: &mut Engine<FORM>, call: &Call) -> Step<u32> {
     let Some(access) = call.access() else {
         return Ok(0);
     };
     let board = access.board;
-    if engine.since(board) == u16::MAX || engine.number(board) == u32::MAX {
+    let most = match engine.fault {
+        Fault::NarrowLimit => older::Layout::MOST,
+        _ => Layout::<FORM>::MOST,
+    };
+    if engine.since(board) == most || engine.number(board) == u32::MAX {
         return Err(Refusal {
             code: 4,
             who: board,

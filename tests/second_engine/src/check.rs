@@ -3,147 +3,202 @@
 
 use crate::layout::*;
 
+/// Whether a buffer is a bank that the calls take.
 pub fn well_formed(bank: &[u8]) -> bool {
-    if !head_fits(bank) {
-        return false;
-    }
-    let layout = Layout::of(bank);
-    (0..layout.pages).all(|page| directory_entry_fits(bank, layout, page))
-        && (0..layout.boards).all(|board| block_fits(bank, layout, board))
+    fits::<NEWEST>(bank)
 }
 
-fn head_fits(bank: &[u8]) -> bool {
+/// The rules for a form. Those of the older one are document 01's for ever: a rule that moves asks for the form.
+pub fn fits<const FORM: Form>(bank: &[u8]) -> bool {
+    if !head_fits::<FORM>(bank) {
+        return false;
+    }
+    let layout = Layout::<FORM>::named_by(bank);
+    Check { bank, layout }.all()
+}
+
+/// The head's letters and numbers, and the length that follows from them.
+pub fn head_fits<const FORM: Form>(bank: &[u8]) -> bool {
     if bank.len() < 4 || bank[..2] != HEAD {
         return false;
     }
-    let layout = Layout::of(bank);
+    let layout = Layout::<FORM>::named_by(bank);
     (1..=MAX_BOARDS).contains(&layout.boards)
         && (1..=MAX_PAGES).contains(&layout.pages)
         && bank.len() == layout.length()
 }
 
-fn directory_entry_fits(bank: &[u8], layout: Layout, page: usize) -> bool {
-    let owner = bank[layout.owner(page)] as usize;
-    let copies = bank[layout.copies(page)] as usize;
-    owner < layout.boards && copies >> layout.boards == 0 && copies >> owner & 1 == 0
+/// The bytes of a bank, and where its fields lie in them.
+struct Check<'a, const FORM: Form> {
+    bank: &'a [u8],
+    layout: Layout<FORM>,
 }
 
-fn block_fits(bank: &[u8], layout: Layout, board: usize) -> bool {
-    fields_fit(bank, layout, board)
-        && frames_fit(bank, layout, layout.frame(board, 0))
-        && records_fit(
-            bank,
-            layout,
-            layout.volatile_slot(board, 0),
-            bank[layout.volatile(board)],
-        )
-        && (0..2).all(|which| area_fits(bank, layout, layout.area(board, which)))
-        && match bank[layout.state(board)] {
-            UP => up_fits(bank, layout, board),
-            DOWN => down_fits(bank, layout, board),
-            _ => replaying_fits(bank, layout, board),
+impl<const FORM: Form> Check<'_, FORM> {
+    fn all(&self) -> bool {
+        (0..self.layout.pages).all(|page| self.directory_entry_fits(page))
+            && (0..self.layout.boards).all(|board| self.block_fits(board))
+    }
+
+    fn directory_entry_fits(&self, page: usize) -> bool {
+        let owner = self.bank[self.layout.owner(page)] as usize;
+        let copies = self.bank[self.layout.copies(page)] as usize;
+        owner < self.layout.boards && copies >> self.layout.boards == 0 && copies >> owner & 1 == 0
+    }
+
+    fn block_fits(&self, board: usize) -> bool {
+        let layout = self.layout;
+        let volatile = self.bank[layout.volatile(board)];
+        self.fields_fit(board)
+            && self.frames_fit(layout.frame(board, 0))
+            && self.records_fit(layout.volatile_slot(board, 0), volatile)
+            && (0..2).all(|which| self.area_fits(layout.area(board, which)))
+            && match self.bank[layout.state(board)] {
+                UP => self.up_fits(board),
+                DOWN => self.down_fits(board),
+                _ => self.replaying_fits(board),
+            }
+    }
+
+    /// Ranges of a block's small fields, and room for both its logs in one area.
+    fn fields_fit(&self, board: usize) -> bool {
+        let Check { bank, layout } = self;
+        if bank[layout.state(board)] > REPLAYING || bank[layout.selector(board)] > 1 {
+            return false;
         }
-}
-
-/// Ranges of a block's small fields, and room for both its logs in one area.
-fn fields_fit(bank: &[u8], layout: Layout, board: usize) -> bool {
-    if bank[layout.state(board)] > REPLAYING || bank[layout.selector(board)] > 1 {
-        return false;
+        let stored = self.selected_count(board) as usize;
+        get16(bank, layout.fuse(board)) != 0
+            && stored + bank[layout.volatile(board)] as usize <= SLOTS
     }
-    let stored = bank[layout.stored(layout.selected(bank, board))] as usize;
-    get16(bank, layout.fuse(board)) != 0 && stored + bank[layout.volatile(board)] as usize <= SLOTS
-}
 
-fn area_fits(bank: &[u8], layout: Layout, area: usize) -> bool {
-    let stored = bank[layout.stored(area)];
-    stored as usize <= SLOTS
-        && frames_fit(bank, layout, layout.area_frame(area, 0))
-        && records_fit(bank, layout, layout.area_slot(area, 0), stored)
-}
-
-fn frames_fit(bank: &[u8], layout: Layout, first: usize) -> bool {
-    (0..layout.pages).all(|page| frame_fits(bank, first + FRAME * page))
-}
-
-fn frame_fits(bank: &[u8], frame: usize) -> bool {
-    match bank[frame] {
-        NONE => page_at(bank, frame + 1) == [0; PAGE],
-        right => right <= OWN,
+    fn selected_count(&self, board: usize) -> u8 {
+        self.bank[self.layout.stored(self.layout.selected(self.bank, board))]
     }
-}
 
-fn records_fit(bank: &[u8], layout: Layout, first: usize, count: u8) -> bool {
-    (0..count as usize).all(|slot| record_fits(bank, layout, first + SLOT * slot))
-}
-
-fn record_fits(bank: &[u8], layout: Layout, slot: usize) -> bool {
-    let bytes_fit = match kind_at(bank, slot) {
-        GOT_COPY | GOT_OWN => true,
-        SHOWN | DROPPED => page_at(bank, slot + SLOT_BYTES) == [0; PAGE],
-        _ => false,
-    };
-    bytes_fit && (bank[slot + SLOT_PAGE] as usize) < layout.pages && bank[slot + SLOT_ZERO] == 0
-}
-
-/// An up board's rights are those the directory gives it.
-fn up_fits(bank: &[u8], layout: Layout, board: usize) -> bool {
-    bank[layout.place(board)] == 0
-        && (0..layout.pages).all(|page| {
-            bank[layout.frame(board, page)] == directory_right(bank, layout, board, page)
-        })
-}
-
-fn directory_right(bank: &[u8], layout: Layout, board: usize, page: usize) -> u8 {
-    if bank[layout.owner(page)] as usize == board {
-        OWN
-    } else {
-        bank[layout.copies(page)] >> board & 1
+    fn area_fits(&self, area: usize) -> bool {
+        let stored = self.bank[self.layout.stored(area)];
+        stored as usize <= SLOTS
+            && self.frames_fit(self.layout.area_frame(area, 0))
+            && self.records_fit(self.layout.area_slot(area, 0), stored)
     }
-}
 
-fn down_fits(bank: &[u8], layout: Layout, board: usize) -> bool {
-    let frames = layout.frame(board, 0)..layout.frame(board, layout.pages);
-    bank[layout.place(board)] == 0
-        && get32(bank, layout.number(board)) == 0
-        && get16(bank, layout.since(board)) == 0
-        && bank[layout.volatile(board)] == 0
-        && bank[frames].iter().all(|byte| *byte == 0)
-        && get16(bank, layout.fuse(board)) == NO_FUSE
-        && in_no_copy_set(bank, layout, board)
-}
+    fn frames_fit(&self, first: usize) -> bool {
+        (0..self.layout.pages).all(|page| self.frame_fits(first + FRAME * page))
+    }
 
-fn replaying_fits(bank: &[u8], layout: Layout, board: usize) -> bool {
-    bank[layout.place(board)] < bank[layout.stored(layout.selected(bank, board))]
-        && bank[layout.volatile(board)] == 0
-        && in_no_copy_set(bank, layout, board)
-}
+    fn frame_fits(&self, frame: usize) -> bool {
+        match self.bank[frame] {
+            NONE => page_at(self.bank, frame + 1) == [0; PAGE],
+            right => right <= OWN,
+        }
+    }
 
-fn in_no_copy_set(bank: &[u8], layout: Layout, board: usize) -> bool {
-    (0..layout.pages).all(|page| bank[layout.copies(page)] >> board & 1 == 0)
+    fn records_fit(&self, first: usize, count: u8) -> bool {
+        (0..count as usize).all(|slot| self.record_fits(first + Layout::<FORM>::SLOT * slot))
+    }
+
+    fn record_fits(&self, slot: usize) -> bool {
+        let bytes = slot + Layout::<FORM>::SLOT_BYTES;
+        let bytes_fit = match kind_at(self.bank, slot) {
+            GOT_COPY | GOT_OWN => true,
+            SHOWN | DROPPED => page_at(self.bank, bytes) == [0; PAGE],
+            _ => false,
+        };
+        bytes_fit
+            && (self.bank[slot + SLOT_PAGE] as usize) < self.layout.pages
+            && self.bank[slot + SLOT_ZERO] == 0
+    }
+
+    /// An up board's rights are those the directory gives it.
+    fn up_fits(&self, board: usize) -> bool {
+        self.bank[self.layout.place(board)] == 0
+            && (0..self.layout.pages).all(|page| {
+                self.bank[self.layout.frame(board, page)] == self.directory_right(board, page)
+            })
+    }
+
+    fn directory_right(&self, board: usize, page: usize) -> u8 {
+        if self.bank[self.layout.owner(page)] as usize == board {
+            OWN
+        } else {
+            self.bank[self.layout.copies(page)] >> board & 1
+        }
+    }
+
+    fn down_fits(&self, board: usize) -> bool {
+        let Check { bank, layout } = *self;
+        let frames = layout.frame(board, 0)..layout.frame(board, layout.pages);
+        bank[layout.place(board)] == 0
+            && get32(bank, layout.number(board)) == 0
+            && layout.get_count(bank, layout.since(board)) == 0
+            && bank[layout.volatile(board)] == 0
+            && bank[frames].iter().all(|byte| *byte == 0)
+            && get16(bank, layout.fuse(board)) == NO_FUSE
+            && self.in_no_copy_set(board)
+    }
+
+    fn replaying_fits(&self, board: usize) -> bool {
+        self.bank[self.layout.place(board)] < self.selected_count(board)
+            && self.bank[self.layout.volatile(board)] == 0
+            && self.in_no_copy_set(board)
+    }
+
+    fn in_no_copy_set(&self, board: usize) -> bool {
+        (0..self.layout.pages).all(|page| self.bank[self.layout.copies(page)] >> board & 1 == 0)
+    }
 }
 
 #[cfg(test)]
 mod tests {
     use super::*;
-    use crate::calls::make;
+    use crate::calls::{make, make_in};
 
-    fn fresh(boards: usize, pages: usize) -> Vec<u8> {
-        let mut bank = vec![0; Layout { boards, pages }.length()];
-        assert_eq!(make(&mut bank, boards as u32, pages as u32).code, 0);
+    /// Each test for the newest form, and for the older one, whose verdicts are never to change.
+    macro_rules! in_both_forms {
+        ($($test:ident)*) => {
+            mod newest {
+                $(#[test] fn $test() { super::$test::<{ super::NEWEST }>() })*
+            }
+            mod older {
+                $(#[test] fn $test() { super::$test::<{ super::OLDER }>() })*
+            }
+        };
+    }
+
+    in_both_forms! {
+        fresh_banks_fit
+        heads_and_lengths_that_do_not_fit
+        directories_that_do_not_fit
+        small_fields
+        frames
+        records
+        counts_of_records
+        slots_past_the_counts
+        boards_that_are_down
+        boards_that_replay
+    }
+
+    fn fresh<const FORM: Form>(boards: usize, pages: usize) -> Vec<u8> {
+        let layout = Layout::<FORM> { boards, pages };
+        let mut bank = vec![0; layout.length()];
+        assert_eq!(
+            make_in::<FORM>(&mut bank, boards as u32, pages as u32).code,
+            0
+        );
         bank
     }
 
     /// A fresh bank of two boards and two pages with one change.
-    fn changed(change: impl Fn(&mut [u8], Layout)) -> bool {
-        let mut bank = fresh(2, 2);
-        let layout = Layout::of(&bank);
+    fn changed<const FORM: Form>(change: impl Fn(&mut [u8], Layout<FORM>)) -> bool {
+        let mut bank = fresh::<FORM>(2, 2);
+        let layout = Layout::<FORM>::named_by(&bank);
         change(&mut bank, layout);
-        well_formed(&bank)
+        fits::<FORM>(&bank)
     }
 
     /// Board 1 down, then more changes.
-    fn changed_down(change: impl Fn(&mut [u8], Layout)) -> bool {
-        changed(|bank, l| {
+    fn changed_down<const FORM: Form>(change: impl Fn(&mut [u8], Layout<FORM>)) -> bool {
+        changed::<FORM>(|bank, l| {
             bank[l.state(1)] = DOWN;
             bank[l.frame(1, 1)] = NONE;
             change(bank, l)
@@ -151,8 +206,8 @@ mod tests {
     }
 
     /// Board 1 replaying one shown record, then more changes.
-    fn changed_replaying(change: impl Fn(&mut [u8], Layout)) -> bool {
-        changed(|bank, l| {
+    fn changed_replaying<const FORM: Form>(change: impl Fn(&mut [u8], Layout<FORM>)) -> bool {
+        changed::<FORM>(|bank, l| {
             bank[l.state(1)] = REPLAYING;
             let area = l.area(1, 0);
             bank[l.stored(area)] = 1;
@@ -167,127 +222,119 @@ mod tests {
 
     #[test]
     fn lengths() {
-        assert_eq!(
-            Layout {
-                boards: 1,
-                pages: 1
-            }
-            .length(),
-            2_191
-        );
-        assert_eq!(
-            Layout {
-                boards: 8,
-                pages: 16
-            }
-            .length(),
-            23_636
-        );
-        assert_eq!(make(&mut [0; 2_191], 1, 1).code, 0);
-        assert_eq!(make(&mut [0; 2_190], 1, 1).code, 1);
+        assert_eq!(make(&mut [0; 2_385], 1, 1).code, 0);
+        assert_eq!(make(&mut [0; 2_384], 1, 1).code, 1);
+        assert_eq!(make(&mut [0; 25_188], 8, 16).code, 0);
         assert_eq!(make(&mut [0; 3], 1, 1).code, 1);
         assert_eq!(make(&mut [0; 3], 9, 1).code, 2);
+        assert_eq!(make(&mut [0; 2_191], 1, 1).code, 1);
+        assert_eq!(make(&mut [0; 23_636], 8, 16).code, 1);
     }
 
     #[test]
     fn a_refused_make_leaves_the_buffer() {
-        let mut buffer = [7; 2_190];
+        let mut buffer = [7; 2_384];
         make(&mut buffer, 1, 1);
-        assert_eq!(buffer, [7; 2_190]);
+        assert_eq!(buffer, [7; 2_384]);
     }
 
-    #[test]
-    fn fresh_banks_fit() {
+    fn fresh_banks_fit<const FORM: Form>() {
         for boards in 1..=MAX_BOARDS {
             for pages in 1..=MAX_PAGES {
-                assert!(well_formed(&fresh(boards, pages)));
+                let bank = fresh::<FORM>(boards, pages);
+                assert!(fits::<FORM>(&bank));
+                assert_eq!(fits::<NEWEST>(&bank), FORM == NEWEST);
+                assert_eq!(fits::<OLDER>(&bank), FORM == OLDER);
             }
         }
     }
 
-    #[test]
-    fn heads_and_lengths_that_do_not_fit() {
-        assert!(!well_formed(&[]));
-        assert!(!well_formed(&fresh(2, 2)[1..]));
-        let mut longer = fresh(2, 2);
+    fn heads_and_lengths_that_do_not_fit<const FORM: Form>() {
+        assert!(!fits::<FORM>(&[]));
+        assert!(!fits::<FORM>(&fresh::<FORM>(2, 2)[1..]));
+        let mut longer = fresh::<FORM>(2, 2);
         longer.push(0);
-        assert!(!well_formed(&longer));
-        assert!(!changed(|bank, _| bank[0] = 67));
-        assert!(!changed(|bank, _| bank[1] = 0));
-        assert!(!changed(|bank, _| bank[2] = 0));
-        assert!(!changed(|bank, _| bank[3] = 17));
+        assert!(!fits::<FORM>(&longer));
+        assert!(!changed::<FORM>(|bank, _| bank[0] = 67));
+        assert!(!changed::<FORM>(|bank, _| bank[1] = 0));
+        assert!(!changed::<FORM>(|bank, _| bank[2] = 0));
+        assert!(!changed::<FORM>(|bank, _| bank[3] = 17));
     }
 
-    #[test]
-    fn directories_that_do_not_fit() {
-        assert!(!changed(|bank, l| bank[l.owner(0)] = 2));
-        assert!(!changed(|bank, l| bank[l.owner(0)] = 1));
-        assert!(!changed(|bank, l| bank[l.copies(0)] = 4));
-        assert!(!changed(|bank, l| bank[l.copies(0)] = 1));
-        assert!(!changed(|bank, l| bank[l.copies(0)] = 2));
-        assert!(changed(|bank, l| {
+    fn directories_that_do_not_fit<const FORM: Form>() {
+        assert!(!changed::<FORM>(|bank, l| bank[l.owner(0)] = 2));
+        assert!(!changed::<FORM>(|bank, l| bank[l.owner(0)] = 1));
+        assert!(!changed::<FORM>(|bank, l| bank[l.copies(0)] = 4));
+        assert!(!changed::<FORM>(|bank, l| bank[l.copies(0)] = 1));
+        assert!(!changed::<FORM>(|bank, l| bank[l.copies(0)] = 2));
+        assert!(changed::<FORM>(|bank, l| {
             bank[l.copies(0)] = 2;
             bank[l.frame(1, 0)] = COPY;
             bank[l.frame(1, 0) + 1] = 9;
         }));
     }
 
-    #[test]
-    fn small_fields() {
-        assert!(!changed(|bank, l| bank[l.state(0)] = 3));
-        assert!(!changed(|bank, l| bank[l.selector(0)] = 2));
-        assert!(changed(|bank, l| bank[l.selector(0)] = 1));
-        assert!(!changed(|bank, l| put16(bank, l.fuse(0), 0)));
-        assert!(changed(|bank, l| put16(bank, l.fuse(0), 1)));
-        assert!(!changed(|bank, l| bank[l.place(0)] = 1));
-        assert!(!changed(|bank, l| bank[l.volatile(0)] = 33));
+    fn small_fields<const FORM: Form>() {
+        assert!(!changed::<FORM>(|bank, l| bank[l.state(0)] = 3));
+        assert!(!changed::<FORM>(|bank, l| bank[l.selector(0)] = 2));
+        assert!(changed::<FORM>(|bank, l| bank[l.selector(0)] = 1));
+        assert!(!changed::<FORM>(|bank, l| put16(bank, l.fuse(0), 0)));
+        assert!(changed::<FORM>(|bank, l| put16(bank, l.fuse(0), 1)));
+        assert!(changed::<FORM>(|bank, l| put32(
+            bank,
+            l.number(0),
+            u32::MAX
+        )));
+        let most = Layout::<FORM>::MOST;
+        assert!(changed::<FORM>(|bank, l| l.put_count(
+            bank,
+            l.since(0),
+            most
+        )));
+        assert!(!changed::<FORM>(|bank, l| bank[l.place(0)] = 1));
+        assert!(!changed::<FORM>(|bank, l| bank[l.volatile(0)] = 33));
     }
 
-    #[test]
-    fn frames() {
-        assert!(!changed(|bank, l| bank[l.frame(0, 0)] = 3));
-        assert!(!changed(|bank, l| bank[l.frame(0, 0)] = COPY));
-        assert!(!changed(|bank, l| bank[l.frame(0, 1) + 16] = 1));
-        assert!(changed(|bank, l| bank[l.frame(0, 0) + 16] = 1));
+    fn frames<const FORM: Form>() {
+        assert!(!changed::<FORM>(|bank, l| bank[l.frame(0, 0)] = 3));
+        assert!(!changed::<FORM>(|bank, l| bank[l.frame(0, 0)] = COPY));
+        assert!(!changed::<FORM>(|bank, l| bank[l.frame(0, 1) + 16] = 1));
+        assert!(changed::<FORM>(|bank, l| bank[l.frame(0, 0) + 16] = 1));
         for which in 0..2 {
-            assert!(!changed(|bank, l| bank
-                [l.area_frame(l.area(1, which), 0) + 1] =
-                1));
-            assert!(!changed(|bank, l| bank
-                [l.area_frame(l.area(1, which), 1)] =
-                3));
-            assert!(changed(
-                |bank, l| bank[l.area_frame(l.area(1, which), 0)] = COPY
-            ));
+            let with = |page: usize, at: usize, byte: u8| {
+                changed::<FORM>(|bank, l| bank[l.area_frame(l.area(1, which), page) + at] = byte)
+            };
+            assert!(!with(0, 1, 1));
+            assert!(!with(1, 0, 3));
+            assert!(with(0, 0, COPY));
         }
     }
 
-    #[test]
-    fn records() {
+    fn records<const FORM: Form>() {
         let with = |kind: Kind, at: usize, byte: u8| {
-            changed(|bank, l| {
+            changed::<FORM>(|bank, l| {
                 bank[l.volatile(0)] = 1;
                 let slot = l.volatile_slot(0, 0);
                 put_record(bank, slot, kind);
                 bank[slot + at] = byte;
             })
         };
+        let (count, bytes) = (Layout::<FORM>::SLOT_COUNT, Layout::<FORM>::SLOT_BYTES);
         for kind in [GOT_COPY, GOT_OWN, SHOWN, DROPPED] {
             assert!(with(kind, SLOT_PAGE, 1));
             assert!(!with(kind, SLOT_PAGE, 2));
             assert!(!with(kind, SLOT_ZERO, 1));
-            assert!(with(kind, SLOT_COUNT, 255));
+            assert!(with(kind, count, 255));
+            assert!(with(kind, bytes - 1, 255));
             assert!(!with(kind, 1, b'X'));
         }
-        assert!(with(GOT_COPY, SLOT_BYTES + 15, 1) && with(GOT_OWN, SLOT_BYTES, 1));
-        assert!(!with(SHOWN, SLOT_BYTES + 15, 1) && !with(DROPPED, SLOT_BYTES, 1));
-        assert!(changed(|bank, l| bank[l.volatile_slot(0, 0)] = 1));
+        assert!(with(GOT_COPY, bytes + 15, 1) && with(GOT_OWN, bytes, 1));
+        assert!(!with(SHOWN, bytes + 15, 1) && !with(DROPPED, bytes, 1));
     }
 
-    #[test]
-    fn counts_of_records() {
+    fn counts_of_records<const FORM: Form>() {
         let filled = |which: usize, stored: usize, volatile: usize| {
-            changed(|bank, l| {
+            changed::<FORM>(|bank, l| {
                 let area = l.area(0, which);
                 bank[l.stored(area)] = stored as u8;
                 bank[l.volatile(0)] = volatile as u8;
@@ -298,34 +345,51 @@ mod tests {
         assert!(filled(0, 31, 1) && filled(0, 32, 0) && filled(0, 0, 32));
         assert!(!filled(0, 32, 1) && !filled(0, 33, 0));
         assert!(filled(1, 32, 1) && !filled(1, 33, 0));
-        assert!(!changed(|bank, l| bank[l.stored(l.area(0, 1))] = 1));
+        assert!(!changed::<FORM>(|bank, l| bank[l.stored(l.area(0, 1))] = 1));
     }
 
-    #[test]
-    fn boards_that_are_down() {
-        assert!(changed_down(|_, _| ()));
-        assert!(changed_down(|bank, l| bank[l.volatile_slot(1, 0)] = 1));
-        assert!(!changed_down(|bank, l| bank[l.frame(1, 0)] = COPY));
-        assert!(!changed_down(|bank, l| put32(bank, l.number(1), 1)));
-        assert!(!changed_down(|bank, l| put16(bank, l.since(1), 1)));
-        assert!(!changed_down(|bank, l| put16(bank, l.fuse(1), 1)));
-        assert!(!changed_down(|bank, l| bank[l.copies(0)] = 2));
-        assert!(!changed_down(|bank, l| bank[l.place(1)] = 1));
-        assert!(!changed_down(|bank, l| {
+    fn slots_past_the_counts<const FORM: Form>() {
+        assert!(changed::<FORM>(|bank, l| {
+            let runs = l.past_counts(bank);
+            runs.into_iter().for_each(|run| bank[run].fill(7));
+        }));
+        assert!(changed_replaying::<FORM>(|bank, l| {
+            bank[l.area_slot(l.area(1, 0), 1)] = 1;
+        }));
+    }
+
+    fn boards_that_are_down<const FORM: Form>() {
+        assert!(changed_down::<FORM>(|_, _| ()));
+        assert!(changed_down::<FORM>(|bank, l| bank
+            [l.volatile_slot(1, 0)] =
+            1));
+        assert!(!changed_down::<FORM>(|bank, l| bank[l.frame(1, 0)] = COPY));
+        assert!(!changed_down::<FORM>(|bank, l| put32(bank, l.number(1), 1)));
+        assert!(!changed_down::<FORM>(|bank, l| bank[l.since(1)] = 1));
+        assert!(!changed_down::<FORM>(|bank, l| bank[l.place(1) - 1] = 1));
+        assert!(!changed_down::<FORM>(|bank, l| put16(bank, l.fuse(1), 1)));
+        assert!(!changed_down::<FORM>(|bank, l| bank[l.copies(0)] = 2));
+        assert!(!changed_down::<FORM>(|bank, l| bank[l.place(1)] = 1));
+        assert!(!changed_down::<FORM>(|bank, l| {
             bank[l.volatile(1)] = 1;
             put_record(bank, l.volatile_slot(1, 0), SHOWN);
         }));
     }
 
-    #[test]
-    fn boards_that_replay() {
-        assert!(changed_replaying(|_, _| ()));
-        assert!(changed_replaying(|bank, l| bank[l.frame(1, 0)] = OWN));
-        assert!(changed_replaying(|bank, l| put16(bank, l.fuse(1), 1)));
-        assert!(!changed_replaying(|bank, l| bank[l.place(1)] = 1));
-        assert!(!changed_replaying(|bank, l| bank[l.selector(1)] = 1));
-        assert!(!changed_replaying(|bank, l| bank[l.copies(0)] = 2));
-        assert!(!changed_replaying(|bank, l| {
+    fn boards_that_replay<const FORM: Form>() {
+        assert!(changed_replaying::<FORM>(|_, _| ()));
+        assert!(changed_replaying::<FORM>(
+            |bank, l| bank[l.frame(1, 0)] = OWN
+        ));
+        assert!(changed_replaying::<FORM>(|bank, l| put16(
+            bank,
+            l.fuse(1),
+            1
+        )));
+        assert!(!changed_replaying::<FORM>(|bank, l| bank[l.place(1)] = 1));
+        assert!(!changed_replaying::<FORM>(|bank, l| bank[l.selector(1)] = 1));
+        assert!(!changed_replaying::<FORM>(|bank, l| bank[l.copies(0)] = 2));
+        assert!(!changed_replaying::<FORM>(|bank, l| {
             bank[l.volatile(1)] = 1;
             put_record(bank, l.volatile_slot(1, 0), SHOWN);
         }));

@@ -8,6 +8,9 @@ use crate::line::Line;
 use crate::trial::Trial;
 use crate::watch::{phase_name, IMPOSSIBLE_PHASE, PHASES};
 
+/// The codes that a line of a script can get: no script is long enough for code 4.
+const CODES: [usize; 9] = [0, 1, 2, 3, 5, 6, 7, 8, 9];
+
 const LAST_RECORDS: [&str; 5] = ["none", "shown", "dropped", "got copy", "got own"];
 
 /// What a fuse of 0 may meet.
@@ -74,6 +77,8 @@ pub struct Counters {
     gone_live: [u64; 9],
     /// Asked for by K b, and by F b 0.
     zero_fuses: [[u64; 2]; ZERO_FUSES.len()],
+    /// Records with a count above 65,535: made, and used in a replay.
+    wide_records: [u64; 2],
 }
 
 fn last_index(last: Last) -> usize {
@@ -98,6 +103,7 @@ impl Counters {
             replays_ended: [0; 5],
             gone_live: [0; 9],
             zero_fuses: Default::default(),
+            wide_records: [0; 2],
         }
     }
 
@@ -120,6 +126,13 @@ impl Counters {
         if let Some(zero_fuse) = zero_fuse {
             self.count_zero_fuse(&zero_fuse, answer.code);
         }
+    }
+
+    /// Counts those of a whole script.
+    pub fn count_wide_records(&mut self, trial: &Trial) {
+        let watch = &trial.session.watch;
+        self.wide_records[0] += watch.wide_records_made;
+        self.wide_records[1] += watch.wide_records_used;
     }
 
     fn count_zero_fuse(&mut self, zero_fuse: &ZeroFuse, code: u8) {
@@ -145,7 +158,12 @@ impl Counters {
         phases.count()
             + live.count()
             + replays.count()
-            + self.codes.iter().filter(|count| **count == 0).count()
+            + CODES.iter().filter(|code| self.codes[**code] == 0).count()
+            + self
+                .wide_records
+                .iter()
+                .filter(|count| **count == 0)
+                .count()
             + zero_fuses.iter().filter(|count| **count == 0).count()
     }
 
@@ -155,8 +173,8 @@ impl Counters {
             self.scripts, self.calls, self.premises_broken
         );
         println!("codes:");
-        for (code, count) in self.codes.iter().enumerate() {
-            println!("  {code}: {count}");
+        for code in CODES {
+            println!("  {code}: {}", self.codes[code]);
         }
         println!("fuses blown in:");
         for phase in (0..PHASES).filter(|phase| *phase != IMPOSSIBLE_PHASE) {
@@ -177,6 +195,8 @@ impl Counters {
         for (name, [by_cut_line, by_fuse_line]) in ZERO_FUSES.iter().zip(self.zero_fuses) {
             println!("  {name}: {by_cut_line} {by_fuse_line}");
         }
+        let [made, used] = self.wide_records;
+        println!("records with a count above 65,535, made and used in a replay: {made} {used}");
         println!("never met: {}", self.never_met());
     }
 }

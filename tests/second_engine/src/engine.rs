@@ -3,6 +3,7 @@
 
 use crate::fault::Fault;
 use crate::layout::*;
+use crate::older;
 use crate::watch::{During, Flush, Phase, Watch};
 
 /// Why a call stops: a code other than 0 and the board it speaks of.
@@ -14,17 +15,18 @@ pub struct Refusal {
 
 pub type Step<T = ()> = Result<T, Refusal>;
 
-pub struct Engine<'a> {
+/// The engine on a bank of either form; the calls know the newest alone.
+pub struct Engine<'a, const FORM: Form = NEWEST> {
     pub bank: &'a mut [u8],
-    pub layout: Layout,
+    pub layout: Layout<FORM>,
     pub fault: Fault,
     pub watch: &'a mut Watch,
     pub stores: u32,
 }
 
-impl<'a> Engine<'a> {
-    pub fn new(bank: &'a mut [u8], fault: Fault, watch: &'a mut Watch) -> Engine<'a> {
-        let layout = Layout::of(bank);
+impl<'a, const FORM: Form> Engine<'a, FORM> {
+    pub fn new(bank: &'a mut [u8], fault: Fault, watch: &'a mut Watch) -> Engine<'a, FORM> {
+        let layout = Layout::named_by(bank);
         Engine {
             bank,
             layout,
@@ -42,19 +44,24 @@ impl<'a> Engine<'a> {
         get32(self.bank, self.layout.number(board))
     }
 
-    pub fn since(&self, board: usize) -> u16 {
-        get16(self.bank, self.layout.since(board))
+    pub fn since(&self, board: usize) -> u32 {
+        self.layout.get_count(self.bank, self.layout.since(board))
+    }
+
+    fn put_since(&mut self, board: usize, since: u32) {
+        self.layout
+            .put_count(self.bank, self.layout.since(board), since);
     }
 
     pub fn clear_since(&mut self, board: usize) {
-        put16(self.bank, self.layout.since(board), 0);
+        self.put_since(board, 0);
     }
 
     /// One more access in both of a board's counters.
     pub fn count_access(&mut self, board: usize) {
         let (number, since) = (self.number(board), self.since(board));
         put32(self.bank, self.layout.number(board), number.wrapping_add(1));
-        put16(self.bank, self.layout.since(board), since.wrapping_add(1));
+        self.put_since(board, since.wrapping_add(1));
     }
 
     pub fn right(&self, board: usize, page: usize) -> u8 {
@@ -96,16 +103,22 @@ impl<'a> Engine<'a> {
     pub fn record(&mut self, board: usize, kind: Kind, page: usize, bytes: [u8; PAGE]) {
         let count = self.bank[self.layout.volatile(board)] as usize;
         let slot = self.layout.volatile_slot(board, count);
-        let since = self.since(board);
+        let since = match self.fault {
+            Fault::NarrowRecord => self.since(board) as u16 as u32,
+            _ => self.since(board),
+        };
         self.bank[slot..slot + 2].copy_from_slice(&kind);
         self.bank[slot + SLOT_PAGE] = page as u8;
         self.bank[slot + SLOT_ZERO] = 0;
-        put16(self.bank, slot + SLOT_COUNT, since);
-        self.bank[slot + SLOT_BYTES..slot + SLOT].copy_from_slice(&bytes);
+        self.layout
+            .put_count(self.bank, slot + Layout::<FORM>::SLOT_COUNT, since);
+        self.bank[slot + Layout::<FORM>::SLOT_BYTES..slot + Layout::<FORM>::SLOT]
+            .copy_from_slice(&bytes);
         self.bank[self.layout.volatile(board)] = count as u8 + 1;
         self.clear_since(board);
         let number = self.number(board);
         self.watch.record_made(board, number);
+        self.watch.wide_records_made += (since > older::Layout::MOST) as u64;
     }
 
     /// Moves the volatile records to the selected area, one store each.
@@ -137,7 +150,7 @@ impl<'a> Engine<'a> {
         let area = self.selected(board);
         let stored = self.bank[self.layout.stored(area)];
         let to = self.layout.area_slot(area, stored as usize);
-        self.bank.copy_within(from..from + SLOT, to);
+        self.bank.copy_within(from..from + Layout::<FORM>::SLOT, to);
         self.bank[self.layout.stored(area)] = stored + 1;
         self.watch.record_stored(board);
     }

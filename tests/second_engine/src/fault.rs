@@ -1,6 +1,6 @@
 //! The wrong engines: each has one fault, and each must be caught.
-//! The first five are the faults a bench sale would hide, the next six must not satisfy any contract, and the
-//! last five get a fuse of 0 wrong.
+//! The first five are the faults a bench sale would hide, the next six must not satisfy any contract, the next five
+//! get a fuse of 0 wrong, the next two a wide since, and the last six a conversion.
 
 #[derive(Clone, Copy, PartialEq, Eq, Debug)]
 pub enum Fault {
@@ -21,121 +21,206 @@ pub enum Fault {
     ZeroFuseBlown,
     ZeroFuseKept,
     CutLineSetsFuse,
+    NarrowLimit,
+    NarrowRecord,
+    ConvertLeftovers,
+    ConvertSelectedOnly,
+    ConvertBeforeRefusal,
+    ConvertUnchecked,
+    ConvertLowByte,
+    ConvertSinceAtEnd,
+}
+
+/// What must catch a fault.
+#[derive(Clone, Copy, PartialEq, Eq)]
+pub enum Catcher {
+    /// The claim about the whole list, on random scripts.
+    Claim,
+    /// The stored outputs.
+    Outputs,
+    /// The pairs of an old bank and its conversion.
+    Pairs,
+}
+
+impl Fault {
+    /// Whether the conversion is wrong, and the engine right.
+    pub fn is_in_conversion(self) -> bool {
+        FAULTS
+            .iter()
+            .any(|kind| kind.fault == self && kind.caught_by == Catcher::Pairs)
+    }
+
+    /// A wrong engine takes its own bank as well formed, or code 1 would hide what it did.
+    pub fn trusts_its_bank(self) -> bool {
+        self != Fault::None && !self.is_in_conversion()
+    }
 }
 
 pub struct FaultKind {
     pub fault: Fault,
     pub name: &'static str,
     pub what: &'static str,
-    /// Whether the claim about the whole list must see it; else the stored outputs must.
-    pub breaks_claim: bool,
+    pub caught_by: Catcher,
 }
 
 const fn kind(
     fault: Fault,
     name: &'static str,
-    breaks_claim: bool,
+    caught_by: Catcher,
     what: &'static str,
 ) -> FaultKind {
     FaultKind {
         fault,
         name,
         what,
-        breaks_claim,
+        caught_by,
     }
 }
 
-pub const FAULTS: [FaultKind; 16] = [
+pub const FAULTS: [FaultKind; 24] = [
     kind(
         Fault::KeepCopy,
         "keep-copy",
-        true,
+        Catcher::Claim,
         "keeps a read copy after replay",
     ),
     kind(
         Fault::EarlyOwner,
         "early-owner",
-        true,
+        Catcher::Claim,
         "names the new owner before its got is stored",
     ),
     kind(
         Fault::EarlyDropped,
         "early-dropped",
-        true,
+        Catcher::Claim,
         "stores the old owner's dropped before the new owner has stored",
     ),
     kind(
         Fault::CountRefused,
         "count-refused",
-        true,
+        Catcher::Claim,
         "counts refused accesses",
     ),
     kind(
         Fault::Refetch,
         "refetch",
-        true,
+        Catcher::Claim,
         "fetches the page anew during replay",
     ),
     kind(
         Fault::AlwaysSeven,
         "always-seven",
-        false,
+        Catcher::Outputs,
         "answers 7 to every access before looking at a log",
     ),
-    kind(Fault::ReadZero, "read-zero", true, "reads 0 always"),
+    kind(
+        Fault::ReadZero,
+        "read-zero",
+        Catcher::Claim,
+        "reads 0 always",
+    ),
     kind(
         Fault::Untouched,
         "untouched",
-        false,
+        Catcher::Outputs,
         "leaves the bank untouched",
     ),
     kind(
         Fault::HalfFlush,
         "half-flush",
-        true,
+        Catcher::Claim,
         "a flush that handles its first record and skips the others",
     ),
     kind(
         Fault::HalfReplay,
         "half-replay",
-        true,
+        Catcher::Claim,
         "a replay that handles its first record and skips the others",
     ),
     kind(
         Fault::MadeUpStores,
         "made-up-stores",
-        false,
+        Catcher::Outputs,
         "a store count made up",
     ),
     kind(
         Fault::ZeroFuseStores,
         "zero-fuse-stores",
-        false,
+        Catcher::Outputs,
         "a fuse of 0 that stores one record first",
     ),
     kind(
         Fault::ZeroFuseSet,
         "zero-fuse-set",
-        true,
+        Catcher::Claim,
         "a fuse of 0 that is set and leaves the board as it is",
     ),
     kind(
         Fault::ZeroFuseBlown,
         "zero-fuse-blown",
-        false,
+        Catcher::Outputs,
         "a fuse of 0 that answers 8",
     ),
     kind(
         Fault::ZeroFuseKept,
         "zero-fuse-kept",
-        false,
+        Catcher::Outputs,
         "a fuse of 0 that leaves the set fuse in the block",
     ),
     kind(
         Fault::CutLineSetsFuse,
         "cut-line-sets-fuse",
-        true,
+        Catcher::Claim,
         "a K line that sets a fuse of 1",
+    ),
+    kind(
+        Fault::NarrowLimit,
+        "narrow-limit",
+        Catcher::Claim,
+        "answers 4 at a since of 65,535",
+    ),
+    kind(
+        Fault::NarrowRecord,
+        "narrow-record",
+        Catcher::Claim,
+        "a record that takes the low two bytes of since alone",
+    ),
+    kind(
+        Fault::ConvertLeftovers,
+        "convert-leftovers",
+        Catcher::Pairs,
+        "a conversion that keeps what stands in slots past a count",
+    ),
+    kind(
+        Fault::ConvertSelectedOnly,
+        "convert-selected-only",
+        Catcher::Pairs,
+        "a conversion that loses the spare area's records",
+    ),
+    kind(
+        Fault::ConvertBeforeRefusal,
+        "convert-before-refusal",
+        Catcher::Pairs,
+        "a conversion that writes before it refuses",
+    ),
+    kind(
+        Fault::ConvertUnchecked,
+        "convert-unchecked",
+        Catcher::Pairs,
+        "a conversion that looks at no more than head and length",
+    ),
+    kind(
+        Fault::ConvertLowByte,
+        "convert-low-byte",
+        Catcher::Pairs,
+        "a conversion that takes the low byte of a record's count alone",
+    ),
+    kind(
+        Fault::ConvertSinceAtEnd,
+        "convert-since-at-end",
+        Catcher::Pairs,
+        "a conversion that puts since's bytes at the wrong end of the field",
     ),
 ];
 

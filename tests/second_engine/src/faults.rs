@@ -1,16 +1,19 @@
-//! Runs every wrong engine and says what catches it.
-//! The claim is tried on random scripts, the answers on the stored scripts, against what the right engine prints.
+//! Runs every wrong engine and says what catches it. The claim is tried on random scripts, the answers on the stored
+//! scripts, against what the right engine prints, and a wrong conversion on pairs.
 
 use crate::counters::Counters;
-use crate::fault::{Fault, FaultKind, FAULTS};
+use crate::fault::{Catcher, Fault, FaultKind, FAULTS};
 use crate::fuzz::search;
+use crate::pair_counters::PairCounters;
+use crate::pairs;
 use crate::runner::run;
 use std::fs;
 use std::io;
 use std::path::{Path, PathBuf};
 
-/// How many random scripts a fault may take to show.
+/// How many random scripts, or pairs, a fault may take to show.
 const SCRIPTS: u64 = 1_000;
+const PAIRS: u64 = 1_000;
 
 /// A script of the corpus and what the right engine prints.
 struct Case {
@@ -55,15 +58,36 @@ fn differs(case: &Case, fault: Fault) -> bool {
 /// Prints what catches one fault; false if what must catch it doesn't.
 fn try_fault(kind: &FaultKind, corpus: &[Case]) -> bool {
     println!("{}: {}", kind.name, kind.what);
-    let failure = search(1, SCRIPTS, kind.fault, &mut Counters::new());
+    if kind.caught_by == Catcher::Pairs {
+        return pairs_differ(kind.fault);
+    }
+    let (claim, outputs) = (claim_breaks(kind.fault), outputs_differ(kind.fault, corpus));
+    match kind.caught_by {
+        Catcher::Claim => claim,
+        _ => outputs,
+    }
+}
+
+fn pairs_differ(fault: Fault) -> bool {
+    let failure = pairs::search(1, PAIRS, fault, &mut PairCounters::new());
+    match &failure {
+        Some(failure) => println!("  pairs differ at seed {}: {}", failure.seed, failure.why),
+        None => println!("  {PAIRS} pairs agree"),
+    }
+    failure.is_some()
+}
+
+fn claim_breaks(fault: Fault) -> bool {
+    let failure = search(1, SCRIPTS, fault, &mut Counters::new());
     match &failure {
         Some(failure) => println!("  claim broken at seed {}: {}", failure.seed, failure.why),
         None => println!("  claim not broken in {SCRIPTS} scripts"),
     }
-    let differing: Vec<&Case> = corpus
-        .iter()
-        .filter(|case| differs(case, kind.fault))
-        .collect();
+    failure.is_some()
+}
+
+fn outputs_differ(fault: Fault, corpus: &[Case]) -> bool {
+    let differing: Vec<&Case> = corpus.iter().filter(|case| differs(case, fault)).collect();
     match differing.first() {
         Some(case) => println!(
             "  {} of {} scripts differ, first {}",
@@ -73,11 +97,7 @@ fn try_fault(kind: &FaultKind, corpus: &[Case]) -> bool {
         ),
         None => println!("  no script differs"),
     }
-    if kind.breaks_claim {
-        failure.is_some()
-    } else {
-        !differing.is_empty()
-    }
+    !differing.is_empty()
 }
 
 /// The whole command; false if a fault isn't caught.

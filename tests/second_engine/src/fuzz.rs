@@ -7,6 +7,7 @@ use crate::counters::{Counters, ZeroFuse};
 use crate::fault::Fault;
 use crate::gen::{Generator, ScriptLine, LONG_SCRIPT};
 use crate::line::Line;
+use crate::pairs::pairs;
 use crate::random::Random;
 use crate::trial::Trial;
 use std::io;
@@ -14,7 +15,7 @@ use std::io;
 /// How many lines may be run to make a failing script smaller.
 const SHRINKING_LINES: usize = 20_000_000;
 
-/// One script in so many reads until code 4; one in so many has no bank.
+/// One script in so many has a record of a count above 65,535; one in so many has no bank.
 const LONG_SCRIPT_EVERY: u64 = 2_000;
 const NO_BANK_EVERY: u64 = 64;
 
@@ -65,6 +66,7 @@ fn try_seed(seed: u64, fault: Fault, counters: &mut Counters) -> Result<(), Fail
             }
         }
     }
+    counters.count_wide_records(&trial);
     let fits = trial
         .session
         .bank
@@ -155,14 +157,14 @@ fn shrink(mut script: Vec<ScriptLine>, fault: Fault) -> Vec<ScriptLine> {
     script
 }
 
-/// The whole command; false if the claim broke.
+/// The whole command: the scripts, then as many pairs. False if the claim broke or a pair differed.
 pub fn fuzz(seed: u64, count: u64, fault: Fault) -> io::Result<bool> {
     let mut counters = Counters::new();
     let failure = search(seed, count, fault, &mut counters);
     counters.print();
     let Some(failure) = failure else {
         println!("claim held");
-        return Ok(true);
+        return Ok(pairs(seed, count, fault));
     };
     let Failure {
         seed,

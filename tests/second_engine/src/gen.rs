@@ -13,7 +13,7 @@ use crate::trial::Trial;
 use crate::watch::Watch;
 use std::io::{self, BufWriter, Write};
 
-/// Scripts at least this long have one board read until code 4 comes.
+/// Scripts at least this long have one board read more often than the older form can count.
 pub const LONG_SCRIPT: u32 = 70_000;
 const LONG_READING: u32 = 65_540;
 
@@ -98,19 +98,25 @@ enum Run {
 pub struct Generator {
     random: Random,
     profile: Profile,
-    run: Option<Run>,
+    /// The last one comes first.
+    runs: Vec<Run>,
     long_reading_due: bool,
 }
 
 impl Generator {
     pub fn new(seed: u64, lines: u32) -> Generator {
         let mut random = Random::new(seed);
-        let profile = Profile::new(&mut random);
+        let mut profile = Profile::new(&mut random);
+        let long = lines >= LONG_SCRIPT;
+        if long {
+            // A board alone makes no record.
+            profile.boards = profile.boards.max(2);
+        }
         Generator {
             random,
             profile,
-            run: None,
-            long_reading_due: lines >= LONG_SCRIPT,
+            runs: Vec::new(),
+            long_reading_due: long,
         }
     }
 
@@ -132,18 +138,22 @@ impl Generator {
 
     /// The next line of a run that was begun.
     fn run_on(&mut self, trial: &Trial, bank: &[u8], layout: Layout) -> Option<Line> {
-        match self.run.take()? {
-            Run::Same(_, 0) | Run::Repeats(_, 0) => None,
-            Run::Same(line, left) => {
-                self.run = Some(Run::Same(line, left - 1));
-                Some(line)
-            }
-            Run::Repeats(board, left) => {
-                let replaying = bank[layout.state(board)] == REPLAYING;
-                self.run = replaying.then_some(Run::Repeats(board, left - 1));
-                replaying.then(|| self.replaying_access(trial, bank, layout, board).into())
+        while let Some(run) = self.runs.pop() {
+            match run {
+                Run::Same(_, 0) | Run::Repeats(_, 0) => (),
+                Run::Same(line, left) => {
+                    self.runs.push(Run::Same(line, left - 1));
+                    return Some(line);
+                }
+                Run::Repeats(board, left) => {
+                    if bank[layout.state(board)] == REPLAYING {
+                        self.runs.push(Run::Repeats(board, left - 1));
+                        return Some(self.replaying_access(trial, bank, layout, board).into());
+                    }
+                }
             }
         }
+        None
     }
 
     fn sensible(&mut self, trial: &Trial, bank: &[u8], layout: Layout) -> Line {
@@ -254,7 +264,7 @@ impl Generator {
     /// Sets a fuse; a line behind it may blow it or take it away.
     fn fuse(&mut self, bank: &[u8], layout: Layout, board: usize) -> Call {
         if let Some(line) = self.behind_fuse(bank, layout, board) {
-            self.run = Some(Run::Same(line, 1));
+            self.runs.push(Run::Same(line, 1));
         }
         let stores = match self.random.below(50) {
             0 => self.random.between(1, 65_534),
@@ -287,8 +297,8 @@ impl Generator {
         board: usize,
     ) -> Line {
         match self.random.below(10) {
-            0 => self.run = Some(Run::Repeats(board, u32::MAX)),
-            1 => self.run = Some(Run::Repeats(board, self.random.below(20))),
+            0 => self.runs.push(Run::Repeats(board, u32::MAX)),
+            1 => self.runs.push(Run::Repeats(board, self.random.below(20))),
             2 if self.random.permille(self.profile.fuses * 4) => {
                 return self.fuse(bank, layout, board).into()
             }
@@ -351,23 +361,48 @@ impl Generator {
         }
     }
 
-    /// One up board reads a page of its own until it may no more.
+    /// One board reads a page of its own more often than two bytes can count. Then another board takes the page, which
+    /// makes a record of that count, and sometimes the reader loses its power and repeats it all.
     fn long_reading(&mut self, bank: &[u8], layout: Layout) -> Call {
-        let Some(board) = self.board_in(bank, layout, UP) else {
-            return self.any_access(0);
+        let boards = layout.boards as u32;
+        let start = self.any_board();
+        let steady = |board: &u32| {
+            let board = *board as usize;
+            bank[layout.state(board)] == UP && get16(bank, layout.fuse(board)) == NO_FUSE
         };
-        let own = (0..layout.pages).find(|page| bank[layout.frame(board as usize, *page)] != NONE);
-        let Some(page) = own else {
-            return self.any_access(board);
+        let mut steady_boards = (start..start + boards)
+            .map(|board| board % boards)
+            .filter(steady);
+        let (Some(reader), Some(taker)) = (steady_boards.next(), steady_boards.next()) else {
+            return self.any_access(start);
         };
-        let call = Call::Read {
-            board,
-            page: page as u32,
+        let owned = (0..layout.pages).find(|page| bank[layout.owner(*page)] as u32 == reader);
+        let Some(page) = owned.map(|page| page as u32) else {
+            return self.any_access(reader);
+        };
+        let once = |call: Call| Run::Same(call.into(), 1);
+        if self.random.permille(500) {
+            let cut = self.cut(reader);
+            self.runs.push(Run::Repeats(reader as usize, u32::MAX));
+            self.runs.push(once(Call::Restart { board: reader }));
+            self.runs.push(Run::Same(cut, 1));
+        }
+        self.runs.push(once(Call::Write {
+            board: taker,
+            page,
+            offset: 0,
+            value: 1,
+        }));
+        let reading = Call::Read {
+            board: reader,
+            page,
             offset: 0,
         };
-        self.run = Some(Run::Same(call.into(), LONG_READING));
+        self.runs.push(Run::Same(reading.into(), LONG_READING));
         self.long_reading_due = false;
-        call
+        // Room in both logs, so that the record is made.
+        self.runs.push(once(Call::Checkpoint { board: taker }));
+        Call::Checkpoint { board: reader }
     }
 
     /// A line that most likely gets code 2, 3 or 9.

@@ -172,7 +172,7 @@ mod tests {
 
     /// How many of a board's entries, one at first, are left when its fuse was answered so.
     fn left_after_fuse(stores: u32, code: u8) -> usize {
-        let mut bank = [0; 2_191];
+        let mut bank = [0; 2_385];
         make(&mut bank, 1, 1);
         let mut history = History::default();
         let write = Call::Write {

@@ -1,5 +1,8 @@
 //! Where each field of a bank lies in its bytes.
-//! Every offset is named here once; nothing else in this engine knows one.
+//! Every offset is named once, here or, for the older form, in `older`; nothing else in this engine knows one.
+
+use crate::older;
+use std::ops::Range;
 
 pub const MAX_BOARDS: usize = 8;
 pub const MAX_PAGES: usize = 16;
@@ -26,44 +29,95 @@ pub const GOT_OWN: Kind = *b"GO";
 pub const SHOWN: Kind = *b"SH";
 pub const DROPPED: Kind = *b"DR";
 
+/// Which form a bank has. A parameter of types, so that layout, rules and engine are written once for both.
+pub type Form = u8;
+/// The form that every call works on.
+pub const NEWEST: Form = 0;
+/// Document 01's own form, which a conversion reads.
+pub const OLDER: Form = 1;
+
+/// The places and widths in which forms differ, or may come to differ.
+pub struct Places {
+    /// How many bytes since and a record's count have.
+    pub count_width: usize,
+    // Inside a block.
+    pub since: usize,
+    pub place: usize,
+    pub volatile: usize,
+    pub frames: usize,
+    // Inside an area.
+    pub area_frames: usize,
+    // Inside a slot.
+    pub slot_count: usize,
+    pub slot_bytes: usize,
+    pub slot: usize,
+}
+
+const NEWEST_PLACES: Places = Places {
+    count_width: 4,
+    since: 8,
+    place: 12,
+    volatile: 13,
+    frames: 14,
+    area_frames: 5,
+    slot_count: 4,
+    slot_bytes: 8,
+    slot: 24,
+};
+
 const COUNT_OF_BOARDS: usize = 2;
 const COUNT_OF_PAGES: usize = 3;
 const DIRECTORY: usize = 4;
 const ENTRY: usize = 2;
 
-// Inside a block.
+// Inside a block, in every form.
 const STATE: usize = 0;
 const SELECTOR: usize = 1;
 const FUSE: usize = 2;
 const NUMBER: usize = 4;
-const SINCE: usize = 8;
-const PLACE: usize = 10;
-const VOLATILE: usize = 11;
-const FRAMES: usize = 12;
 
-// Inside an area.
+// Inside an area, in every form.
 const AREA_STORED: usize = 4;
-const AREA_FRAMES: usize = 5;
 
 pub const FRAME: usize = 1 + PAGE;
 
-// Inside a slot.
-pub const SLOT: usize = 22;
+// Inside a slot; the last three in the newest form.
 pub const SLOT_PAGE: usize = 2;
 pub const SLOT_ZERO: usize = 3;
-pub const SLOT_COUNT: usize = 4;
-pub const SLOT_BYTES: usize = 6;
+pub const SLOT_COUNT: usize = NEWEST_PLACES.slot_count;
+pub const SLOT_BYTES: usize = NEWEST_PLACES.slot_bytes;
+pub const SLOT: usize = NEWEST_PLACES.slot;
 
-/// The two numbers that fix every offset of a bank.
+/// The two numbers that fix every offset of a bank, in one form.
 #[derive(Clone, Copy)]
-pub struct Layout {
+pub struct Layout<const FORM: Form = NEWEST> {
     pub boards: usize,
     pub pages: usize,
 }
 
 impl Layout {
-    /// The layout that the bank's own head names; the bank has a head.
+    /// The newest layout of the numbers that the bank's own head names; the bank has a head.
     pub fn of(bank: &[u8]) -> Layout {
+        Layout::named_by(bank)
+    }
+}
+
+impl<const FORM: Form> Layout<FORM> {
+    const PLACES: Places = match FORM {
+        OLDER => older::PLACES,
+        _ => NEWEST_PLACES,
+    };
+
+    // Inside a slot of this form.
+    pub const SLOT_COUNT: usize = Self::PLACES.slot_count;
+    pub const SLOT_BYTES: usize = Self::PLACES.slot_bytes;
+    pub const SLOT: usize = Self::PLACES.slot;
+
+    /// The largest number that since and a record's count have room for.
+    pub const MOST: u32 = u32::MAX >> (8 * (4 - Self::PLACES.count_width));
+
+    /// The same as `of`, in any form.
+    pub fn named_by(bank: &[u8]) -> Layout<FORM> {
         Layout {
             boards: bank[COUNT_OF_BOARDS] as usize,
             pages: bank[COUNT_OF_PAGES] as usize,
@@ -83,11 +137,11 @@ impl Layout {
     }
 
     fn area_length(self) -> usize {
-        AREA_FRAMES + FRAME * self.pages + SLOT * SLOTS
+        Self::PLACES.area_frames + FRAME * self.pages + Self::SLOT * SLOTS
     }
 
     fn block_length(self) -> usize {
-        FRAMES + FRAME * self.pages + SLOT * SLOTS + 2 * self.area_length()
+        Self::PLACES.frames + FRAME * self.pages + Self::SLOT * SLOTS + 2 * self.area_length()
     }
 
     pub fn block(self, board: usize) -> usize {
@@ -111,23 +165,23 @@ impl Layout {
     }
 
     pub fn since(self, board: usize) -> usize {
-        self.block(board) + SINCE
+        self.block(board) + Self::PLACES.since
     }
 
     pub fn place(self, board: usize) -> usize {
-        self.block(board) + PLACE
+        self.block(board) + Self::PLACES.place
     }
 
     pub fn volatile(self, board: usize) -> usize {
-        self.block(board) + VOLATILE
+        self.block(board) + Self::PLACES.volatile
     }
 
     pub fn frame(self, board: usize, page: usize) -> usize {
-        self.block(board) + FRAMES + FRAME * page
+        self.block(board) + Self::PLACES.frames + FRAME * page
     }
 
     pub fn volatile_slot(self, board: usize, slot: usize) -> usize {
-        self.frame(board, self.pages) + SLOT * slot
+        self.frame(board, self.pages) + Self::SLOT * slot
     }
 
     /// Also the place of the area's access number, its first field.
@@ -140,16 +194,48 @@ impl Layout {
     }
 
     pub fn area_frame(self, area: usize, page: usize) -> usize {
-        area + AREA_FRAMES + FRAME * page
+        area + Self::PLACES.area_frames + FRAME * page
     }
 
     pub fn area_slot(self, area: usize, slot: usize) -> usize {
-        self.area_frame(area, self.pages) + SLOT * slot
+        self.area_frame(area, self.pages) + Self::SLOT * slot
     }
 
     /// The area that the selector names.
     pub fn selected(self, bank: &[u8], board: usize) -> usize {
         self.area(board, bank[self.selector(board)] as usize)
+    }
+
+    /// Since or a record's count, in as many bytes as this form has for them.
+    pub fn get_count(self, bank: &[u8], at: usize) -> u32 {
+        match Self::PLACES.count_width {
+            2 => get16(bank, at) as u32,
+            _ => get32(bank, at),
+        }
+    }
+
+    /// Writes since or a record's count, which is at most `MOST`.
+    pub fn put_count(self, bank: &mut [u8], at: usize, count: u32) {
+        match Self::PLACES.count_width {
+            2 => put16(bank, at, count as u16),
+            _ => put32(bank, at, count),
+        }
+    }
+
+    /// The slots at or past a count, of all logs: one run of bytes for each log.
+    pub fn past_counts(self, bank: &[u8]) -> Vec<Range<usize>> {
+        let past = |first: usize, count: usize| {
+            first + Self::SLOT * (bank[count] as usize).min(SLOTS)..first + Self::SLOT * SLOTS
+        };
+        let of_board = |board: usize| {
+            let areas = [0, 1].map(|which| self.area(board, which));
+            [
+                past(self.volatile_slot(board, 0), self.volatile(board)),
+                past(self.area_slot(areas[0], 0), self.stored(areas[0])),
+                past(self.area_slot(areas[1], 0), self.stored(areas[1])),
+            ]
+        };
+        (0..self.boards).flat_map(of_board).collect()
     }
 }
 
@@ -187,7 +273,43 @@ pub fn recovery_point(bank: &[u8], board: usize) -> u64 {
     let layout = Layout::of(bank);
     let area = layout.selected(bank, board);
     let stored = bank[layout.stored(area)] as usize;
-    let counts =
-        (0..stored).map(|slot| get16(bank, layout.area_slot(area, slot) + SLOT_COUNT) as u64);
+    let counts = (0..stored)
+        .map(|slot| layout.get_count(bank, layout.area_slot(area, slot) + SLOT_COUNT) as u64);
     get32(bank, area) as u64 + counts.sum::<u64>()
+}
+
+#[cfg(test)]
+mod tests {
+    use super::*;
+
+    fn length(boards: usize, pages: usize) -> usize {
+        let layout: Layout = Layout { boards, pages };
+        layout.length()
+    }
+
+    /// Document 02's own numbers, and every place of a block and a slot by its number.
+    #[test]
+    fn newest_places() {
+        assert_eq!((length(1, 1), length(8, 16)), (2_385, 25_188));
+        for (n, p) in (1..=MAX_BOARDS).flat_map(|n| (1..=MAX_PAGES).map(move |p| (n, p))) {
+            assert_eq!(length(n, p), 4 + 2 * p + n * (2_328 + 51 * p));
+        }
+        let l: Layout = Layout {
+            boards: 2,
+            pages: 3,
+        };
+        let block = 10 + 2_481;
+        assert_eq!(l.block(1), block);
+        assert_eq!((l.state(1), l.selector(1)), (block, block + 1));
+        assert_eq!((l.fuse(1), l.number(1)), (block + 2, block + 4));
+        assert_eq!((l.since(1), l.place(1)), (block + 8, block + 12));
+        assert_eq!((l.volatile(1), l.frame(1, 0)), (block + 13, block + 14));
+        assert_eq!(l.volatile_slot(1, 2), block + 14 + 51 + 48);
+        assert_eq!(l.area(1, 0), block + 14 + 51 + 768);
+        assert_eq!(l.area(1, 1) - l.area(1, 0), 5 + 51 + 768);
+        assert_eq!((l.stored(7), l.area_frame(7, 1)), (11, 29));
+        assert_eq!(l.area_slot(7, 1), 7 + 5 + 51 + 24);
+        assert_eq!([SLOT_PAGE, SLOT_ZERO, SLOT_COUNT, SLOT_BYTES], [2, 3, 4, 8]);
+        assert_eq!(<Layout>::MOST, 4_294_967_295);
+    }
 }

@@ -1,11 +1,14 @@
 //! The second engine: the bank, line runner and claim of documents 01 and 02, worked on plain bytes.
-//! Commands: run, dump, gen, claim, fuzz, faults.
+//! Commands: run, dump, gen, claim, fuzz, pairs, faults.
 
 mod access;
+mod asked;
 mod calls;
 mod check;
 mod claim;
+mod convert;
 mod counters;
+mod damage;
 mod engine;
 mod fault;
 mod faults;
@@ -14,6 +17,10 @@ mod gen;
 mod history;
 mod layout;
 mod line;
+mod made;
+mod older;
+mod pair_counters;
+mod pairs;
 mod profile;
 mod random;
 mod replay;
@@ -28,7 +35,7 @@ use std::process::ExitCode;
 
 const USAGE: &str = "usage: second run|dump|claim [--fault NAME] < SCRIPT
        second gen SEED LINES
-       second fuzz SEED COUNT [--fault NAME]
+       second fuzz|pairs SEED COUNT [--fault NAME]
        second faults
        second test";
 
@@ -53,6 +60,7 @@ fn command(arguments: &[&str], fault: Fault) -> Option<io::Result<bool>> {
             gen::generate(number(seed)?, lines.parse().ok()?, stdout()).map(|_| true)
         }
         ["fuzz", seed, count] => fuzz::fuzz(number(seed)?, number(count)?, fault),
+        ["pairs", seed, count] => Ok(pairs::pairs(number(seed)?, number(count)?, fault)),
         ["faults", folder] => faults::faults(Path::new(folder)),
         _ => return None,
     })

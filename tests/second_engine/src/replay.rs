@@ -5,9 +5,10 @@ use crate::access::Access;
 use crate::engine::{Engine, Refusal, Step};
 use crate::fault::Fault;
 use crate::layout::*;
+use crate::older;
 use crate::watch::During;
 
-impl Engine<'_> {
+impl<const FORM: Form> Engine<'_, FORM> {
     /// Brings a board back from its selected area; gives the area's access number.
     pub fn restart(&mut self, board: usize) -> Step<u32> {
         let area = self.selected(board);
@@ -79,7 +80,12 @@ impl Engine<'_> {
         }
         let place = self.bank[self.layout.place(board)] as usize;
         let slot = self.layout.area_slot(self.selected(board), place);
-        (get16(self.bank, slot + SLOT_COUNT) == self.since(board)).then_some(slot)
+        (self.count_of(slot) == self.since(board)).then_some(slot)
+    }
+
+    fn count_of(&self, slot: usize) -> u32 {
+        self.layout
+            .get_count(self.bank, slot + Layout::<FORM>::SLOT_COUNT)
     }
 
     /// The slot of the next record, if it is a got and due.
@@ -99,7 +105,7 @@ impl Engine<'_> {
         } else {
             OWN
         };
-        let mut bytes = page_at(self.bank, slot + SLOT_BYTES);
+        let mut bytes = page_at(self.bank, slot + Layout::<FORM>::SLOT_BYTES);
         if self.fault == Fault::Refetch && self.state(self.owner(page)) == UP {
             bytes = self.page_bytes(self.owner(page), page);
         }
@@ -122,6 +128,7 @@ impl Engine<'_> {
     /// One record more is used, and since starts anew.
     fn pass_record(&mut self, board: usize) {
         let place = self.layout.place(board);
+        self.watch.wide_records_used += (self.since(board) > older::Layout::MOST) as u64;
         self.bank[place] += 1;
         if self.fault == Fault::HalfReplay {
             self.bank[place] = self.bank[self.layout.stored(self.selected(board))];

@@ -68,7 +68,7 @@ pub fn call_for(line: &Line, fault: Fault) -> Option<Call> {
 
 /// How many bytes the bank has; numbers out of range get a buffer too, so that the refusal comes from making itself.
 pub fn length(boards: u32, pages: u32) -> usize {
-    let layout = Layout {
+    let layout: Layout = Layout {
         boards: boards.min(MAX_BOARDS as u32) as usize,
         pages: pages.min(MAX_PAGES as u32) as usize,
     };

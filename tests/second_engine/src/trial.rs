@@ -36,6 +36,9 @@ impl Trial {
             (Some(_), _) if answer.code == 1 => {
                 Verdict::ClaimBroken("the calls before left a bank that isn't well formed".into())
             }
+            (Some(_), _) if answer.code == 4 => {
+                Verdict::ClaimBroken("no script is long enough for code 4".into())
+            }
             (Some(bank), Some((call, before))) => {
                 self.judge
                     .after(bank, &call, &answer, before, &self.session.watch)
@@ -94,5 +97,30 @@ mod tests {
             answers.push((answer.code, answer.value, answer.stores));
         }
         assert_eq!(answers[8..], [(0, 0, 0), (0, 0, 0), (0, 0, 4), (0, 9, 2)]);
+    }
+
+    /// A record whose count two bytes have no room for, and its replay.
+    #[test]
+    fn a_count_of_65_537() {
+        let mut trial = Trial::new(Fault::None);
+        let mut take = |text: &str| {
+            let (answer, verdict) = trial.take(read_line(text.as_bytes()));
+            assert!(matches!(verdict, Verdict::Held), "{text}");
+            (answer.code, answer.value, answer.stores)
+        };
+        assert_eq!(take("N 2 1"), (0, 0, 0));
+        assert_eq!(take("W 0 0 0 5"), (0, 0, 0));
+        (0..65_536).for_each(|_| assert_eq!(take("R 0 0 0"), (0, 5, 0)));
+        assert_eq!(take("W 1 0 0 6"), (0, 0, 2));
+        assert_eq!(take("K 0"), (0, 0, 0));
+        assert_eq!(take("S 0"), (0, 0, 0));
+        assert_eq!(take("W 0 0 0 5"), (0, 0, 0));
+        (0..65_535).for_each(|_| assert_eq!(take("R 0 0 0"), (0, 5, 0)));
+        assert_eq!(take("R 0 0 0"), (0, 5, 3));
+        assert_eq!(take("R 0 0 0"), (0, 6, 1));
+        let bank = trial.session.bank.as_ref().unwrap();
+        assert_eq!(recovery_point(bank, 0), 65_537);
+        assert_eq!(trial.session.watch.wide_records_made, 1);
+        assert_eq!(trial.session.watch.wide_records_used, 1);
     }
 }

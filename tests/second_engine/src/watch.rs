@@ -1,7 +1,7 @@
 //! What an onlooker notes while the engine works: the claim and the counters need it.
 //! The engine writes these notes and never reads one.
 
-use crate::layout::{MAX_BOARDS, MAX_PAGES};
+use crate::layout::{Form, Layout, MAX_BOARDS, MAX_PAGES};
 
 /// Which checkpoint is being made.
 #[derive(Clone, Copy, PartialEq, Eq)]
@@ -111,6 +111,9 @@ pub struct Watch {
     pub fetched_from: Option<usize>,
     /// The board whose replay ended in this call.
     pub replay_ended: Option<usize>,
+    /// Records whose count has no room in the older form: made, and used in a replay.
+    pub wide_records_made: u64,
+    pub wide_records_used: u64,
 }
 
 impl Watch {
@@ -124,7 +127,19 @@ impl Watch {
             blown: None,
             fetched_from: None,
             replay_ended: None,
+            wide_records_made: 0,
+            wide_records_used: 0,
         }
+    }
+
+    /// For a bank that it hasn't seen grow, well formed in its form: as many notes as there are volatile records.
+    pub fn of<const FORM: Form>(bank: &[u8]) -> Watch {
+        let mut watch = Watch::new();
+        let layout = Layout::<FORM>::named_by(bank);
+        for board in 0..layout.boards {
+            (0..bank[layout.volatile(board)]).for_each(|_| watch.record_made(board, 0));
+        }
+        watch
     }
 
     pub fn begin_call(&mut self) {

@@ -1,24 +1,29 @@
-//! Banks that are damaged by hand, at least one for each rule. All begin as the script of the tables leaves its bank: of three boards, 0 replays,
-//! and of its four pages board 1 owns page 3.
+//! Banks that are damaged by hand, at least one for each rule, in both forms. All begin as the script of the tables leaves its bank: of three boards, 0
+//! replays, and of its four pages board 1 owns page 3. Those of the older form have leftovers behind their logs.
 
 use crate::rules::Rule;
 use second::fault::Fault;
 use second::layout::*;
 use second::line::read_line;
+use second::older;
 use second::runner::Session;
 
-pub struct Case {
+pub struct Case<const FORM: Form> {
     pub name: &'static str,
     pub rule: Rule,
     /// Lines behind the script's.
     more: &'static str,
-    damage: fn(&mut Vec<u8>, Layout),
+    damage: fn(&mut Vec<u8>, Layout<FORM>),
 }
 
 const SCRIPT: &str = include_str!("../every-part.txt");
 const BOARD_1_DOWN: &str = "K 1\n";
 
-const fn case(name: &'static str, rule: Rule, damage: fn(&mut Vec<u8>, Layout)) -> Case {
+const fn case<const FORM: Form>(
+    name: &'static str,
+    rule: Rule,
+    damage: fn(&mut Vec<u8>, Layout<FORM>),
+) -> Case<FORM> {
     let more = "";
     Case {
         name,
@@ -28,7 +33,11 @@ const fn case(name: &'static str, rule: Rule, damage: fn(&mut Vec<u8>, Layout)) 
     }
 }
 
-const fn down(name: &'static str, rule: Rule, damage: fn(&mut Vec<u8>, Layout)) -> Case {
+const fn down<const FORM: Form>(
+    name: &'static str,
+    rule: Rule,
+    damage: fn(&mut Vec<u8>, Layout<FORM>),
+) -> Case<FORM> {
     let more = BOARD_1_DOWN;
     Case {
         name,
@@ -38,106 +47,112 @@ const fn down(name: &'static str, rule: Rule, damage: fn(&mut Vec<u8>, Layout)) 
     }
 }
 
-pub const CASES: &[Case] = &[
-    case("half-a-head", Rule::Head, |bank, _| {
-        bank.truncate(HEAD.len())
-    }),
-    case("wrong-letter", Rule::Letters, |bank, _| bank[1] = b'C'),
-    case("nine-boards", Rule::Boards, |bank, _| bank[HEAD.len()] = 9),
-    case("no-pages", Rule::Pages, |bank, _| bank[HEAD.len() + 1] = 0),
-    case("a-byte-missing", Rule::Length, |bank, _| {
-        bank.truncate(bank.len() - 1)
-    }),
-    case("a-byte-too-many", Rule::Length, |bank, _| bank.push(0)),
-    case("ends-in-a-log", Rule::Length, |bank, l| {
-        bank.truncate(l.area_slot(l.area(1, 0), 5) + SLOT_COUNT)
-    }),
-    case("owner-past-the-boards", Rule::Owner, |bank, l| {
-        bank[l.owner(1)] = 3
-    }),
-    case(
-        "copy-set-past-the-boards",
-        Rule::CopiesOfBoards,
-        |bank, l| bank[l.copies(2)] |= 1 << 3,
-    ),
-    case("owner-in-copy-set", Rule::CopiesOfOthers, |bank, l| {
-        bank[l.copies(3)] |= 1 << 1
-    }),
-    case("state-3", Rule::State, |bank, l| bank[l.state(2)] = 3),
-    case("selector-2", Rule::Selector, |bank, l| {
-        bank[l.selector(0)] = 2
-    }),
-    case("volatile-count-33", Rule::Count, |bank, l| {
-        bank[l.volatile(1)] = 33
-    }),
-    case("spare-count-200", Rule::Count, |bank, l| {
-        bank[l.stored(l.area(1, 1))] = 200
-    }),
-    case("right-7", Rule::Right, |bank, l| bank[l.frame(1, 2)] = 7),
-    case("bytes-without-a-right", Rule::NoRight, |bank, l| {
-        bank[l.frame(2, 1) + 5] = 1
-    }),
-    case("fuse-0", Rule::Fuse, |bank, l| put16(bank, l.fuse(1), 0)),
-    case("33-records", Rule::Room, |bank, l| bank[l.volatile(1)] = 27),
-    case("place-of-an-up-board", Rule::NoPlace, |bank, l| {
-        bank[l.place(2)] = 1
-    }),
-    down("down-with-number", Rule::DownNumber, |bank, l| {
-        put32(bank, l.number(1), 70_000)
-    }),
-    down("down-with-since", Rule::DownSince, |bank, l| {
-        put16(bank, l.since(1), 300)
-    }),
-    down("down-with-volatile", Rule::DownVolatile, |bank, l| {
-        bank[l.volatile(1)] = 1
-    }),
-    down("down-with-right", Rule::DownFrames, |bank, l| {
-        bank[l.frame(1, 3)] = OWN
-    }),
-    down("down-with-fuse", Rule::DownFuse, |bank, l| {
-        put16(bank, l.fuse(1), 4)
-    }),
-    case("place-past-the-log", Rule::Place, |bank, l| {
-        bank[l.place(0)] = 7
-    }),
-    case(
-        "replaying-with-volatile",
-        Rule::ReplayingVolatile,
-        |bank, l| bank[l.volatile(0)] = 1,
-    ),
-    case("own-for-a-copy", Rule::UpRight, |bank, l| {
-        bank[l.frame(2, 3)] = OWN
-    }),
-    case("copy-of-a-replaying-board", Rule::NotUpCopy, |bank, l| {
-        bank[l.copies(3)] |= 1
-    }),
-    case("no-mark", Rule::Mark, |bank, l| {
-        bank[l.area_slot(l.area(2, 0), 1) + 1] = 255
-    }),
-    case("record-of-no-page", Rule::RecordPage, |bank, l| {
-        bank[l.volatile_slot(1, 1) + SLOT_PAGE] = 4
-    }),
-    case("no-zero-byte", Rule::RecordZero, |bank, l| {
-        bank[l.area_slot(l.area(0, 1), 6) + SLOT_ZERO] = 1
-    }),
-    case("shown-with-bytes", Rule::RecordBytes, |bank, l| {
-        bank[l.area_slot(l.area(1, 0), 0) + SLOT_BYTES + 15] = 9
-    }),
-];
+pub fn cases<const FORM: Form>() -> Vec<Case<FORM>> {
+    vec![
+        case("half-a-head", Rule::Head, |bank, _| {
+            bank.truncate(HEAD.len())
+        }),
+        case("wrong-letter", Rule::Letters, |bank, _| bank[1] = b'C'),
+        case("nine-boards", Rule::Boards, |bank, _| bank[HEAD.len()] = 9),
+        case("no-pages", Rule::Pages, |bank, _| bank[HEAD.len() + 1] = 0),
+        case("a-byte-missing", Rule::Length, |bank, _| {
+            bank.truncate(bank.len() - 1)
+        }),
+        case("a-byte-too-many", Rule::Length, |bank, _| bank.push(0)),
+        case("ends-in-a-log", Rule::Length, |bank, l| {
+            bank.truncate(l.area_slot(l.area(1, 0), 5) + SLOT_COUNT)
+        }),
+        case("owner-past-the-boards", Rule::Owner, |bank, l| {
+            bank[l.owner(1)] = 3
+        }),
+        case(
+            "copy-set-past-the-boards",
+            Rule::CopiesOfBoards,
+            |bank, l| bank[l.copies(2)] |= 1 << 3,
+        ),
+        case("owner-in-copy-set", Rule::CopiesOfOthers, |bank, l| {
+            bank[l.copies(3)] |= 1 << 1
+        }),
+        case("state-3", Rule::State, |bank, l| bank[l.state(2)] = 3),
+        case("selector-2", Rule::Selector, |bank, l| {
+            bank[l.selector(0)] = 2
+        }),
+        case("volatile-count-33", Rule::Count, |bank, l| {
+            bank[l.volatile(1)] = 33
+        }),
+        case("spare-count-200", Rule::Count, |bank, l| {
+            bank[l.stored(l.area(1, 1))] = 200
+        }),
+        case("right-7", Rule::Right, |bank, l| bank[l.frame(1, 2)] = 7),
+        case("bytes-without-a-right", Rule::NoRight, |bank, l| {
+            bank[l.frame(2, 1) + 5] = 1
+        }),
+        case("fuse-0", Rule::Fuse, |bank, l| put16(bank, l.fuse(1), 0)),
+        case("33-records", Rule::Room, |bank, l| bank[l.volatile(1)] = 27),
+        case("place-of-an-up-board", Rule::NoPlace, |bank, l| {
+            bank[l.place(2)] = 1
+        }),
+        down("down-with-number", Rule::DownNumber, |bank, l| {
+            put32(bank, l.number(1), 70_000)
+        }),
+        down("down-with-since", Rule::DownSince, |bank, l| {
+            l.put_count(bank, l.since(1), 300)
+        }),
+        down("down-with-volatile", Rule::DownVolatile, |bank, l| {
+            bank[l.volatile(1)] = 1
+        }),
+        down("down-with-right", Rule::DownFrames, |bank, l| {
+            bank[l.frame(1, 3)] = OWN
+        }),
+        down("down-with-fuse", Rule::DownFuse, |bank, l| {
+            put16(bank, l.fuse(1), 4)
+        }),
+        case("place-past-the-log", Rule::Place, |bank, l| {
+            bank[l.place(0)] = 7
+        }),
+        case(
+            "replaying-with-volatile",
+            Rule::ReplayingVolatile,
+            |bank, l| bank[l.volatile(0)] = 1,
+        ),
+        case("own-for-a-copy", Rule::UpRight, |bank, l| {
+            bank[l.frame(2, 3)] = OWN
+        }),
+        case("copy-of-a-replaying-board", Rule::NotUpCopy, |bank, l| {
+            bank[l.copies(3)] |= 1
+        }),
+        case("no-mark", Rule::Mark, |bank, l| {
+            bank[l.area_slot(l.area(2, 0), 1) + 1] = 255
+        }),
+        case("record-of-no-page", Rule::RecordPage, |bank, l| {
+            bank[l.volatile_slot(1, 1) + SLOT_PAGE] = 4
+        }),
+        case("no-zero-byte", Rule::RecordZero, |bank, l| {
+            bank[l.area_slot(l.area(0, 1), 6) + SLOT_ZERO] = 1
+        }),
+        case("shown-with-bytes", Rule::RecordBytes, |bank, l| {
+            bank[l.area_slot(l.area(1, 0), 0) + Layout::<FORM>::SLOT_BYTES + 15] = 9
+        }),
+    ]
+}
 
-/// The bank that the script and more lines leave.
-pub fn undamaged(more: &str) -> Vec<u8> {
+/// The bank that the script and more lines leave, in a form.
+pub fn undamaged<const FORM: Form>(more: &str) -> Vec<u8> {
     let mut session = Session::new(Fault::None);
     for line in SCRIPT.lines().chain(more.lines()) {
         session.take(read_line(line.as_bytes()));
     }
-    session.bank.expect("the script makes a bank")
+    let bank = session.bank.expect("the script makes a bank");
+    match FORM {
+        OLDER => older::narrowed(&bank, |run| run.fill(238)).expect("the counts are small"),
+        _ => bank,
+    }
 }
 
-impl Case {
+impl<const FORM: Form> Case<FORM> {
     pub fn bank(&self) -> Vec<u8> {
-        let mut bank = undamaged(self.more);
-        let layout = Layout::of(&bank);
+        let mut bank = undamaged::<FORM>(self.more);
+        let layout = Layout::named_by(&bank);
         (self.damage)(&mut bank, layout);
         bank
     }

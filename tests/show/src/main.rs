@@ -1,12 +1,10 @@
-//! The test of what `show` says of bytes that are no well-formed bank: the words for banks damaged by hand, and on random ones whether it agrees with the
-//! archive of the proved engine.
+//! The test of what `show` says of bytes that are no well-formed bank of either form: the words for banks damaged by hand, and on random ones whether it
+//! agrees with the archive of the proved engine.
 
 mod agree;
 #[path = "../../../tools/show/src/bank.rs"]
 mod bank;
 mod cases;
-#[path = "../../compare/src/damage.rs"]
-mod damage;
 #[path = "../../../tools/show/src/diagnosis.rs"]
 mod diagnosis;
 #[allow(dead_code)]
@@ -14,8 +12,6 @@ mod diagnosis;
 mod engines;
 #[path = "../../../tools/show/src/fault.rs"]
 mod fault;
-#[path = "../../compare/src/made.rs"]
-mod made;
 #[path = "../../../tools/show/src/names.rs"]
 mod names;
 #[path = "../../compare/src/place.rs"]
@@ -25,32 +21,53 @@ mod rules;
 #[path = "../../../tools/show/src/table.rs"]
 mod table;
 
-use cases::CASES;
+use cases::{cases, undamaged};
 use rules::Rule;
+use second::layout::{Form, NEWEST, OLDER};
 use std::io::{self, Write};
 use std::process::ExitCode;
 
 const USAGE: &str = "usage: check words          the words for each bank damaged by hand
-       check bank NAME      the bytes of one of them, or of the one they come from: undamaged
+       check bank NAME      the bytes of one of them, or of the one they come from: undamaged. Of the older form: old-NAME
        check agree SEED BANKS";
 
-/// The words for every case; false if one breaks another rule first, or a rule has no case.
-fn words() -> bool {
+/// What names in the older form begin with.
+const OLD: &str = "old-";
+
+/// The words for every case of a form, as `show` says them; false if one breaks another rule first, or a rule has no case.
+fn words<const FORM: Form>() -> bool {
     let mut right = true;
-    for case in CASES {
-        let found = diagnosis::fault(&case.bank()).filter(|fault| fault.rule == case.rule);
+    for case in cases::<FORM>() {
+        let bank = case.bank();
+        let found = match diagnosis::form(&bank) {
+            OLDER => diagnosis::fault::<OLDER>(&bank),
+            _ => diagnosis::fault::<NEWEST>(&bank),
+        };
+        let found = found.filter(|fault| fault.rule == case.rule);
         right &= found.is_some();
         let told = found.map_or("another rule\n".into(), |fault| fault.to_string());
-        println!("{}\n{told}", case.name);
+        let prefix = if FORM == OLDER { OLD } else { "" };
+        println!("{prefix}{}\n{told}", case.name);
     }
-    let shown = |rule: &Rule| CASES.iter().any(|case| case.rule == *rule);
+    let shown = |rule: &Rule| cases::<FORM>().iter().any(|case| case.rule == *rule);
     right && Rule::ALL.iter().all(shown)
 }
 
+/// The bytes of a case.
+fn named<const FORM: Form>(name: &str) -> Option<Vec<u8>> {
+    match name {
+        "undamaged" => Some(undamaged::<FORM>("")),
+        _ => cases::<FORM>()
+            .iter()
+            .find(|case| case.name == name)
+            .map(|case| case.bank()),
+    }
+}
+
 fn bank(name: &str) -> Option<bool> {
-    let bytes = match name {
-        "undamaged" => cases::undamaged(""),
-        _ => CASES.iter().find(|case| case.name == name)?.bank(),
+    let bytes = match name.strip_prefix(OLD) {
+        Some(name) => named::<OLDER>(name)?,
+        None => named::<NEWEST>(name)?,
     };
     Some(io::stdout().write_all(&bytes).is_ok())
 }
@@ -58,7 +75,7 @@ fn bank(name: &str) -> Option<bool> {
 /// Carries out the command; none if it isn't one.
 fn command(arguments: &[&str]) -> Option<bool> {
     match arguments {
-        ["words"] => Some(words()),
+        ["words"] => Some(words::<NEWEST>() && words::<OLDER>()),
         ["bank", name] => bank(name),
         ["agree", seed, banks] => Some(agree::agree(seed.parse().ok()?, banks.parse().ok()?)),
         _ => None,

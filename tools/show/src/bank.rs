@@ -1,11 +1,13 @@
-//! A bank's bytes as fields, each read where the second engine's layout has it (docs/FORMAT.md draws it). Bytes that are no well-formed bank are
-//! read as far as they go: what isn't whole is left out, and a value out of range is kept as it is.
+//! A bank's bytes as fields, each read where the second engine's layout of its form has it (docs/FORMAT.md draws it). Bytes that are no well-formed
+//! bank are read as far as they go: what isn't whole is left out, and a value out of range is kept as it is.
 
 use crate::names;
 use second::layout::*;
 
 pub struct Bank {
-    pub layout: Layout,
+    /// The numbers of boards and pages in the head; the bytes may end before so many.
+    pub board_count: usize,
+    pub page_count: usize,
     pub pages: Vec<Entry>,
     pub boards: Vec<Board>,
 }
@@ -24,7 +26,7 @@ pub struct Board {
     /// Stores left, if a fuse is set.
     pub fuse: Option<u16>,
     pub number: u32,
-    pub since: u16,
+    pub since: u32,
     /// Records used; 0 unless it replays.
     pub place: u8,
     pub frames: Vec<Frame>,
@@ -51,7 +53,7 @@ pub struct Frame {
 pub struct Record {
     pub kind: String,
     pub page: u8,
-    pub count: u16,
+    pub count: u32,
     pub bytes: [u8; PAGE],
 }
 
@@ -75,12 +77,12 @@ impl Area {
 }
 
 /// The bytes of a bank and the places in them.
-struct Reader<'a> {
+struct Reader<'a, const FORM: Form> {
     bank: &'a [u8],
-    layout: Layout,
+    layout: Layout<FORM>,
 }
 
-impl Reader<'_> {
+impl<const FORM: Form> Reader<'_, FORM> {
     /// Something, if the bytes go on up to the offset.
     fn reach(&self, end: usize) -> Option<()> {
         (end <= self.bank.len()).then_some(())
@@ -106,12 +108,13 @@ impl Reader<'_> {
     }
 
     fn record(&self, at: usize) -> Option<Record> {
-        self.reach(at + SLOT)?;
+        self.reach(at + Layout::<FORM>::SLOT)?;
+        let count = at + Layout::<FORM>::SLOT_COUNT;
         Some(Record {
             kind: names::kind(kind_at(self.bank, at)),
             page: self.bank[at + SLOT_PAGE],
-            count: get16(self.bank, at + SLOT_COUNT),
-            bytes: page_at(self.bank, at + SLOT_BYTES),
+            count: self.layout.get_count(self.bank, count),
+            bytes: page_at(self.bank, at + Layout::<FORM>::SLOT_BYTES),
         })
     }
 
@@ -119,7 +122,7 @@ impl Reader<'_> {
     fn log(&self, count: usize, first: usize) -> Log {
         let count = self.bank[count];
         let slots = 0..SLOTS.min(count as usize);
-        let records = slots.map_while(|slot| self.record(first + SLOT * slot));
+        let records = slots.map_while(|slot| self.record(first + Layout::<FORM>::SLOT * slot));
         Log {
             count,
             records: records.collect(),
@@ -144,7 +147,7 @@ impl Reader<'_> {
             selector: bank[layout.selector(board)],
             fuse: (fuse != NO_FUSE).then_some(fuse),
             number: get32(bank, layout.number(board)),
-            since: get16(bank, layout.since(board)),
+            since: layout.get_count(bank, layout.since(board)),
             place: bank[layout.place(board)],
             frames: (0..layout.pages).map_while(frame).collect(),
             volatile: self.log(layout.volatile(board), layout.volatile_slot(board, 0)),
@@ -156,10 +159,11 @@ impl Reader<'_> {
 }
 
 /// Reads bytes that lie as the layout says.
-pub fn read(bank: &[u8], layout: Layout) -> Bank {
+pub fn read<const FORM: Form>(bank: &[u8], layout: Layout<FORM>) -> Bank {
     let reader = Reader { bank, layout };
     Bank {
-        layout,
+        board_count: layout.boards,
+        page_count: layout.pages,
         pages: (0..layout.pages)
             .map_while(|page| reader.entry(page))
             .collect(),

@@ -1,8 +1,10 @@
-//! What is wrong with bytes that are no well-formed bank: the first rule that they break, and where. The rules are tested in the engine's order.
+//! What is wrong with bytes that are no well-formed bank: the first rule of a form that they break, and where. The rules are tested in the engine's
+//! order.
 
 use crate::fault::{Copies, Fault, Mark, Numbers, Right};
 use crate::rules::Rule;
 use second::layout::*;
+use second::older;
 use std::fmt::Display;
 use std::ops::Range;
 
@@ -14,18 +16,18 @@ const HEAD_SIZE: usize = PAGES_AT + 1;
 /// Nothing, where the rules are obeyed.
 type Found = Result<(), Box<Fault>>;
 
-struct Test<'a> {
+struct Test<'a, const FORM: Form> {
     bank: &'a [u8],
-    layout: Layout,
+    layout: Layout<FORM>,
 }
 
-impl<'a> Test<'a> {
+impl<'a, const FORM: Form> Test<'a, FORM> {
     /// The test of bytes that have a whole head.
-    fn of(bank: &'a [u8]) -> Result<Test<'a>, Box<Fault>> {
+    fn of(bank: &'a [u8]) -> Result<Test<'a, FORM>, Box<Fault>> {
         let length = bank.len();
         let headless = Test {
             bank,
-            layout: Layout {
+            layout: Layout::<FORM> {
                 boards: 0,
                 pages: 0,
             },
@@ -37,7 +39,7 @@ impl<'a> Test<'a> {
             format_args!("the end of {length} bytes"),
             format_args!("a head of {HEAD_SIZE} bytes"),
         )?;
-        let layout = Layout::of(bank);
+        let layout = Layout::named_by(bank);
         Ok(Test { bank, layout })
     }
 
@@ -78,12 +80,17 @@ impl<'a> Test<'a> {
         }
         self.sizes()?;
         let (length, right) = (self.bank.len(), self.layout.length());
+        let Layout { boards, pages } = self.layout;
+        let (newest, older) = (
+            Layout::<NEWEST> { boards, pages }.length(),
+            older::length(boards, pages),
+        );
         self.must(
             length == right,
             Rule::Length,
             length.min(right),
             format_args!("the end of {length} bytes"),
-            format_args!("the end of {right} bytes"),
+            format_args!("the end of {newest} bytes, or of {older} in the older form"),
         )
     }
 
@@ -93,7 +100,7 @@ impl<'a> Test<'a> {
     }
 
     fn entry(&self, page: usize) -> Found {
-        let Layout { boards, .. } = self.layout;
+        let boards = self.layout.boards;
         let (owner_at, at) = (self.layout.owner(page), self.layout.copies(page));
         self.within(Rule::Owner, owner_at, 0..boards)?;
         let (owner, copies) = (self.bank[owner_at] as usize, Copies(self.bank[at]));
@@ -200,7 +207,8 @@ impl<'a> Test<'a> {
         self.within(Rule::NoPlace, layout.place(board), 0..1)?;
         let (at, number) = (layout.number(board), get32(bank, layout.number(board)));
         self.must(number == 0, Rule::DownNumber, at, number, 0)?;
-        let (at, since) = (layout.since(board), get16(bank, layout.since(board)));
+        let at = layout.since(board);
+        let since = layout.get_count(bank, at);
         self.must(since == 0, Rule::DownSince, at, since, 0)?;
         self.within(Rule::DownVolatile, layout.volatile(board), 0..1)?;
         let frames = layout.frame(board, 0)..layout.frame(board, layout.pages);
@@ -244,7 +252,8 @@ impl<'a> Test<'a> {
         let may_stand = format_args!("{copy}, {own}, {shown} or {dropped}");
         self.must(known, Rule::Mark, at, Mark(kind), may_stand)?;
         if bare {
-            self.zero(Rule::RecordBytes, at + SLOT_BYTES..at + SLOT)?;
+            let bytes = at + Layout::<FORM>::SLOT_BYTES..at + Layout::<FORM>::SLOT;
+            self.zero(Rule::RecordBytes, bytes)?;
         }
         self.within(Rule::RecordPage, at + SLOT_PAGE, 0..self.layout.pages)?;
         self.within(Rule::RecordZero, at + SLOT_ZERO, 0..1)
@@ -259,13 +268,21 @@ impl<'a> Test<'a> {
     }
 }
 
-/// The first rule that the bytes break; none if they are a well-formed bank.
-pub fn fault(bank: &[u8]) -> Option<Box<Fault>> {
-    Test::of(bank).and_then(|test| test.all()).err()
+/// The form whose length the bytes have, by the numbers of boards and pages in their head. The newest if they have neither.
+pub fn form(bank: &[u8]) -> Form {
+    match layout::<OLDER>(bank) {
+        Some(layout) if layout.length() == bank.len() => OLDER,
+        _ => NEWEST,
+    }
+}
+
+/// The first rule that the bytes break; none if they are a well-formed bank of the form.
+pub fn fault<const FORM: Form>(bank: &[u8]) -> Option<Box<Fault>> {
+    Test::<FORM>::of(bank).and_then(|test| test.all()).err()
 }
 
 /// Where the fields are, if the head has numbers of boards and pages.
-pub fn layout(bank: &[u8]) -> Option<Layout> {
+pub fn layout<const FORM: Form>(bank: &[u8]) -> Option<Layout<FORM>> {
     let test = Test::of(bank).ok()?;
     test.sizes().ok()?;
     Some(test.layout)

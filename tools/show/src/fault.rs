@@ -16,8 +16,8 @@ pub struct Fault {
 }
 
 impl Fault {
-    pub fn new(
-        layout: Layout,
+    pub fn new<const FORM: Form>(
+        layout: Layout<FORM>,
         rule: Rule,
         at: usize,
         stands: impl Display,

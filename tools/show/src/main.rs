@@ -1,5 +1,5 @@
 //! Runs a script on the proved engine and prints, after its last line or a named one, the bank in tables.
-//! The bytes of a bank are printed as they are; if they are not well formed, behind the first rule that they break.
+//! The bytes of a bank are printed as they are, in either form; if they are not well formed, behind the first rule that they break.
 
 mod bank;
 mod diagnosis;
@@ -14,9 +14,9 @@ mod rules;
 mod table;
 mod words;
 
-use engines::{archive, unpacked};
+use engines::{archive, archive_convert, unpacked};
 use second::calls::Answer;
-use second::layout::HEAD;
+use second::layout::{Form, Layout, HEAD, NEWEST, OLDER};
 use second::line::{read_line, Line, Lines};
 use second::runner::length;
 use std::io::{self, Read, Write};
@@ -100,29 +100,50 @@ fn is_bank(bytes: &[u8]) -> bool {
     bytes.starts_with(&HEAD) || !bytes.iter().all(text)
 }
 
-/// Whether the engine finds the bytes to be a well-formed bank.
-fn well_formed(bytes: &mut [u8]) -> bool {
+/// Whether the engine finds the bytes to be a well-formed bank of the form.
+fn well_formed<const FORM: Form>(bytes: &mut [u8]) -> bool {
+    if FORM == OLDER {
+        let mut converted = vec![0; Layout::of(bytes).length()];
+        return unpacked(archive_convert(bytes, &mut converted)).code == 0;
+    }
     let refused_by_any_bank = Line::Cut { board: u32::MAX };
     unpacked(archive(bytes, &refused_by_any_bank)).code != 1
 }
 
 /// The tables of all that can be read.
-fn tables(bytes: &[u8]) -> String {
-    match diagnosis::layout(bytes) {
+fn tables<const FORM: Form>(bytes: &[u8]) -> String {
+    match diagnosis::layout::<FORM>(bytes) {
         Some(layout) => table::print(&bank::read(bytes, layout)),
         None => "\nNo table can be printed: where the fields are follows from the numbers of boards and pages in the head.\n".into(),
     }
 }
 
-fn show_bytes(bytes: &mut [u8]) -> Shown {
-    let well_formed = well_formed(bytes);
-    let title = match diagnosis::fault(bytes) {
-        _ if well_formed => "The bytes of a bank\n".into(),
-        Some(fault) => format!("These bytes are no well-formed bank\n{fault}"),
+/// What the length says of the form; nothing if the bytes are as long as a bank of the newest.
+fn note<const FORM: Form>(bytes: &[u8], well_formed: bool) -> &'static str {
+    match diagnosis::layout::<FORM>(bytes) {
+        Some(_) if FORM == OLDER && well_formed => {
+            "It is in document 01's older form: convert it before any other call\n"
+        }
+        Some(_) if FORM == OLDER => {
+            "They have the length of document 01's older form, so its rules are tested\n"
+        }
+        Some(layout) if layout.length() != bytes.len() => {
+            "They have the length of neither form, so they are read as the newest\n"
+        }
+        _ => "",
+    }
+}
+
+fn show_bytes<const FORM: Form>(bytes: &mut [u8]) -> Shown {
+    let well_formed = well_formed::<FORM>(bytes);
+    let note = note::<FORM>(bytes, well_formed);
+    let title = match diagnosis::fault::<FORM>(bytes) {
+        _ if well_formed => format!("The bytes of a bank\n{note}"),
+        Some(fault) => format!("These bytes are no well-formed bank\n{note}{fault}"),
         None => "The engine finds no well-formed bank in these bytes, and this program no broken rule: one of the two is wrong\n".into(),
     };
     Shown {
-        text: title + &tables(bytes),
+        text: title + &tables::<FORM>(bytes),
         well_formed,
     }
 }
@@ -138,7 +159,10 @@ fn show_script(script: &[u8], last: Option<u32>) -> Result<Shown, String> {
         return Err(format!("there is no bank after line {lines}, {text} ({answer}): line 1 must make one, as N 2 1 does"));
     };
     Ok(Shown {
-        text: format!("After line {lines}, {text}: {answer}\n{}", tables(&bank)),
+        text: format!(
+            "After line {lines}, {text}: {answer}\n{}",
+            tables::<NEWEST>(&bank)
+        ),
         well_formed: true,
     })
 }
@@ -147,7 +171,10 @@ fn show(file: &str, last: Option<u32>) -> Result<Shown, String> {
     let mut bytes = input(file)?;
     match (is_bank(&bytes), last) {
         (true, Some(_)) => Err("these are the bytes of a bank, and they have no lines".into()),
-        (true, None) => Ok(show_bytes(&mut bytes)),
+        (true, None) => Ok(match diagnosis::form(&bytes) {
+            OLDER => show_bytes::<OLDER>(&mut bytes),
+            _ => show_bytes::<NEWEST>(&mut bytes),
+        }),
         (false, _) => show_script(&bytes, last),
     }
 }

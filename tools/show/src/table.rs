@@ -70,7 +70,7 @@ fn directory(out: &mut String, bank: &Bank) {
     let rows = bank.pages.iter().enumerate().map(|(page, entry)| {
         let copies: Row = entry.copies.iter().map(usize::to_string).collect();
         let copies = (!copies.is_empty()).then(|| copies.join(" "));
-        let owner = doubted(entry.owner, (entry.owner as usize) < bank.layout.boards);
+        let owner = doubted(entry.owner, (entry.owner as usize) < bank.board_count);
         [page.to_string(), owner, or_none(copies)]
     });
     *out += "\nDirectory\n";
@@ -250,7 +250,7 @@ pub fn print(bank: &Bank) -> String {
         if board.selected().is_none() {
             areas(&mut out, board);
         }
-        log(&mut out, board, bank.layout.pages);
+        log(&mut out, board, bank.page_count);
     }
     out
 }

@@ -1,6 +1,6 @@
 -- The worked cases and histories, computed on the bank. Nothing here rests on a law, so a wrong definition is refused by a value that differs. Assumes nothing.
 use mathlib.Core.Path.{_≡_, refl}
-use mathlib.Core.Bool.{true, false}
+use mathlib.Core.Bool.{true, false, _&&_}
 use mathlib.Core.List.{[], _∷_}
 use Rattle.model.specs.Definitions.Parts.{every}
 use Rattle.model.specs.Definitions.Bank.{fresh}
@@ -14,6 +14,7 @@ use Rattle.model.specs.Cases.Evaluate.{evaluate}
 use Rattle.model.specs.Cases.Digest.{taken, digestFrom, digest}
 use Rattle.model.specs.Cases.Table.{agrees, caseA, caseBCut, caseB, boardOutOfRange, restartOfUpBoard, replayDiffers, ownerNotUp, alternating}
 use Rattle.model.specs.Cases.Table.{alternatingWrites, fuseBlows, lastOffset, zeroFuse, scripts, lengths}
+use Rattle.model.specs.Cases.Conversions.{oldBank, newBank, bothLengths, converts, reads}
 use Rattle.model.specs.Cases.Worked.{callsOf, fuseAtReplayEnd, everyEntry, fuseInFlush, fuseAtSelector, givenAfterReplay, takerCut, refusedInReplay}
 use Rattle.model.specs.Cases.Worked.{histories, otherByte, otherByteRepeated, twoDue}
 use Rattle.model.specs.Cases.Running.{leavesOn, passesOn, passesFresh, premisesOn, claimsOn, holdsOn, grantsIn}
@@ -24,13 +25,18 @@ unfoldable pub tables : Unit {0}
 unfolding noHistory ofBoard discard doneEvent eventOf entryCount repeats withNumberOf bytesFrom withEntry fed zeroMemory byteIn written accessOf liveBank
     giverIn gaveIn grantedAfter nextEntry sameBytes sameAccess doneOrLost repeatsEntry premiseFor oneMemoryTest gaveEntry repeatFor grantsFor historyAfter
     grantsAfter leavesOn passesOn passesFresh premisesOn claimsOn holdsOn grantsIn taken digestFrom digest agrees caseA caseBCut caseB boardOutOfRange
-    restartOfUpBoard replayDiffers ownerNotUp alternating alternatingWrites fuseBlows lastOffset zeroFuse scripts lengths callsOf fuseAtReplayEnd everyEntry
+    restartOfUpBoard replayDiffers ownerNotUp alternating alternatingWrites fuseBlows lastOffset zeroFuse scripts lengths oldBank newBank bothLengths converts
+    reads callsOf fuseAtReplayEnd everyEntry
     fuseInFlush fuseAtSelector givenAfterReplay takerCut refusedInReplay histories otherByte otherByteRepeated twoDue
 tables = tt
 
 pub lengths-hold : lengths ≡ true
 unfolding evaluate tables
 lengths-hold = refl
+
+pub conversions-hold : (bothLengths && (converts && reads)) ≡ true
+unfolding evaluate tables
+conversions-hold = refl
 
 pub scripts-sized : every (λ c. sizesAllowed (c .boards) (c .pages)) scripts ≡ true
 unfolding evaluate tables

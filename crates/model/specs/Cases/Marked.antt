@@ -1,5 +1,5 @@
--- The definitions give every marked case of document 01 and a case of F-1: one theorem, through bytes. It is computed on the bank; the laws of the codec and of
--- well-formedness say that the bytes answer the same. Assumes nothing.
+-- The definitions give every marked case of document 01, with the lengths of F-2, and a case of F-1: one theorem, through bytes. It is computed on the bank;
+-- the laws of the codec and of well-formedness say that the bytes answer the same. Assumes nothing.
 use mathlib.Core.Path.{_≡_, _∙_}
 use mathlib.Core.Bool.{true}
 use Rattle.model.specs.Laws.Logic.{and-both}

@@ -1,5 +1,5 @@
--- Document 01's marked cases (*), and a case of document 02's F-1, as a table: scripts, each call with the answer that the documents give, run on bytes.
--- The theorem is in Marked. Assumes nothing.
+-- Document 01's marked cases (*), with the lengths of document 02's F-2, and a case of F-1, as a table: scripts, each call with the answer that the documents
+-- give, run on bytes. The theorem is in Marked; Conversions has F-2's own case. Assumes nothing.
 use Prim.Native.Nat.{ℕ, zero, suc}
 use mathlib.Core.Bool.{Bool, true, _&&_}
 use mathlib.Core.List.{List, [], _∷_}
@@ -70,7 +70,7 @@ caseA =
           ∷ record { asks = Accessing 0 (Read 0 3); prints = (0, 9, 0, 1) }
           ∷ record { asks = Accessing 0 (Read 1 0); prints = (2, 0, 0, 0) }
           ∷ [];
-      left = Digest 0xbbf31ac21aebeda4;
+      left = Digest 0xc6aabbbaf5acca7c;
     }
 
 -- case B up to its cut and restart
@@ -98,7 +98,7 @@ caseB =
           ∷ record { asks = Accessing 0 (Write 0 1 6); prints = (0, 0, 0, 4) }
           ∷ record { asks = Accessing 0 (Read 1 0); prints = (0, 9, 0, 2) }
           ∷ []);
-      left = Digest 0xb292acb941f01994;
+      left = Digest 0xba0645a8314849ec;
     }
 
 -- code 2: "N 2 1, R 2 0 0"
@@ -200,11 +200,11 @@ scripts =
     caseA ∷ caseB ∷ boardOutOfRange ∷ restartOfUpBoard ∷ replayDiffers ∷ ownerNotUp ∷ alternatingWrites ∷ fuseBlows ∷ lastOffset
     ∷ zeroFuse ∷ []
 
--- "length 2,191 for N 1, P 1 accepted, 2,190 code 1"; code 1: "3 bytes"
+-- "N 1, P 1: 2,385" (document 02, F-2) accepted, 2,384 code 1; code 1: "3 bytes"
 unfoldable pub lengths : Bool
 lengths =
-    agrees (0, 0, 0, 0) (make 1 1 (zeros 2191) .outcome)
-    && (agrees (1, 0, 0, 0) (make 1 1 (zeros 2190) .outcome) && agrees (1, 0, 0, 0) (call (Accessing 0 (Read 0 0)) (zeros 3) .outcome))
+    agrees (0, 0, 0, 0) (make 1 1 (zeros 2385) .outcome)
+    && (agrees (1, 0, 0, 0) (make 1 1 (zeros 2384) .outcome) && agrees (1, 0, 0, 0) (call (Accessing 0 (Read 0 0)) (zeros 3) .outcome))
 
 unfoldable pub table : Bool
 table = lengths && every passes scripts

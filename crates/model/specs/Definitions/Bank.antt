@@ -156,6 +156,24 @@ onSpare f x = withStable (withSpareArea (f (x .stable .spare)) (x .stable)) x
 unfoldable pub onFrames : (List Frame → List Frame) → Working → Working
 onFrames f w = withFrames (f (w .frames)) w
 
+-- ---- what stands in the slots past a count
+
+-- a log with these bytes in the slots behind its records
+unfoldable pub logOver : List ℕ → Log → Log
+logOver l x = record { records = x .records; rest = l }
+
+-- an area with these bytes in the slots past its count
+unfoldable pub areaOver : List ℕ → Area → Area
+areaOver l x = withAreaLog (logOver l (x .log)) x
+
+-- a board with these bytes in the slots past its three counts
+unfoldable pub boardOver : (volatile selected spare : List ℕ) → Board → Board
+boardOver volatile selected spare x =
+    withWorking (withLog (logOver volatile (x .working .log)) (x .working))
+    (withStable
+    (withSelectedArea (areaOver selected (x .stable .selected)) (withSpareArea (areaOver spare (x .stable .spare)) (x .stable)))
+    x)
+
 -- ---- a fresh bank
 
 -- "page p owned by board p mod N"

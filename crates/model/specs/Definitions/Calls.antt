@@ -1,5 +1,5 @@
--- Document 01's calls, with document 02's F-1, for any numbers: first on a bank, then on bytes of any length and content. Each refusal is in the table's
--- order, and the list of tests shows that order. Assumes nothing.
+-- Document 01's calls, with document 02's F-1 and F-2, for any numbers: first on a bank, then on bytes of any length and content.
+-- Each refusal is in the table's order, and the list of tests shows that order. Assumes nothing.
 use Prim.Native.Nat.{ℕ, _+_}
 use mathlib.Core.Bool.{Bool, true, false, _&&_, _||_, not}
 use mathlib.Core.Option.{Option, none, some}
@@ -130,7 +130,7 @@ accessInRange b (Read p o) k = ltb b (length (k .boards)) && (ltb p (length (k .
 accessInRange b (Write p o v) k =
     ltb b (length (k .boards)) && (ltb p (length (k .directory)) && (ltb o pageSize && ltb v byteValues))
 
--- "access with since 65,535 or number 4,294,967,295"; the largest since is an argument: of all that a call does it is tested here alone
+-- "since or access number at 4,294,967,295" (document 02, F-2); the largest since is an argument: of all that a call does it is tested here alone
 unfoldable pub countersFull : (largest : ℕ) → Board → Bool
 countersFull largest x = eqb (x .working .since) largest || eqb (x .working .number) lastNumber
 
@@ -149,7 +149,7 @@ accessWithin largest b a k =
     unless (refusalsWithin largest b a k) (start k)
     (elim (isReplaying (boardAt k b .state)) [ true ↦ replaying b a k | false ↦ live b a (start k) ])
 
--- the same with document 01's largest since
+-- the same with today's largest since
 abbrev pub accessRefusals : ℕ → Access → Bank → List (Bool × Answer)
 accessRefusals b a k = refusalsWithin lastSince b a k
 
@@ -193,7 +193,7 @@ callWithin largest (Checkpointing b) k = checkpointBank b k
 callWithin largest (Fusing b n) k = fuseBank b n k
 callWithin largest (Restarting b) k = restartBank b k
 
--- with document 01's
+-- with today's
 unfoldable pub callBank : Call → Bank → Result
 unfolding callWithin
 callBank c k = callWithin lastSince c k

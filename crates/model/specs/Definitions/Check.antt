@@ -1,5 +1,6 @@
 -- Document 01, "Well formed means", as a test of bytes, in the order in which the engine makes it: the head, the directory, every block but its
--- records, then the records. Laws/WellFormedTest proves that exactly the bytes of a well-formed bank pass. Assumes nothing.
+-- records, then the records; in any form, which what depends on one takes first. Laws/WellFormedTest proves that exactly the bytes of a well-formed bank
+-- pass. Assumes nothing.
 use Prim.Native.Nat.{ℕ, _+_, _*_, _^_}
 use mathlib.Core.Bool.{Bool, true, false, _&&_, _||_, not}
 use mathlib.Core.List.{List}
@@ -12,10 +13,11 @@ use Rattle.types.specs.declared.State.{State}
 use Rattle.types.specs.declared.State.the-variants.{Up, Down, Replaying}
 use Rattle.model.specs.Definitions.Parts.{part, byteAt, every, everyBelow, member}
 use Rattle.model.specs.Definitions.Layout.{byteValues, letterG, letterC, letterO, letterS, letterH, letterD, letterR, rightAt, frameBytesAt, mark0At}
-use Rattle.model.specs.Definitions.Layout.{mark1At, mostBoards, mostPages, pageSize, slotCount, noFuse, fuseSize, numberSize, sinceSize, headMark0}
-use Rattle.model.specs.Definitions.Layout.{headMark1, headMark0At, headMark1At, headSize, boardsAt, pagesAt, entrySize, frameSize, slotSize, slotPageAt}
-use Rattle.model.specs.Definitions.Layout.{slotZeroAt, slotBytesAt, areaFramesAt, areaCountAt, areaSlotsAt, areaAt, stateAt, selectorAt, fuseAt, numberAt}
-use Rattle.model.specs.Definitions.Layout.{sinceAt, placeAt, framesAt, slotsAt, volatileCountAt, blocksAt, blockSize, bankSize}
+use Rattle.model.specs.Definitions.Layout.{mark1At, mostBoards, mostPages, pageSize, slotCount, noFuse, fuseSize, numberSize, headMark0, headMark1}
+use Rattle.model.specs.Definitions.Layout.{headMark0At, headMark1At, headSize, boardsAt, pagesAt, entrySize, frameSize, slotPageAt, slotZeroAt}
+use Rattle.model.specs.Definitions.Layout.{areaFramesAt, areaCountAt, areaSlotsAt, stateAt, selectorAt, fuseAt, numberAt, sinceAt, blocksAt, today}
+use Rattle.model.specs.Definitions.Layout.{slotBytesAtIn, slotSizeIn, placeAtIn, volatileCountAtIn, framesAtIn, slotsAtIn, areaAtIn, blockSizeIn}
+use Rattle.model.specs.Definitions.Layout.{bankSizeIn, Form}
 use Rattle.model.specs.Definitions.Bank.{Entry}
 use Rattle.model.specs.Definitions.Codec.{decodeEntry, rightByte, decodeFrame, stateByte, stateOf, selectorByte}
 use Rattle.model.specs.Definitions.WellFormed.{rightIn}
@@ -23,19 +25,11 @@ use Rattle.model.specs.Definitions.WellFormed.{rightIn}
 unfoldable pub isZero : List ℕ → Bool
 isZero l = every (λ b. eqb b 0) l
 
--- ---- "that length", and the head
+-- ---- the sizes
 
 -- "A bank has N boards (1 to 8) and P pages (1 to 16)"
 abbrev pub sizesAllowed : ℕ → ℕ → Bool
 sizesAllowed boards pages = ltb 0 boards && (leb boards mostBoards && (ltb 0 pages && leb pages mostPages))
-
-unfoldable pub headValid : List ℕ → Bool
-headValid s =
-    let boards : ℕ = byteAt s boardsAt in
-    let pages : ℕ = byteAt s pagesAt in
-    eqb (byteAt s headMark0At) headMark0
-    && (eqb (byteAt s headMark1At) headMark1
-    && (sizesAllowed boards pages && eqb (length s) (bankSize boards pages)))
 
 -- ---- the directory
 
@@ -46,16 +40,7 @@ entryValid boards e = ltb (e .owner) boards && (ltb (e .copies) (2 ^ boards) && 
 unfoldable pub directoryValid : ℕ → ℕ → List ℕ → Bool
 directoryValid boards pages l = everyBelow pages (λ p. entryValid boards (decodeEntry (part l (p * entrySize) entrySize)))
 
--- ---- a block: "every field in range" and "every frame as above". A number in whole bytes is in range by itself.
-
--- how many records area 0 or 1 holds
-unfoldable pub areaCount : ℕ → ℕ → List ℕ → ℕ
-areaCount pages area l = byteAt l (areaAt pages area + areaCountAt)
-
--- "stored at most 32 in either", and at most as many volatile ones
-unfoldable pub countsValid : ℕ → List ℕ → Bool
-countsValid pages l =
-    leb (byteAt l volatileCountAt) slotCount && (leb (areaCount pages 0 l) slotCount && leb (areaCount pages 1 l) slotCount)
+-- ---- a frame, and the frames of all pages
 
 -- "a right (0 none, 1 copy, 2 own) and 16 page bytes, all zero under right 0"
 unfoldable pub frameValid : List ℕ → Bool
@@ -66,42 +51,6 @@ frameValid l =
 unfoldable pub framesValid : ℕ → ℕ → List ℕ → Bool
 framesValid pages a l = everyBelow pages (λ p. frameValid (part l (a + p * frameSize) frameSize))
 
--- the working frames, and those of both areas
-unfoldable pub allFramesValid : ℕ → List ℕ → Bool
-allFramesValid pages l =
-    framesValid pages framesAt l && (framesValid pages (areaAt pages 0 + areaFramesAt) l && framesValid pages (areaAt pages 1 + areaFramesAt) l)
-
-unfoldable pub fieldsValid : ℕ → List ℕ → Bool
-fieldsValid pages l =
-    leb (byteAt l stateAt) (stateByte Replaying)
-    && (leb (byteAt l selectorAt) (selectorByte true) && (countsValid pages l && allFramesValid pages l))
-
--- ---- a block: what a board says of itself
-
--- how many records the selected area holds
-unfoldable pub selectedCount : ℕ → List ℕ → ℕ
-selectedCount pages l = areaCount pages (selectorByte (eqb (byteAt l selectorAt) (selectorByte true))) l
-
--- "access number, since, volatile count and frames zero and no fuse"
-unfoldable pub isBlank : ℕ → List ℕ → Bool
-isBlank pages l =
-    eqb (numberOf (part l numberAt numberSize)) 0
-    && (eqb (numberOf (part l sinceAt sinceSize)) 0
-    && (eqb (byteAt l volatileCountAt) 0
-    && (isZero (part l framesAt (pages * frameSize)) && eqb (numberOf (part l fuseAt fuseSize)) noFuse)))
-
--- "place 0 unless replaying, and then below the selected stored count; a replaying board has no volatile record; a dark board has .."
-unfoldable pub stateValid : State → ℕ → List ℕ → Bool
-stateValid Up pages l = eqb (byteAt l placeAt) 0
-stateValid Down pages l = eqb (byteAt l placeAt) 0 && isBlank pages l
-stateValid Replaying pages l = ltb (byteAt l placeAt) (selectedCount pages l) && eqb (byteAt l volatileCountAt) 0
-
--- "fuse not 0", "stored plus volatile at most 32 for the selected area", and what the state asks
-unfoldable pub boardValid : ℕ → List ℕ → Bool
-boardValid pages l =
-    not (eqb (numberOf (part l fuseAt fuseSize)) 0)
-    && (leb (selectedCount pages l + byteAt l volatileCountAt) slotCount && stateValid (stateOf (byteAt l stateAt)) pages l)
-
 -- ---- a block: what a board and the directory say of each other
 
 unfoldable pub sameRight : Right → Right → Bool
@@ -110,21 +59,6 @@ sameRight r q = eqb (rightByte r) (rightByte q)
 -- "an up board's rights agree with the directory"; "a board not up is in no copy-set": of one page
 unfoldable pub pageAgrees : Bool → Right → Entry → ℕ → Bool
 pageAgrees up r e b = elim up [ true ↦ sameRight r (rightIn e b) | false ↦ not (member b (e .copies)) ]
-
-unfoldable pub pageAgreesAt : List ℕ → List ℕ → ℕ → ℕ → Bool
-pageAgreesAt directory l b p =
-    pageAgrees
-    (eqb (byteAt l stateAt) (stateByte Up))
-    (decodeFrame (part l (framesAt + p * frameSize) frameSize) .right)
-    (decodeEntry (part directory (p * entrySize) entrySize))
-    b
-
-unfoldable pub pagesAgree : ℕ → List ℕ → List ℕ → ℕ → Bool
-pagesAgree pages directory l b = everyBelow pages (pageAgreesAt directory l b)
-
--- all of a block but its records
-unfoldable pub blockFits : ℕ → List ℕ → List ℕ → ℕ → Bool
-blockFits pages directory l b = fieldsValid pages l && (boardValid pages l && pagesAgree pages directory l b)
 
 -- ---- "records below a count valid"
 
@@ -139,50 +73,131 @@ bareMark m0 m1 = (eqb m0 letterS && eqb m1 letterH) || (eqb m0 letterD && eqb m1
 unfoldable pub markFits : ℕ → ℕ → Bool → Bool
 markFits m0 m1 zero = gotMark m0 m1 || (zero && bareMark m0 m1)
 
--- "a two-byte mark, page, a zero byte, count u16, 16 bytes"
-unfoldable pub slotValid : ℕ → List ℕ → Bool
-slotValid pages l =
-    markFits (byteAt l mark0At) (byteAt l mark1At) (isZero (part l slotBytesAt pageSize))
-    && (ltb (byteAt l slotPageAt) pages && eqb (byteAt l slotZeroAt) 0)
-
--- the slot of an index in the log that starts at a place; "Slots at or past a count may hold anything."
-unfoldable pub recordValid : ℕ → ℕ → ℕ → List ℕ → ℕ → Bool
-recordValid pages a count l i = elim (ltb i count) [ true ↦ slotValid pages (part l (a + i * slotSize) slotSize) | false ↦ true ]
-
-unfoldable pub storedValid : ℕ → ℕ → List ℕ → ℕ → Bool
-storedValid pages area l i = recordValid pages (areaAt pages area + areaSlotsAt pages) (areaCount pages area l) l i
-
--- the slots of an index in all three logs
-unfoldable pub slotsValid : ℕ → List ℕ → ℕ → Bool
-slotsValid pages l i =
-    recordValid pages (slotsAt pages) (byteAt l volatileCountAt) l i && (storedValid pages 0 l i && storedValid pages 1 l i)
-
-unfoldable pub recordsValid : ℕ → List ℕ → Bool
-recordsValid pages l = everyBelow slotCount (slotsValid pages l)
-
--- ---- the whole
-
 unfoldable pub directoryOf : ℕ → List ℕ → List ℕ
 directoryOf pages s = part s headSize (pages * entrySize)
 
--- "A board's block is handed on as its own part of the buffer."
-unfoldable pub blockOf : ℕ → List ℕ → ℕ → List ℕ
-blockOf pages s b = part s (blocksAt pages + b * blockSize pages) (blockSize pages)
+-- ==== what depends on a form
 
-unfoldable pub blocksFit : ℕ → ℕ → List ℕ → Bool
-blocksFit boards pages s = everyBelow boards (λ b. blockFits pages (directoryOf pages s) (blockOf pages s b) b)
+module _ (form : Form) where
+  -- ---- "that length", and the head
 
--- "The search for a malformed slot, board by board and slot by slot, ends at the first": its place shows in no answer.
-unfoldable pub logsValid : ℕ → ℕ → List ℕ → Bool
-logsValid boards pages s = everyBelow boards (λ b. recordsValid pages (blockOf pages s b))
+  unfoldable pub headValid : List ℕ → Bool
+  headValid s =
+      let boards : ℕ = byteAt s boardsAt in
+      let pages : ℕ = byteAt s pagesAt in
+      eqb (byteAt s headMark0At) headMark0
+      && (eqb (byteAt s headMark1At) headMark1
+      && (sizesAllowed boards pages && eqb (length s) (bankSizeIn form boards pages)))
 
-unfoldable pub wellFormed : List ℕ → Bool
-wellFormed s =
-    let boards : ℕ = byteAt s boardsAt in
-    let pages : ℕ = byteAt s pagesAt in
-    elim (headValid s) [
-      | false ↦ false
-      | true ↦
-          every (λ b. ltb b byteValues) s
-          && (directoryValid boards pages (directoryOf pages s) && (blocksFit boards pages s && logsValid boards pages s))
-    ]
+  -- ---- a block: "every field in range" and "every frame as above". A number in whole bytes is in range by itself.
+
+  -- how many records area 0 or 1 holds
+  unfoldable pub areaCount : ℕ → ℕ → List ℕ → ℕ
+  areaCount pages area l = byteAt l (areaAtIn form pages area + areaCountAt)
+
+  -- "stored at most 32 in either", and at most as many volatile ones
+  unfoldable pub countsValid : ℕ → List ℕ → Bool
+  countsValid pages l =
+      leb (byteAt l (volatileCountAtIn form)) slotCount && (leb (areaCount pages 0 l) slotCount && leb (areaCount pages 1 l) slotCount)
+
+  -- the working frames, and those of both areas
+  unfoldable pub allFramesValid : ℕ → List ℕ → Bool
+  allFramesValid pages l =
+      framesValid pages (framesAtIn form) l
+      && (framesValid pages (areaAtIn form pages 0 + areaFramesAt) l && framesValid pages (areaAtIn form pages 1 + areaFramesAt) l)
+
+  unfoldable pub fieldsValid : ℕ → List ℕ → Bool
+  fieldsValid pages l =
+      leb (byteAt l stateAt) (stateByte Replaying)
+      && (leb (byteAt l selectorAt) (selectorByte true) && (countsValid pages l && allFramesValid pages l))
+
+  -- ---- a block: what a board says of itself
+
+  -- how many records the selected area holds
+  unfoldable pub selectedCount : ℕ → List ℕ → ℕ
+  selectedCount pages l = areaCount pages (selectorByte (eqb (byteAt l selectorAt) (selectorByte true))) l
+
+  -- "access number, since, volatile count and frames zero and no fuse"
+  unfoldable pub isBlank : ℕ → List ℕ → Bool
+  isBlank pages l =
+      eqb (numberOf (part l numberAt numberSize)) 0
+      && (eqb (numberOf (part l sinceAt (form .sinceWidth))) 0
+      && (eqb (byteAt l (volatileCountAtIn form)) 0
+      && (isZero (part l (framesAtIn form) (pages * frameSize)) && eqb (numberOf (part l fuseAt fuseSize)) noFuse)))
+
+  -- "place 0 unless replaying, and then below the selected stored count; a replaying board has no volatile record; a dark board has .."
+  unfoldable pub stateValid : State → ℕ → List ℕ → Bool
+  stateValid Up pages l = eqb (byteAt l (placeAtIn form)) 0
+  stateValid Down pages l = eqb (byteAt l (placeAtIn form)) 0 && isBlank pages l
+  stateValid Replaying pages l = ltb (byteAt l (placeAtIn form)) (selectedCount pages l) && eqb (byteAt l (volatileCountAtIn form)) 0
+
+  -- "fuse not 0", "stored plus volatile at most 32 for the selected area", and what the state asks
+  unfoldable pub boardValid : ℕ → List ℕ → Bool
+  boardValid pages l =
+      not (eqb (numberOf (part l fuseAt fuseSize)) 0)
+      && (leb (selectedCount pages l + byteAt l (volatileCountAtIn form)) slotCount && stateValid (stateOf (byteAt l stateAt)) pages l)
+
+  unfoldable pub pageAgreesAt : List ℕ → List ℕ → ℕ → ℕ → Bool
+  pageAgreesAt directory l b p =
+      pageAgrees
+      (eqb (byteAt l stateAt) (stateByte Up))
+      (decodeFrame (part l (framesAtIn form + p * frameSize) frameSize) .right)
+      (decodeEntry (part directory (p * entrySize) entrySize))
+      b
+
+  unfoldable pub pagesAgree : ℕ → List ℕ → List ℕ → ℕ → Bool
+  pagesAgree pages directory l b = everyBelow pages (pageAgreesAt directory l b)
+
+  -- all of a block but its records
+  unfoldable pub blockFits : ℕ → List ℕ → List ℕ → ℕ → Bool
+  blockFits pages directory l b = fieldsValid pages l && (boardValid pages l && pagesAgree pages directory l b)
+
+  -- "a two-byte mark, page, a zero byte, count .., 16 bytes"
+  unfoldable pub slotValid : ℕ → List ℕ → Bool
+  slotValid pages l =
+      markFits (byteAt l mark0At) (byteAt l mark1At) (isZero (part l (slotBytesAtIn form) pageSize))
+      && (ltb (byteAt l slotPageAt) pages && eqb (byteAt l slotZeroAt) 0)
+
+  -- the slot of an index in the log that starts at a place; "Slots at or past a count may hold anything."
+  unfoldable pub recordValid : ℕ → ℕ → ℕ → List ℕ → ℕ → Bool
+  recordValid pages a count l i = elim (ltb i count) [ true ↦ slotValid pages (part l (a + i * slotSizeIn form) (slotSizeIn form)) | false ↦ true ]
+
+  unfoldable pub storedValid : ℕ → ℕ → List ℕ → ℕ → Bool
+  storedValid pages area l i = recordValid pages (areaAtIn form pages area + areaSlotsAt pages) (areaCount pages area l) l i
+
+  -- the slots of an index in all three logs
+  unfoldable pub slotsValid : ℕ → List ℕ → ℕ → Bool
+  slotsValid pages l i =
+      recordValid pages (slotsAtIn form pages) (byteAt l (volatileCountAtIn form)) l i && (storedValid pages 0 l i && storedValid pages 1 l i)
+
+  unfoldable pub recordsValid : ℕ → List ℕ → Bool
+  recordsValid pages l = everyBelow slotCount (slotsValid pages l)
+
+  -- ---- the whole
+
+  -- "A board's block is handed on as its own part of the buffer."
+  unfoldable pub blockOfIn : ℕ → List ℕ → ℕ → List ℕ
+  blockOfIn pages s b = part s (blocksAt pages + b * blockSizeIn form pages) (blockSizeIn form pages)
+
+  unfoldable pub blocksFit : ℕ → ℕ → List ℕ → Bool
+  blocksFit boards pages s = everyBelow boards (λ b. blockFits pages (directoryOf pages s) (blockOfIn pages s b) b)
+
+  -- "The search for a malformed slot, board by board and slot by slot, ends at the first": its place shows in no answer.
+  unfoldable pub logsValid : ℕ → ℕ → List ℕ → Bool
+  logsValid boards pages s = everyBelow boards (λ b. recordsValid pages (blockOfIn pages s b))
+
+  unfoldable pub wellFormedIn : List ℕ → Bool
+  wellFormedIn s =
+      let boards : ℕ = byteAt s boardsAt in
+      let pages : ℕ = byteAt s pagesAt in
+      elim (headValid s) [
+        | false ↦ false
+        | true ↦
+            every (λ b. ltb b byteValues) s
+            && (directoryValid boards pages (directoryOf pages s) && (blocksFit boards pages s && logsValid boards pages s))
+      ]
+
+-- ==== the same of today's form
+
+abbrev pub wellFormed : List ℕ → Bool
+wellFormed = wellFormedIn today

@@ -1,5 +1,5 @@
--- Document 01, "Bytes of a bank": what each part looks like as bytes, and what bytes are read as. Each reader takes exactly its part.
--- Readers are total; bytes that no writer makes are told apart by WellFormed. Assumes nothing.
+-- Document 01, "Bytes of a bank", with document 02's F-2: what each part looks like as bytes, and what bytes are read as, in any form and in today's.
+-- Each reader takes exactly its part. Readers are total; bytes that no writer makes are told apart by WellFormed. Assumes nothing.
 use Prim.Native.Nat.{ℕ, zero, suc, _*_}
 use mathlib.Core.Bool.{Bool, true, false}
 use mathlib.Core.List.{List, [], _∷_, _++_}
@@ -16,11 +16,11 @@ use Rattle.types.specs.declared.Record.{Record}
 use Rattle.types.specs.declared.State.{State}
 use Rattle.types.specs.declared.State.the-variants.{Up, Down, Replaying}
 use Rattle.model.specs.Definitions.Parts.{part, byteAt, encodeAll, decodeAll}
-use Rattle.model.specs.Definitions.Layout.{pageSize, entrySize, frameSize, slotSize, slotsSize, ownerAt, copiesAt, rightAt, frameBytesAt, mark0At}
-use Rattle.model.specs.Definitions.Layout.{mark1At, slotPageAt, recordCountAt, slotBytesAt, letterG, letterC, letterO, letterS, letterH, letterD, letterR}
-use Rattle.model.specs.Definitions.Layout.{fuseSize, numberSize, sinceSize, stateAt, selectorAt, fuseAt, numberAt, sinceAt, placeAt, volatileCountAt}
-use Rattle.model.specs.Definitions.Layout.{framesAt, slotsAt, areaAt, areaSize, areaNumberAt, areaCountAt, areaFramesAt, areaSlotsAt, blockSize}
-use Rattle.model.specs.Definitions.Layout.{headMark0, headMark1, headSize, boardsAt, pagesAt, blocksAt}
+use Rattle.model.specs.Definitions.Layout.{pageSize, entrySize, frameSize, slotSizeIn, slotsSizeIn, ownerAt, copiesAt, rightAt, frameBytesAt, mark0At}
+use Rattle.model.specs.Definitions.Layout.{mark1At, slotPageAt, slotBytesAtIn, letterG, letterC, letterO, letterS, letterH, letterD, letterR, fuseSize}
+use Rattle.model.specs.Definitions.Layout.{numberSize, Form, today, stateAt, selectorAt, fuseAt, numberAt, sinceAt, placeAtIn, volatileCountAtIn}
+use Rattle.model.specs.Definitions.Layout.{framesAtIn, slotsAtIn, areaAtIn, areaSizeIn, areaNumberAt, areaCountAt, areaFramesAt, areaSlotsAt}
+use Rattle.model.specs.Definitions.Layout.{blockSizeIn, headMark0, headMark1, headSize, boardsAt, pagesAt, blocksAt, recordCountAt}
 use Rattle.model.specs.Definitions.Bank.{Entry, Log, Area, Stable, Board, Bank}
 
 -- ---- "Directory, per page: owner; copy-set"
@@ -75,44 +75,11 @@ kindOf m0 m1 p =
       | false ↦ elim (eqb m0 letterS) [ true ↦ Shown p | false ↦ Dropped p ]
     ]
 
--- "A slot is 22 bytes: a two-byte mark, page, a zero byte, count u16, 16 bytes."
-unfoldable pub encodeRecord : Record → List ℕ
-encodeRecord r = mark0 (r .kind) ∷ mark1 (r .kind) ∷ pageOf (r .kind) ∷ 0 ∷ (bytesOf sinceSize (r .count) ++ r .bytes)
-
-unfoldable pub decodeRecord : List ℕ → Record
-decodeRecord l =
-    record {
-      count = numberOf (part l recordCountAt sinceSize);
-      kind = kindOf (byteAt l mark0At) (byteAt l mark1At) (byteAt l slotPageAt);
-      bytes = part l slotBytesAt pageSize;
-    }
-
--- ---- a log: its records, then the slots at or past the count, which "may hold anything"
-
-unfoldable pub encodeLog : Log → List ℕ
-encodeLog l = encodeAll encodeRecord (l .records) ++ l .rest
-
-unfoldable pub decodeLog : ℕ → List ℕ → Log
-decodeLog count l = record { records = decodeAll decodeRecord slotSize count l; rest = drop (count * slotSize) l }
-
--- ---- "An area: access number u32, stored count u8, P frames, 32 slots."
-
-unfoldable pub encodeArea : Area → List ℕ
-encodeArea a = bytesOf numberSize (a .number) ++ length (a .log .records) ∷ (encodeAll encodeFrame (a .frames) ++ encodeLog (a .log))
-
+-- frames, page by page
 unfoldable pub decodeFrames : ℕ → List ℕ → List Frame
 decodeFrames pages l = decodeAll decodeFrame frameSize pages l
 
-unfoldable pub decodeArea : ℕ → List ℕ → Area
-decodeArea pages l =
-    record {
-      number = numberOf (part l areaNumberAt numberSize);
-      frames = decodeFrames pages (part l areaFramesAt (pages * frameSize));
-      log = decodeLog (byteAt l areaCountAt) (part l (areaSlotsAt pages) slotsSize);
-    }
-
--- ---- a block: "state (0 up, 1 dark, 2 replaying), selector (0 or 1), fuse u16, access number u32, since u16, replay place u8, volatile count u8,
--- P frames, 32 volatile slots, two areas"
+-- ---- "state (0 up, 1 dark, 2 replaying), selector (0 or 1)"
 
 unfoldable pub stateByte : State → ℕ
 stateByte Up = 0
@@ -128,22 +95,7 @@ unfoldable pub selectorByte : Bool → ℕ
 selectorByte false = 0
 selectorByte true = 1
 
--- the fixed fields of a block, up to its frames
-unfoldable pub encodeFixed : Board → List ℕ
-encodeFixed x =
-    stateByte (x .state) ∷ selectorByte (x .stable .second)
-    ∷ (bytesOf fuseSize (x .fuse)
-    ++ (bytesOf numberSize (x .working .number)
-    ++ (bytesOf sinceSize (x .working .since) ++ x .working .place ∷ length (x .working .log .records) ∷ [])))
-
--- area 0, then area 1
-unfoldable pub encodeStable : Stable → List ℕ
-encodeStable t =
-    elim (t .second) [
-      | false ↦ encodeArea (t .selected) ++ encodeArea (t .spare)
-      | true ↦ encodeArea (t .spare) ++ encodeArea (t .selected)
-    ]
-
+-- the area that the selector names, and the other
 unfoldable pub decodeStable : Bool → Area → Area → Stable
 decodeStable second area0 area1 =
     elim second [
@@ -151,41 +103,132 @@ decodeStable second area0 area1 =
       | true ↦ record { second = true; selected = area1; spare = area0 }
     ]
 
-unfoldable pub encodeBoard : Board → List ℕ
-encodeBoard x =
-    encodeFixed x ++ (encodeAll encodeFrame (x .working .frames) ++ (encodeLog (x .working .log) ++ encodeStable (x .stable)))
+-- ==== what holds a since or a count, in any form
 
-unfoldable pub decodeBoard : ℕ → List ℕ → Board
-decodeBoard pages l =
-    record {
-      state = stateOf (byteAt l stateAt);
-      fuse = numberOf (part l fuseAt fuseSize);
-      working =
-          record {
-            number = numberOf (part l numberAt numberSize);
-            since = numberOf (part l sinceAt sinceSize);
-            place = byteAt l placeAt;
-            frames = decodeFrames pages (part l framesAt (pages * frameSize));
-            log = decodeLog (byteAt l volatileCountAt) (part l (slotsAt pages) slotsSize);
-          };
-      stable =
-          decodeStable
-          (eqb (byteAt l selectorAt) (selectorByte true))
-          (decodeArea pages (part l (areaAt pages 0) (areaSize pages)))
-          (decodeArea pages (part l (areaAt pages 1) (areaSize pages)));
-    }
+module _ (form : Form) where
+  -- "A slot is ..: a two-byte mark, page, a zero byte, count .., 16 bytes."
+  unfoldable pub encodeRecordIn : Record → List ℕ
+  encodeRecordIn r =
+      mark0 (r .kind) ∷ mark1 (r .kind) ∷ pageOf (r .kind) ∷ 0 ∷ (bytesOf (form .sinceWidth) (r .count) ++ r .bytes)
 
--- ---- the bank: "Head: bytes 66, 75, then N, P", the directory, N blocks
+  unfoldable pub decodeRecordIn : List ℕ → Record
+  decodeRecordIn l =
+      record {
+        count = numberOf (part l recordCountAt (form .sinceWidth));
+        kind = kindOf (byteAt l mark0At) (byteAt l mark1At) (byteAt l slotPageAt);
+        bytes = part l (slotBytesAtIn form) pageSize;
+      }
 
-unfoldable pub encode : Bank → List ℕ
-encode k =
-    headMark0 ∷ headMark1 ∷ length (k .boards) ∷ length (k .directory)
-    ∷ (encodeAll encodeEntry (k .directory) ++ encodeAll encodeBoard (k .boards))
+  -- ---- a log: its records, then the slots at or past the count, which "may hold anything"
 
-unfoldable pub decode : List ℕ → Bank
-decode s =
-    let pages : ℕ = byteAt s pagesAt in
-    record {
-      directory = decodeAll decodeEntry entrySize pages (part s headSize (pages * entrySize));
-      boards = decodeAll (decodeBoard pages) (blockSize pages) (byteAt s boardsAt) (drop (blocksAt pages) s);
-    }
+  unfoldable pub encodeLogIn : Log → List ℕ
+  encodeLogIn l = encodeAll encodeRecordIn (l .records) ++ l .rest
+
+  unfoldable pub decodeLogIn : ℕ → List ℕ → Log
+  decodeLogIn count l = record { records = decodeAll decodeRecordIn (slotSizeIn form) count l; rest = drop (count * slotSizeIn form) l }
+
+  -- ---- "An area: access number u32, stored count u8, P frames, 32 slots."
+
+  unfoldable pub encodeAreaIn : Area → List ℕ
+  encodeAreaIn a = bytesOf numberSize (a .number) ++ length (a .log .records) ∷ (encodeAll encodeFrame (a .frames) ++ encodeLogIn (a .log))
+
+  unfoldable pub decodeAreaIn : ℕ → List ℕ → Area
+  decodeAreaIn pages l =
+      record {
+        number = numberOf (part l areaNumberAt numberSize);
+        frames = decodeFrames pages (part l areaFramesAt (pages * frameSize));
+        log = decodeLogIn (byteAt l areaCountAt) (part l (areaSlotsAt pages) (slotsSizeIn form));
+      }
+
+  -- ---- a block: "state .., selector .., fuse u16, access number u32, since .., replay place u8, volatile count u8, P frames, 32 volatile slots,
+  -- two areas"
+
+  -- the fixed fields of a block, up to its frames
+  unfoldable pub encodeFixedIn : Board → List ℕ
+  encodeFixedIn x =
+      stateByte (x .state) ∷ selectorByte (x .stable .second)
+      ∷ (bytesOf fuseSize (x .fuse)
+      ++ (bytesOf numberSize (x .working .number)
+      ++ (bytesOf (form .sinceWidth) (x .working .since) ++ x .working .place ∷ length (x .working .log .records) ∷ [])))
+
+  -- area 0, then area 1
+  unfoldable pub encodeStableIn : Stable → List ℕ
+  encodeStableIn t =
+      elim (t .second) [
+        | false ↦ encodeAreaIn (t .selected) ++ encodeAreaIn (t .spare)
+        | true ↦ encodeAreaIn (t .spare) ++ encodeAreaIn (t .selected)
+      ]
+
+  unfoldable pub encodeBoardIn : Board → List ℕ
+  encodeBoardIn x =
+      encodeFixedIn x ++ (encodeAll encodeFrame (x .working .frames) ++ (encodeLogIn (x .working .log) ++ encodeStableIn (x .stable)))
+
+  unfoldable pub decodeBoardIn : ℕ → List ℕ → Board
+  decodeBoardIn pages l =
+      record {
+        state = stateOf (byteAt l stateAt);
+        fuse = numberOf (part l fuseAt fuseSize);
+        working =
+            record {
+              number = numberOf (part l numberAt numberSize);
+              since = numberOf (part l sinceAt (form .sinceWidth));
+              place = byteAt l (placeAtIn form);
+              frames = decodeFrames pages (part l (framesAtIn form) (pages * frameSize));
+              log = decodeLogIn (byteAt l (volatileCountAtIn form)) (part l (slotsAtIn form pages) (slotsSizeIn form));
+            };
+        stable =
+            decodeStable
+            (eqb (byteAt l selectorAt) (selectorByte true))
+            (decodeAreaIn pages (part l (areaAtIn form pages 0) (areaSizeIn form pages)))
+            (decodeAreaIn pages (part l (areaAtIn form pages 1) (areaSizeIn form pages)));
+      }
+
+  -- ---- the bank: "Head: bytes 66, 75, then N, P", the directory, N blocks
+
+  unfoldable pub encodeIn : Bank → List ℕ
+  encodeIn k =
+      headMark0 ∷ headMark1 ∷ length (k .boards) ∷ length (k .directory)
+      ∷ (encodeAll encodeEntry (k .directory) ++ encodeAll encodeBoardIn (k .boards))
+
+  unfoldable pub decodeIn : List ℕ → Bank
+  decodeIn s =
+      let pages : ℕ = byteAt s pagesAt in
+      record {
+        directory = decodeAll decodeEntry entrySize pages (part s headSize (pages * entrySize));
+        boards = decodeAll (decodeBoardIn pages) (blockSizeIn form pages) (byteAt s boardsAt) (drop (blocksAt pages) s);
+      }
+
+-- ==== the same in today's form
+
+abbrev pub encodeRecord : Record → List ℕ
+encodeRecord = encodeRecordIn today
+
+abbrev pub decodeRecord : List ℕ → Record
+decodeRecord = decodeRecordIn today
+
+abbrev pub encodeLog : Log → List ℕ
+encodeLog = encodeLogIn today
+
+abbrev pub decodeLog : ℕ → List ℕ → Log
+decodeLog = decodeLogIn today
+
+abbrev pub encodeArea : Area → List ℕ
+encodeArea = encodeAreaIn today
+
+abbrev pub encodeFixed : Board → List ℕ
+encodeFixed = encodeFixedIn today
+
+abbrev pub encodeStable : Stable → List ℕ
+encodeStable = encodeStableIn today
+
+abbrev pub encodeBoard : Board → List ℕ
+encodeBoard = encodeBoardIn today
+
+abbrev pub decodeBoard : ℕ → List ℕ → Board
+decodeBoard = decodeBoardIn today
+
+abbrev pub encode : Bank → List ℕ
+encode = encodeIn today
+
+abbrev pub decode : List ℕ → Bank
+decode = decodeIn today

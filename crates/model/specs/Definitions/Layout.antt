@@ -1,5 +1,5 @@
--- Document 01, "Bytes of a bank": every width, offset and limit of the format, named once. Everything else cites these names.
--- docs/FORMAT.md draws them. Assumes nothing.
+-- Document 01, "Bytes of a bank", with document 02's F-2: every width, offset and limit of the format, named once. Everything else cites these names.
+-- What stands behind a field that grew is said for any form (`In`), and by its plain name for today's. docs/FORMAT.md draws them. Assumes nothing.
 use Prim.Native.Nat.{ℕ, _+_, _*_}
 
 -- ---- limits
@@ -22,9 +22,9 @@ slotCount = 32
 abbrev pub noFuse : ℕ
 noFuse = 65535
 
--- "access with since 65,535 or number 4,294,967,295": the last value of each counter
+-- "since or access number at 4,294,967,295" (document 02, F-2): the last value of each counter
 abbrev pub lastSince : ℕ
-lastSince = 65535
+lastSince = 4294967295
 
 abbrev pub lastNumber : ℕ
 lastNumber = 4294967295
@@ -41,9 +41,19 @@ fuseSize = 2
 abbrev pub numberSize : ℕ
 numberSize = 4
 
--- since, and a record's count, which takes its value
+-- What a form of a bank may choose: the width of since, and of a record's count, which takes its value.
+pub record Form : Type 0 where
+  pub sinceWidth : ℕ
+
+abbrev pub formOf : ℕ → Form
+formOf width = record { sinceWidth = width }
+
+-- "The since field and each record's count grow from two bytes to four." (document 02, F-2)
+abbrev pub today : Form
+today = formOf 4
+
 abbrev pub sinceSize : ℕ
-sinceSize = 2
+sinceSize = today .sinceWidth
 
 -- ---- "Head: bytes 66, 75, then N, P."
 
@@ -90,7 +100,7 @@ frameBytesAt = 1
 abbrev pub frameSize : ℕ
 frameSize = frameBytesAt + pageSize
 
--- ---- "A slot is 22 bytes: a two-byte mark, page, a zero byte, count u16, 16 bytes."
+-- ---- "A slot is ..: a two-byte mark, page, a zero byte, count .., 16 bytes."; "A record is then 24 bytes" (document 02, F-2)
 
 abbrev pub mark0At : ℕ
 mark0At = 0
@@ -107,14 +117,15 @@ slotZeroAt = 3
 abbrev pub recordCountAt : ℕ
 recordCountAt = 4
 
-abbrev pub slotBytesAt : ℕ
-slotBytesAt = recordCountAt + sinceSize
+module _ (form : Form) where
+  abbrev pub slotBytesAtIn : ℕ
+  slotBytesAtIn = recordCountAt + form .sinceWidth
 
-abbrev pub slotSize : ℕ
-slotSize = slotBytesAt + pageSize
+  abbrev pub slotSizeIn : ℕ
+  slotSizeIn = slotBytesAtIn + pageSize
 
-abbrev pub slotsSize : ℕ
-slotsSize = slotCount * slotSize
+  abbrev pub slotsSizeIn : ℕ
+  slotsSizeIn = slotCount * slotSizeIn
 
 -- "Marks: "GC" got copy, "GO" got own, "SH" shown, "DR" dropped": the letters
 abbrev pub letterG : ℕ
@@ -152,10 +163,10 @@ areaFramesAt = areaCountAt + 1
 abbrev pub areaSlotsAt : ℕ → ℕ
 areaSlotsAt pages = areaFramesAt + pages * frameSize
 
-abbrev pub areaSize : ℕ → ℕ
-areaSize pages = areaSlotsAt pages + slotsSize
+abbrev pub areaSizeIn : Form → ℕ → ℕ
+areaSizeIn form pages = areaSlotsAt pages + slotsSizeIn form
 
--- ---- a block: "state, selector, fuse u16, access number u32, since u16, replay place u8, volatile count u8, P frames, 32 volatile slots, two areas"
+-- ---- a block: "state, selector, fuse u16, access number u32, since .., replay place u8, volatile count u8, P frames, 32 volatile slots, two areas"
 
 abbrev pub stateAt : ℕ
 stateAt = 0
@@ -172,30 +183,67 @@ numberAt = fuseAt + fuseSize
 abbrev pub sinceAt : ℕ
 sinceAt = numberAt + numberSize
 
-abbrev pub placeAt : ℕ
-placeAt = sinceAt + sinceSize
+module _ (form : Form) where
+  abbrev pub placeAtIn : ℕ
+  placeAtIn = sinceAt + form .sinceWidth
 
-abbrev pub volatileCountAt : ℕ
-volatileCountAt = placeAt + 1
+  abbrev pub volatileCountAtIn : ℕ
+  volatileCountAtIn = placeAtIn + 1
 
-abbrev pub framesAt : ℕ
-framesAt = volatileCountAt + 1
+  abbrev pub framesAtIn : ℕ
+  framesAtIn = volatileCountAtIn + 1
 
-abbrev pub slotsAt : ℕ → ℕ
-slotsAt pages = framesAt + pages * frameSize
+  abbrev pub slotsAtIn : ℕ → ℕ
+  slotsAtIn pages = framesAtIn + pages * frameSize
 
--- the place of area 0 or 1
-abbrev pub areaAt : ℕ → ℕ → ℕ
-areaAt pages area = slotsAt pages + slotsSize + area * areaSize pages
+  -- the place of area 0 or 1
+  abbrev pub areaAtIn : ℕ → ℕ → ℕ
+  areaAtIn pages area = slotsAtIn pages + slotsSizeIn form + area * areaSizeIn form pages
 
-abbrev pub blockSize : ℕ → ℕ
-blockSize pages = areaAt pages 2
+  abbrev pub blockSizeIn : ℕ → ℕ
+  blockSizeIn pages = areaAtIn pages 2
 
 -- ---- the bank
 
 abbrev pub blocksAt : ℕ → ℕ
 blocksAt pages = headSize + pages * entrySize
 
--- "Length 4 + 2P + N(2134 + 51P)."
+abbrev pub bankSizeIn : Form → ℕ → ℕ → ℕ
+bankSizeIn form boards pages = blocksAt pages + boards * blockSizeIn form pages
+
+-- ---- the same of today's form
+
+abbrev pub slotBytesAt : ℕ
+slotBytesAt = slotBytesAtIn today
+
+abbrev pub slotSize : ℕ
+slotSize = slotSizeIn today
+
+abbrev pub slotsSize : ℕ
+slotsSize = slotsSizeIn today
+
+abbrev pub areaSize : ℕ → ℕ
+areaSize = areaSizeIn today
+
+abbrev pub placeAt : ℕ
+placeAt = placeAtIn today
+
+abbrev pub volatileCountAt : ℕ
+volatileCountAt = volatileCountAtIn today
+
+abbrev pub framesAt : ℕ
+framesAt = framesAtIn today
+
+abbrev pub slotsAt : ℕ → ℕ
+slotsAt = slotsAtIn today
+
+abbrev pub areaAt : ℕ → ℕ → ℕ
+areaAt = areaAtIn today
+
+-- "a block 2328 + 51P" (document 02, F-2)
+abbrev pub blockSize : ℕ → ℕ
+blockSize = blockSizeIn today
+
+-- "Document 01's lengths move along": 4 + 2P + N(2328 + 51P)
 abbrev pub bankSize : ℕ → ℕ → ℕ
-bankSize boards pages = blocksAt pages + boards * blockSize pages
+bankSize = bankSizeIn today

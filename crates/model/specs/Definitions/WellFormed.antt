@@ -1,5 +1,6 @@
 -- Document 01, "Well formed means": the clauses, one definition each, of a bank and their conjunction `WellFormed`; bytes are well formed
--- where they are the bytes of such a bank. Check has the test of bytes, which Laws proves to say the same. Assumes nothing.
+-- where they are the bytes of such a bank. What asks for a since or a count in range is said for any form, and by its plain name for today's.
+-- Check has the test of bytes, which Laws proves to say the same. Assumes nothing.
 use mathlib.Core.Path.{_≡_}
 use mathlib.Core.Logic.{_≢_}
 use Prim.Native.Nat.{ℕ, _+_, _*_, _^_, _≤_, _<_}
@@ -17,9 +18,10 @@ use Rattle.types.specs.declared.Record.{Record}
 use Rattle.types.specs.declared.State.{State}
 use Rattle.types.specs.declared.State.the-variants.{Up, Down, Replaying}
 use Rattle.model.specs.Definitions.Parts.{zeros, member}
-use Rattle.model.specs.Definitions.Layout.{mostBoards, mostPages, pageSize, slotCount, noFuse, lastSince, lastNumber, slotSize, slotsSize}
+use Rattle.model.specs.Definitions.Layout.{mostBoards, mostPages, pageSize, slotCount, noFuse, lastNumber, byteValues, Form, today, slotSizeIn}
+use Rattle.model.specs.Definitions.Layout.{slotsSizeIn}
 use Rattle.model.specs.Definitions.Bank.{Entry, Log, Area, Working, Board, Bank, boardAt, entryAt, frameAt}
-use Rattle.model.specs.Definitions.Codec.{pageOf, encode}
+use Rattle.model.specs.Definitions.Codec.{pageOf, encodeIn}
 
 -- "every frame as above": "a right and 16 page bytes, all zero under right 0"
 pub record FrameOk (f : Frame) : Type 0 where
@@ -33,40 +35,40 @@ isGot (Shown p) = false
 isGot (Dropped p) = false
 
 -- "records below a count valid": page below P, and "The 16 bytes are the page for got, else zero."
-pub record RecordOk (pages : ℕ) (r : Record) : Type 0 where
-  pub count : r .count ≤ lastSince
+pub record RecordOkIn (form : Form) (pages : ℕ) (r : Record) : Type 0 where
+  pub count : r .count < byteValues ^ form .sinceWidth
   pub page : pageOf (r .kind) < pages
   pub size : length (r .bytes) ≡ pageSize
   pub bytes : Bytes (r .bytes)
   pub plain : isGot (r .kind) ≡ false → r .bytes ≡ zeros pageSize
 
 -- 32 slots in all, so "stored at most 32 in either"; "Slots at or past a count may hold anything."
-pub record LogOk (pages : ℕ) (l : Log) : Type 0 where
-  pub records : Each (RecordOk pages) (l .records)
+pub record LogOkIn (form : Form) (pages : ℕ) (l : Log) : Type 0 where
+  pub records : Each (RecordOkIn form pages) (l .records)
   pub bytes : Bytes (l .rest)
-  pub slots : length (l .records) * slotSize + length (l .rest) ≡ slotsSize
+  pub slots : length (l .records) * slotSizeIn form + length (l .rest) ≡ slotsSizeIn form
 
 pub record FramesOk (pages : ℕ) (fs : List Frame) : Type 0 where
   pub count : length fs ≡ pages
   pub frames : Each FrameOk fs
 
-pub record AreaOk (pages : ℕ) (a : Area) : Type 0 where
+pub record AreaOkIn (form : Form) (pages : ℕ) (a : Area) : Type 0 where
   pub number : a .number ≤ lastNumber
   pub frames : FramesOk pages (a .frames)
-  pub log : LogOk pages (a .log)
+  pub log : LogOkIn form pages (a .log)
 
-pub record WorkingOk (pages : ℕ) (w : Working) : Type 0 where
+pub record WorkingOkIn (form : Form) (pages : ℕ) (w : Working) : Type 0 where
   pub number : w .number ≤ lastNumber
-  pub since : w .since ≤ lastSince
+  pub since : w .since < byteValues ^ form .sinceWidth
   pub frames : FramesOk pages (w .frames)
-  pub log : LogOk pages (w .log)
+  pub log : LogOkIn form pages (w .log)
 
 -- "every field in range", of a block
-pub record FieldsOk (pages : ℕ) (x : Board) : Type 0 where
+pub record FieldsOkIn (form : Form) (pages : ℕ) (x : Board) : Type 0 where
   pub fuse : x .fuse ≤ noFuse
-  pub working : WorkingOk pages (x .working)
-  pub selected : AreaOk pages (x .stable .selected)
-  pub spare : AreaOk pages (x .stable .spare)
+  pub working : WorkingOkIn form pages (x .working)
+  pub selected : AreaOkIn form pages (x .stable .selected)
+  pub spare : AreaOkIn form pages (x .stable .spare)
 
 -- "fuse not 0"
 abbrev pub FuseOk : Board → Type 0
@@ -115,8 +117,8 @@ RightsOk k b =
 abbrev pub CopiesOk : Bank → ℕ → Type 0
 CopiesOk k b = boardAt k b .state ≢ Up → (p : ℕ) → p < length (k .directory) → member b (entryAt k p .copies) ≡ false
 
-pub record BoardOk (k : Bank) (b : ℕ) : Type 0 where
-  pub fields : FieldsOk (length (k .directory)) (boardAt k b)
+pub record BoardOkIn (form : Form) (k : Bank) (b : ℕ) : Type 0 where
+  pub fields : FieldsOkIn form (length (k .directory)) (boardAt k b)
   pub fuse : FuseOk (boardAt k b)
   pub room : RoomOk (boardAt k b)
   pub place : PlaceOk (boardAt k b .state) (boardAt k b)
@@ -139,14 +141,40 @@ pub record SizesOk (n p : ℕ) : Type 0 where
   pub pages : p ≤ mostPages
 
 -- the conjunction
-pub record WellFormed (k : Bank) : Type 0 where
+pub record WellFormedIn (form : Form) (k : Bank) : Type 0 where
   pub sizes : SizesOk (length (k .boards)) (length (k .directory))
   pub directory : Each (EntryOk (length (k .boards))) (k .directory)
-  pub boards : (b : ℕ) → b < length (k .boards) → BoardOk k b
+  pub boards : (b : ℕ) → b < length (k .boards) → BoardOkIn form k b
 
 -- bytes are well formed where they are the bytes of a well-formed bank
+abbrev pub WellFormedBytesIn : Form → List ℕ → Type 0
+WellFormedBytesIn form s = (k : Bank) × WellFormedIn form k × (encodeIn form k ≡ s)
+
+-- ---- the same in today's form
+
+abbrev pub RecordOk : ℕ → Record → Type 0
+RecordOk = RecordOkIn today
+
+abbrev pub LogOk : ℕ → Log → Type 0
+LogOk = LogOkIn today
+
+abbrev pub AreaOk : ℕ → Area → Type 0
+AreaOk = AreaOkIn today
+
+abbrev pub WorkingOk : ℕ → Working → Type 0
+WorkingOk = WorkingOkIn today
+
+abbrev pub FieldsOk : ℕ → Board → Type 0
+FieldsOk = FieldsOkIn today
+
+abbrev pub BoardOk : Bank → ℕ → Type 0
+BoardOk = BoardOkIn today
+
+abbrev pub WellFormed : Bank → Type 0
+WellFormed = WellFormedIn today
+
 abbrev pub WellFormedBytes : List ℕ → Type 0
-WellFormedBytes s = (k : Bank) × WellFormed k × (encode k ≡ s)
+WellFormedBytes = WellFormedBytesIn today
 
 -- ---- a state, as the calls ask for it
 

@@ -10,11 +10,11 @@ use mathlib.Core.Option.{none, some}
 use mathlib.Core.List.{List}
 use lib.ListN.{length, getD}
 use Rattle.model.specs.Definitions.Parts.{part, splice}
-use Rattle.model.specs.Definitions.Layout.{headSize, entrySize, blocksAt, blockSize, bankSize}
+use Rattle.model.specs.Definitions.Layout.{headSize, entrySize, blocksAt, blockSize, bankSize, today}
 use Rattle.model.specs.Definitions.Bank.{Entry, Board, Bank, noBoard, boardAt, entryAt, frameAt, onBoard, onEntry, noEntry}
 use Rattle.model.specs.Definitions.Codec.{encodeEntry, decodeEntry, encodeBoard, encode, decode}
 use Rattle.model.specs.Definitions.WellFormed.{FrameOk, FieldsOk, SizesOk, WellFormed}
-use Rattle.model.specs.Definitions.Check.{blockOf, wellFormed}
+use Rattle.model.specs.Definitions.Check.{wellFormed, blockOfIn}
 use Rattle.model.specs.Definitions.Steps.{Run, burnt, powerOff, store, frameOf}
 use Rattle.model.specs.Contracts.{IsBank, Fields}
 use Rattle.model.specs.Laws.Lists.{each-getD, each-imp, each-set, length-update, update-set}
@@ -33,7 +33,7 @@ use Rattle.model.specs.Laws.Valid.{frameOk-empty, frameOk-at}
 pub isBank-test : (s : List ℕ) → wellFormed s ≡ true → IsBank s
 isBank-test s v =
     let w : WellFormed (decode s) = wellFormed-sound s v in
-    record { back = encode-decode s v; fields = fields-of (decode s) w; sizes = w .sizes }
+    record { back = encode-decode today s v; fields = fields-of (decode s) w; sizes = w .sizes }
 
 module _ (k : Bank) where
   pub isBank-encode : Fields k → SizesOk (length (k .boards)) (length (k .directory)) → IsBank (encode k)
@@ -52,7 +52,7 @@ module _ (k : Bank) where
   pub block-part : Fields k → (b : ℕ) → b < length (k .boards)
       → part (encode k) (blocksAt (length (k .directory)) + b * blockSize (length (k .directory))) (blockSize (length (k .directory)))
       ≡ encodeBoard (boardAt k b)
-  unfolding blockOf
+  unfolding blockOfIn
   block-part ok b h = bank-block k ok b h
 
   pub entry-part : (p : ℕ) → p < length (k .directory) → part (encode k) (headSize + p * entrySize) entrySize ≡ encodeEntry (entryAt k p)
@@ -60,7 +60,7 @@ module _ (k : Bank) where
   entry-part p h =
       let n : ℕ = length (k .directory) in
       sym (part-part (encode k) headSize (n * entrySize) (p * entrySize) entrySize (index-in entrySize n p h))
-      ∙ rw (bank-directory k)
+      ∙ rw (bank-directory today k)
       (part-encodeAll encodeEntry entrySize (k .directory) p noEntry (each-all (k .directory) length-encodeEntry) h)
 
   pub entry-of : (p : ℕ) → p < length (k .directory) → decodeEntry (part (encode k) (headSize + p * entrySize) entrySize) ≡ entryAt k p

@@ -12,7 +12,7 @@ use Rattle.types.specs.declared.Record.{Record}
 use Rattle.model.specs.Definitions.Parts.{part, splice, encodeAll}
 use Rattle.model.specs.Definitions.Layout.{numberSize, frameSize, slotSize, areaNumberAt, areaCountAt, areaFramesAt, areaSlotsAt}
 use Rattle.model.specs.Definitions.Bank.{Area, frameAt}
-use Rattle.model.specs.Definitions.Codec.{encodeFrame, decodeFrame, encodeRecord, decodeRecord, encodeLog, encodeArea}
+use Rattle.model.specs.Definitions.Codec.{encodeFrame, decodeFrame, encodeRecord, decodeRecord, encodeLog, encodeArea, encodeLogIn, encodeAreaIn}
 use Rattle.model.specs.Definitions.WellFormed.{FrameOk, RecordOk, AreaOk}
 use Rattle.model.specs.Definitions.Steps.{appended, withRecord, withAreaFrame, withHead}
 use Rattle.model.specs.Laws.Parts.{splice-front, splice-at, splice-amid, splice-behind, index-in}
@@ -83,7 +83,7 @@ module _ (pages : ℕ) (a : Area) (ok : AreaOk pages a) where
       → splice (splice (encodeArea a) (areaSlotsAt pages + length (a .log .records) * slotSize) (encodeRecord r)) areaCountAt
       ((length (a .log .records) + 1) ∷ [])
       ≡ encodeArea (withRecord r a)
-  unfolding encodeArea appended
+  unfolding encodeAreaIn appended
   write-areaRecord r v =
       rw (
         slots-written (a .number) n bytes (encodeLog (a .log)) pages (n * slotSize) (encodeRecord r) length-bytes,
@@ -94,7 +94,7 @@ module _ (pages : ℕ) (a : Area) (ok : AreaOk pages a) where
 
   pub write-areaFrame : (p : ℕ) (f : Frame) → FrameOk f → p < pages
       → splice (encodeArea a) (areaFramesAt + p * frameSize) (encodeFrame f) ≡ encodeArea (withAreaFrame p f a)
-  unfolding encodeArea
+  unfolding encodeAreaIn
   write-areaFrame p f v h =
       let m : p * frameSize + frameSize ≤ pages * frameSize = index-in frameSize pages p h in
       let w : length (encodeFrame f) ≡ frameSize = length-encodeFrame f (v .size) in
@@ -104,5 +104,5 @@ module _ (pages : ℕ) (a : Area) (ok : AreaOk pages a) where
       )
 
   pub write-areaHead : (m : ℕ) → splice (encodeArea a) areaNumberAt (bytesOf numberSize m ++ (0 ∷ [])) ≡ encodeArea (withHead m a)
-  unfolding encodeArea encodeLog encodeAll
+  unfolding encodeAreaIn encodeLogIn encodeAll
   write-areaHead m = head-written (a .number) n bytes (encodeLog (a .log)) m 0

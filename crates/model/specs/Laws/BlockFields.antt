@@ -14,10 +14,10 @@ use Rattle.types.specs.declared.Record.{Record}
 use Rattle.types.specs.declared.State.{State}
 use Rattle.model.specs.Definitions.Parts.{part, splice, byteAt, encodeAll}
 use Rattle.model.specs.Definitions.Layout.{pageSize, frameSize, frameBytesAt, rightAt, slotSize, slotsSize, fuseSize, numberSize, sinceSize, stateAt}
-use Rattle.model.specs.Definitions.Layout.{selectorAt, fuseAt, numberAt, sinceAt, placeAt, volatileCountAt, framesAt, slotsAt}
+use Rattle.model.specs.Definitions.Layout.{selectorAt, fuseAt, numberAt, sinceAt, placeAt, volatileCountAt, framesAt, slotsAt, today}
 use Rattle.model.specs.Definitions.Bank.{Log, Board, emptyFrame, frameAt, withState, withNumber, withSince, withPlace, withLog, onWorking, onFrames}
 use Rattle.model.specs.Definitions.Codec.{rightByte, encodeFrame, decodeFrame, encodeRecord, decodeRecord, encodeLog, stateByte, selectorByte}
-use Rattle.model.specs.Definitions.Codec.{encodeFixed, encodeStable, encodeBoard}
+use Rattle.model.specs.Definitions.Codec.{encodeFixed, encodeStable, encodeBoard, encodeLogIn, encodeFixedIn, encodeBoardIn}
 use Rattle.model.specs.Definitions.Steps.{withFuse, withFrame, withByte, cellByte}
 use Rattle.model.specs.Definitions.WellFormed.{FramesOk, FieldsOk}
 use Rattle.model.specs.Laws.Lists.{each-imp, each-getD}
@@ -41,15 +41,15 @@ behindFixed x = encodeAll encodeFrame (x .working .frames) ++ (encodeLog (x .wor
 
 -- a block is at least its fixed fields
 pub fixed-inside : (x : Board) → framesAt ≤ length (encodeBoard x)
-unfolding encodeBoard
-fixed-inside x = rw (length-append (encodeFixed x) (behindFixed x), length-encodeFixed x) (omega arith)
+unfolding encodeBoardIn
+fixed-inside x = rw (length-append (encodeFixed x) (behindFixed x), length-encodeFixed today x) (omega arith)
 
 -- a splice in the fixed fields leaves what stands behind them
 pub write-fixed : (x y : Board) (a : ℕ) (v : List ℕ) → a + length v ≤ framesAt → splice (encodeFixed x) a v ≡ encodeFixed y
     → behindFixed x ≡ behindFixed y → splice (encodeBoard x) a v ≡ encodeBoard y
-unfolding encodeBoard
+unfolding encodeBoardIn
 write-fixed x y a v h e b =
-    splice-append-left (encodeFixed x) (behindFixed x) a v (rw (length-encodeFixed x) h) ∙ rw (e, b)
+    splice-append-left (encodeFixed x) (behindFixed x) a v (rw (length-encodeFixed today x) h) ∙ rw (e, b)
 
 -- a number over another of the same width
 same-width : (w m n : ℕ) → length (bytesOf w m) ≡ length (bytesOf w n)
@@ -60,7 +60,7 @@ number-fits a w n b h = rw (length-bytesOf w n) h
 
 module _ (x : Board) where
   pub write-state : (s : State) → splice (encodeBoard x) stateAt (stateByte s ∷ []) ≡ encodeBoard (withState s x)
-  unfolding encodeFixed splice
+  unfolding encodeFixedIn splice
   write-state s = write-fixed x (withState s x) stateAt (stateByte s ∷ []) (omega arith) refl refl
 
   -- the numbers behind the two bytes before the fuse
@@ -77,13 +77,13 @@ module _ (x : Board) where
   lastTwo = x .working .place ∷ length (x .working .log .records) ∷ []
 
   pub write-fuse : (n : ℕ) → splice (encodeBoard x) fuseAt (bytesOf fuseSize n) ≡ encodeBoard (withFuse n x)
-  unfolding encodeFixed withFuse
+  unfolding encodeFixedIn withFuse
   write-fuse n =
       write-fixed x (withFuse n x) fuseAt (bytesOf fuseSize n) (number-fits fuseAt fuseSize n framesAt (omega arith))
       (splice-at (switches x) fuseBytes (bytesOf fuseSize n) (numberBytes ++ (sinceBytes ++ lastTwo)) fuseAt refl (same-width fuseSize (x .fuse) n)) refl
 
   pub write-number : (n : ℕ) → splice (encodeBoard x) numberAt (bytesOf numberSize n) ≡ encodeBoard (onWorking (withNumber n) x)
-  unfolding encodeFixed onWorking
+  unfolding encodeFixedIn onWorking
   write-number n =
       write-fixed x (onWorking (withNumber n) x) numberAt (bytesOf numberSize n) (number-fits numberAt numberSize n framesAt (omega arith))
       (splice-append-right (switches x) _ numberAt fuseSize (bytesOf numberSize n) refl
@@ -101,7 +101,7 @@ module _ (x : Board) where
       (splice-append-right numberBytes r (numberSize + b) b v (rw (length-bytesOf numberSize (x .working .number))))
 
   pub write-since : (n : ℕ) → splice (encodeBoard x) sinceAt (bytesOf sinceSize n) ≡ encodeBoard (onWorking (withSince n) x)
-  unfolding encodeFixed onWorking
+  unfolding encodeFixedIn onWorking
   write-since n =
       write-fixed x (onWorking (withSince n) x) sinceAt (bytesOf sinceSize n) (number-fits sinceAt sinceSize n framesAt (omega arith))
       (behind-number (sinceBytes ++ lastTwo) sinceAt 0 (bytesOf sinceSize n) refl
@@ -117,13 +117,13 @@ module _ (x : Board) where
       ∙ rw (splice-append-right sinceBytes lastTwo (sinceSize + b) b v (rw (length-bytesOf sinceSize (x .working .since))))
 
   pub write-place : (n : ℕ) → splice (encodeBoard x) placeAt (n ∷ []) ≡ encodeBoard (onWorking (withPlace n) x)
-  unfolding encodeFixed onWorking splice
+  unfolding encodeFixedIn onWorking splice
   write-place n = write-fixed x (onWorking (withPlace n) x) placeAt (n ∷ []) (omega arith) (in-lastTwo placeAt 0 (n ∷ []) refl) refl
 
   -- the volatile count: the same slots, read as more or fewer records
   pub write-count : (g : Log) → encodeLog g ≡ encodeLog (x .working .log)
       → splice (encodeBoard x) volatileCountAt (length (g .records) ∷ []) ≡ encodeBoard (onWorking (withLog g) x)
-  unfolding encodeFixed onWorking splice
+  unfolding encodeFixedIn onWorking splice
   write-count g e =
       write-fixed x (onWorking (withLog g) x) volatileCountAt (length (g .records) ∷ []) (omega arith)
       (in-lastTwo volatileCountAt 1 (length (g .records) ∷ []) refl) (rw e)
@@ -136,19 +136,19 @@ wide-frames fs ok = each-imp fs (λ f o. length-encodeFrame f (o .size)) (ok .fr
 
 module _ (pages : ℕ) (x : Board) (ok : FieldsOk pages x) where
   pub read-state : byteAt (encodeBoard x) stateAt ≡ stateByte (x .state)
-  read-state = board-byte pages x ok stateAt (omega arith) ∙ fixed-state x
+  read-state = board-byte pages x ok stateAt (omega arith) ∙ fixed-state today x
 
   pub read-selector : byteAt (encodeBoard x) selectorAt ≡ selectorByte (x .stable .second)
-  read-selector = board-byte pages x ok selectorAt (omega arith) ∙ fixed-selector x
+  read-selector = board-byte pages x ok selectorAt (omega arith) ∙ fixed-selector today x
 
   pub read-number : numberOf (part (encodeBoard x) numberAt numberSize) ≡ x .working .number
   read-number =
-      rw (board-fixed pages x ok numberAt numberSize (omega arith), fixed-number x)
+      rw (board-fixed pages x ok numberAt numberSize (omega arith), fixed-number today x)
       (numberOf-bytesOf numberSize (x .working .number) (omega (arith, ok .working .number)))
 
   pub read-since : numberOf (part (encodeBoard x) sinceAt sinceSize) ≡ x .working .since
   read-since =
-      rw (board-fixed pages x ok sinceAt sinceSize (omega arith), fixed-since x)
+      rw (board-fixed pages x ok sinceAt sinceSize (omega arith), fixed-since today x)
       (numberOf-bytesOf sinceSize (x .working .since) (omega (arith, ok .working .since)))
 
   -- ---- reading a frame: whole, its right, its bytes, one of them
@@ -187,7 +187,7 @@ module _ (pages : ℕ) (x : Board) (ok : FieldsOk pages x) where
 
   pub slot-part : (i : ℕ) (d : Record) → i < length (x .working .log .records)
       → part (encodeBoard x) (slotsAt pages + i * slotSize) slotSize ≡ encodeRecord (getD (x .working .log .records) i d)
-  unfolding encodeLog
+  unfolding encodeLogIn
   slot-part i d h =
       let rs : List Record = x .working .log .records in
       let bytes : List ℕ = encodeAll encodeRecord rs in
@@ -196,7 +196,7 @@ module _ (pages : ℕ) (x : Board) (ok : FieldsOk pages x) where
       sym (part-part (encodeBoard x) (slotsAt pages) slotsSize (i * slotSize) slotSize (omega (arith, ok .working .log .slots)))
       ∙ rw (board-slots pages x ok)
       (part-append-left bytes (x .working .log .rest) (i * slotSize) slotSize (omega arith)
-      ∙ part-encodeAll encodeRecord slotSize rs i d (each-imp rs (λ r o. length-encodeRecord r (o .size)) (ok .working .log .records)) h)
+      ∙ part-encodeAll encodeRecord slotSize rs i d (each-imp rs (λ r o. length-encodeRecord today r (o .size)) (ok .working .log .records)) h)
 
   pub read-record : (i : ℕ) (d : Record) → i < length (x .working .log .records)
       → decodeRecord (part (encodeBoard x) (slotsAt pages + i * slotSize) slotSize) ≡ getD (x .working .log .records) i d
@@ -211,11 +211,11 @@ pub write-frames : (pages : ℕ) (x : Board) (g : List Frame → List Frame) (b 
     → b + length v ≤ pages * frameSize
     → splice (encodeAll encodeFrame (x .working .frames)) b v ≡ encodeAll encodeFrame (g (x .working .frames))
     → splice (encodeBoard x) (framesAt + b) v ≡ encodeBoard (onWorking (onFrames g) x)
-unfolding encodeBoard encodeFixed onWorking onFrames
+unfolding encodeBoardIn encodeFixedIn onWorking onFrames
 write-frames pages x g b v ok h e =
     let n : length (encodeAll encodeFrame (x .working .frames)) ≡ pages * frameSize = length-encodeFrames pages (x .working .frames) ok in
     splice-amid (encodeFixed x) (encodeAll encodeFrame (x .working .frames)) (encodeLog (x .working .log) ++ encodeStable (x .stable))
-    (framesAt + b) b v (rw (length-encodeFixed x)) (omega arith)
+    (framesAt + b) b v (rw (length-encodeFixed today x)) (omega arith)
     ∙ rw e
 
 -- one frame
@@ -262,13 +262,13 @@ module _ (pages : ℕ) (x : Board) (p : ℕ) (ok : FramesOk pages (x .working .f
 
 -- a block is at least its fixed fields and frames
 pub frames-inside : (pages : ℕ) (x : Board) → FramesOk pages (x .working .frames) → slotsAt pages ≤ length (encodeBoard x)
-unfolding encodeBoard
+unfolding encodeBoardIn
 frames-inside pages x ok =
     let frames : List ℕ = encodeAll encodeFrame (x .working .frames) in
     let n : length frames ≡ pages * frameSize = length-encodeFrames pages (x .working .frames) ok in
     rw (
       length-append (encodeFixed x) (behindFixed x),
-      length-encodeFixed x,
+      length-encodeFixed today x,
       length-append frames (encodeLog (x .working .log) ++ encodeStable (x .stable)),
     )
     (omega arith)
@@ -289,12 +289,12 @@ pub write-slots : (pages : ℕ) (x : Board) (g : Log) (b : ℕ) (v : List ℕ) �
     → length (encodeLog (x .working .log)) ≡ slotsSize → b + length v ≤ slotsSize → length (g .records) ≡ length (x .working .log .records)
     → splice (encodeLog (x .working .log)) b v ≡ encodeLog g
     → splice (encodeBoard x) (slotsAt pages + b) v ≡ encodeBoard (onWorking (withLog g) x)
-unfolding encodeBoard encodeFixed onWorking
+unfolding encodeBoardIn encodeFixedIn onWorking
 write-slots pages x g b v ok n h c e =
     let frames : List ℕ = encodeAll encodeFrame (x .working .frames) in
     let m : length frames ≡ pages * frameSize = length-encodeFrames pages (x .working .frames) ok in
     splice-behind (encodeFixed x) frames (encodeLog (x .working .log) ++ encodeStable (x .stable))
-    (slotsAt pages + b) b v (rw (length-encodeFixed x) (omega arith))
+    (slotsAt pages + b) b v (rw (length-encodeFixed today x) (omega arith))
     ∙ rw (splice-append-left (encodeLog (x .working .log)) (encodeStable (x .stable)) b v (omega arith), e, c)
 
 -- all of them

@@ -13,10 +13,10 @@ use Rattle.types.specs.declared.Frame.{Frame}
 use Rattle.types.specs.declared.Record.{Record}
 use Rattle.model.specs.Definitions.Parts.{part, splice, byteAt, encodeAll}
 use Rattle.model.specs.Definitions.Layout.{slotCount, numberSize, frameSize, slotSize, slotsSize, areaNumberAt, areaCountAt, areaFramesAt, areaSlotsAt}
-use Rattle.model.specs.Definitions.Layout.{areaSize, selectorAt, slotsAt, areaAt, blockSize}
+use Rattle.model.specs.Definitions.Layout.{areaSize, selectorAt, slotsAt, areaAt, blockSize, today}
 use Rattle.model.specs.Definitions.Bank.{Area, Stable, Board, frameAt, onSelected, onSpare}
 use Rattle.model.specs.Definitions.Codec.{encodeFrame, encodeRecord, encodeLog, encodeArea, stateByte, selectorByte, encodeFixed, encodeStable}
-use Rattle.model.specs.Definitions.Codec.{encodeBoard}
+use Rattle.model.specs.Definitions.Codec.{encodeBoard, encodeFixedIn, encodeStableIn, encodeBoardIn}
 use Rattle.model.specs.Definitions.WellFormed.{FrameOk, RecordOk, FieldsOk, WorkingOk}
 use Rattle.model.specs.Definitions.Steps.{storedFrame, storedHead, storedSelector, withRecord, withAreaFrame, withHead}
 use Rattle.model.specs.Laws.Parts.{length-part, part-append-right, part-front, part-end, length-splice, part-splice, splice-append-right, splice-front}
@@ -54,21 +54,21 @@ area-in pages false = omega arith
 -- the areas change places in the record, not in the bytes
 swapped-areas : (second : Bool) (a s : Area)
     → encodeStable (record { second = not second; selected = s; spare = a }) ≡ encodeStable (record { second = second; selected = a; spare = s })
-unfolding encodeStable
+unfolding encodeStableIn
 swapped-areas true a s = refl
 swapped-areas false a s = refl
 
 module _ (pages : ℕ) (a s : Area) (wide : length (encodeArea a) ≡ areaSize pages) (wide′ : length (encodeArea s) ≡ areaSize pages) where
   selected-in : (second : Bool)
       → part (encodeStable (record { second = second; selected = a; spare = s })) (selectorByte second * areaSize pages) (areaSize pages) ≡ encodeArea a
-  unfolding encodeStable selectorByte
+  unfolding encodeStableIn selectorByte
   selected-in true = rw one-mul (part-end (encodeArea s) (encodeArea a) (areaSize pages) (areaSize pages) wide′ wide)
   selected-in false = rw zero-mul (part-front (encodeArea a) (encodeArea s) (areaSize pages) wide)
 
   selected-spliced : (second : Bool) (b : Area) → length (encodeArea b) ≡ areaSize pages
       → splice (encodeStable (record { second = second; selected = a; spare = s })) (selectorByte second * areaSize pages) (encodeArea b)
       ≡ encodeStable (record { second = second; selected = b; spare = s })
-  unfolding encodeStable selectorByte
+  unfolding encodeStableIn selectorByte
   selected-spliced true b e =
       rw one-mul (simp append-nil at (splice-at (encodeArea s) (encodeArea a) (encodeArea b) [] (areaSize pages) wide′ (wide ∙ sym e)))
   selected-spliced false b e = rw zero-mul (splice-front (encodeArea a) (encodeArea b) (encodeArea s) (wide ∙ sym e))
@@ -79,7 +79,7 @@ abbrev before : Board → List ℕ
 before x = encodeFixed x ++ (encodeAll encodeFrame (x .working .frames) ++ encodeLog (x .working .log))
 
 before-areas : (x : Board) → encodeBoard x ≡ before x ++ encodeStable (x .stable)
-unfolding encodeBoard
+unfolding encodeBoardIn
 before-areas x = simp append-assoc
 
 module _ (pages : ℕ) (x : Board) (ok : FieldsOk pages x) where
@@ -138,14 +138,14 @@ module _ (pages : ℕ) (x : Board) (ok : FieldsOk pages x) where
   pub write-selected : (f : Area → Area) → length (encodeArea (f (x .stable .selected))) ≡ areaSize pages
       → splice (encodeBoard x) (areaAt pages (selectorByte (x .stable .second))) (encodeArea (f (x .stable .selected)))
       ≡ encodeBoard (onSelected f x)
-  unfolding onSelected encodeFixed
+  unfolding onSelected encodeFixedIn
   write-selected f w =
       rw (before-areas (onSelected f x)) (area-spliced (t .second) (t .selected) (t .spare) wide-selected wide-spare refl (f (t .selected)) w)
 
   pub write-spare : (f : Area → Area) → length (encodeArea (f (x .stable .spare))) ≡ areaSize pages
       → splice (encodeBoard x) (areaAt pages (selectorByte (not (x .stable .second)))) (encodeArea (f (x .stable .spare)))
       ≡ encodeBoard (onSpare f x)
-  unfolding onSpare encodeFixed
+  unfolding onSpare encodeFixedIn
   write-spare f w =
       let e : encodeStable t ≡ encodeStable (record { second = not (t .second); selected = t .spare; spare = t .selected }) =
       sym (swapped-areas (t .second) (t .selected) (t .spare)) in
@@ -222,7 +222,7 @@ module _ (pages : ℕ) (x : Board) (ok : FieldsOk pages x) where
 
   -- "one selector": the areas stay where they are
   pub storedSelector-bytes : splice (encodeBoard x) selectorAt (selectorByte (not (x .stable .second)) ∷ []) ≡ encodeBoard (storedSelector x)
-  unfolding storedSelector encodeBoard encodeFixed
+  unfolding storedSelector encodeBoardIn encodeFixedIn
   storedSelector-bytes =
       rw (swapped-areas (t .second) (t .selected) (t .spare))
       (splice-at (stateByte (x .state) ∷ []) (selectorByte (t .second) ∷ []) (selectorByte (not (t .second)) ∷ []) _ selectorAt refl refl)
@@ -249,7 +249,7 @@ module _ (pages : ℕ) (x : Board) (ok : FieldsOk pages x) where
         (areaAt pages (selectorByte (x .stable .second)) + areaCountAt) ((length (x .stable .selected .log .records) + 1) ∷ [])
         ≡ encodeBoard (onSelected (withRecord r) x)
     withRecord-bytes =
-        let w : length (encodeRecord r) ≡ slotSize = length-encodeRecord r (v .size) in
+        let w : length (encodeRecord r) ≡ slotSize = length-encodeRecord today r (v .size) in
         let m : stored * slotSize + slotSize ≤ slotsSize = index-in slotSize slotCount stored h in
         sym
         (splice-within-twice l selectedPlace (areaSize pages) (areaSlotsAt pages + stored * slotSize) (encodeRecord r) areaCountAt ((stored + 1) ∷ [])

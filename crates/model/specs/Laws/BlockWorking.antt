@@ -15,9 +15,9 @@ use Rattle.types.specs.declared.Record.{Record}
 use Rattle.types.specs.declared.State.the-variants.{Down}
 use Rattle.model.specs.Definitions.Parts.{splice, zeros, encodeAll}
 use Rattle.model.specs.Definitions.Layout.{slotCount, noFuse, frameSize, slotSize, slotsSize, fuseSize, numberSize, sinceSize, stateAt, fuseAt, numberAt}
-use Rattle.model.specs.Definitions.Layout.{sinceAt, placeAt, volatileCountAt, framesAt, slotsAt}
+use Rattle.model.specs.Definitions.Layout.{sinceAt, placeAt, volatileCountAt, framesAt, slotsAt, today}
 use Rattle.model.specs.Definitions.Bank.{Log, Board, emptyFrame, emptyLog, withState, withNumber, withSince, withPlace, withLog, onWorking, onFrames}
-use Rattle.model.specs.Definitions.Codec.{rightByte, encodeFrame, encodeRecord, encodeLog, stateByte, encodeBoard}
+use Rattle.model.specs.Definitions.Codec.{rightByte, encodeFrame, encodeRecord, encodeLog, stateByte, encodeBoard, encodeLogIn}
 use Rattle.model.specs.Definitions.Steps.{poweredOff, withFuse, burnt, appended, recorded, movedRecord, storedRecord, restedWorking, Read, cellsWritten}
 use Rattle.model.specs.Definitions.Steps.{withBytes, accessed}
 use Rattle.model.specs.Definitions.WellFormed.{RecordOk, LogOk, FramesOk, FieldsOk}
@@ -53,7 +53,7 @@ encode-emptyFrames (f ∷ fs) =
     rw (encode-emptyFrame, encode-emptyFrames fs, zeros-append frameSize (length fs * frameSize), e)
 
 pub encode-emptyLog : encodeLog emptyLog ≡ zeros slotsSize
-unfolding encodeLog emptyLog encodeAll
+unfolding encodeLogIn emptyLog encodeAll
 encode-emptyLog = refl
 
 emptyLog-none : length (emptyLog .records) ≡ 0
@@ -80,7 +80,7 @@ slotWritten r g = record { records = g .records; rest = splice (g .rest) 0 (enco
 
 encode-slotWritten : (pages : ℕ) (r : Record) (g : Log) → LogOk pages g
     → splice (encodeLog g) (length (g .records) * slotSize) (encodeRecord r) ≡ encodeLog (slotWritten r g)
-unfolding encodeLog slotWritten
+unfolding encodeLogIn slotWritten
 encode-slotWritten pages r g ok =
     splice-append-right (encodeAll encodeRecord (g .records)) (g .rest) (length (g .records) * slotSize) 0 (encodeRecord r)
     (rw (length-encodeRecords pages (g .records) (ok .records)) (omega arith))
@@ -92,7 +92,7 @@ module _ (pages : ℕ) (x : Board) (ok : FieldsOk pages x) (kind : Kind) (bytes 
   recorded-bytes =
       let g : Log = x .working .log in
       let r : Record = noted kind bytes x in
-      let n : length (encodeRecord r) ≡ slotSize = length-encodeRecord r (v .size) in
+      let n : length (encodeRecord r) ≡ slotSize = length-encodeRecord today r (v .size) in
       let c : length (g .records) + 1 ≡ length (appended r g .records) = sym (length-append (g .records) (r ∷ [])) in
       let w : splice (encodeLog g) (length (g .records) * slotSize) (encodeRecord r) ≡ encodeLog (slotWritten r g)
       = encode-slotWritten pages r g (ok .working .log) in
@@ -130,7 +130,7 @@ unfoldable pub uncounted : Log → Log
 uncounted g = record { records = []; rest = encodeLog g }
 
 pub encode-uncounted : (g : Log) → encodeLog (uncounted g) ≡ encodeLog g
-unfolding encodeLog uncounted encodeAll
+unfolding encodeLogIn uncounted encodeAll
 encode-uncounted g = refl
 
 -- no volatile record left
@@ -249,7 +249,7 @@ poweredOff-log g y = refl
 -- the records' bytes zero, under count 0
 encode-flushed : (pages : ℕ) (g : Log) → LogOk pages g
     → splice (encodeLog (uncounted g)) 0 (zeros (length (g .records) * slotSize)) ≡ encodeLog (flushedLog (length (g .records)) g)
-unfolding encodeLog uncounted flushedLog encodeAll
+unfolding encodeLogIn uncounted flushedLog encodeAll
 encode-flushed pages g ok =
     let n : ℕ = length (g .records) in
     rw (drop-length (g .records))

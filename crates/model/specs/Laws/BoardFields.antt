@@ -21,7 +21,8 @@ use Rattle.model.specs.Definitions.Bank.{Area, Working, Stable, Board, e
 use Rattle.model.specs.Definitions.Bank.{onSpare, onFrames}
 use Rattle.model.specs.Definitions.Codec.{pageOf}
 use Rattle.model.specs.Definitions.WellFormed.{FrameOk, isGot, FieldsOk, FramesOk, AreaOk, WorkingOk, RoomOk}
-use Rattle.model.specs.Definitions.Steps.{poweredOff, burnt, recorded, withFrame, dropped, withFuse, movedRecord, storedFrame, storedHead, storedSelector}
+use Rattle.model.specs.Definitions.Steps.{poweredOff, burnt, recorded, withFrame, dropped, withFuse, movedRecord, storedFrame, storedHead}
+use Rattle.model.specs.Definitions.Steps.{storedSelector}
 use Rattle.model.specs.Definitions.Steps.{restedWorking, Access, cellsWritten, accessed, withAreaFrame, withHead}
 use Rattle.model.specs.Definitions.Replay.{loaded, used, settled}
 use Rattle.model.specs.Contracts.{Space, Recordable}
@@ -84,7 +85,8 @@ module _ {pages : ℕ} {x : Board} (ok : FieldsOk pages x) where
   unfolding recorded
   recorded-fields kind bytes v h =
       onWorking-fields (recorded kind bytes)
-      (workingOk-since (workingOk-log (ok .working) (logOk-appended (ok .working .log) (v (x .working .since) (ok .working .since)) h)) 0 (omega arith))
+      (workingOk-since (workingOk-log (ok .working) (logOk-appended (ok .working .log) (v (x .working .since) (omega (arith, ok .working .since))) h)) 0
+      (omega arith))
 
   -- ---- frames
 

@@ -17,12 +17,12 @@ use Rattle.types.specs.declared.Kind.{Kind}
 use Rattle.types.specs.declared.Kind.the-variants.{Got, Shown, Dropped}
 use Rattle.types.specs.declared.Record.{Record}
 use Rattle.model.specs.Definitions.Parts.{part, byteAt, encodeAll}
-use Rattle.model.specs.Definitions.Layout.{frameBytesAt, areaNumberAt, pageSize, entrySize, frameSize, slotSize, slotsSize, recordCountAt, slotBytesAt}
-use Rattle.model.specs.Definitions.Layout.{numberSize, sinceSize, areaSize, areaCountAt, areaFramesAt, areaSlotsAt}
+use Rattle.model.specs.Definitions.Layout.{frameBytesAt, areaNumberAt, pageSize, entrySize, frameSize, numberSize, areaCountAt, areaFramesAt}
+use Rattle.model.specs.Definitions.Layout.{areaSlotsAt, slotBytesAtIn, slotSizeIn, slotsSizeIn, areaSizeIn, Form, recordCountAt}
 use Rattle.model.specs.Definitions.Bank.{Entry, Log, Area}
 use Rattle.model.specs.Definitions.Codec.{encodeEntry, decodeEntry, rightByte, rightOf, encodeFrame, decodeFrame, mark0, mark1, pageOf, kindOf}
-use Rattle.model.specs.Definitions.Codec.{encodeRecord, decodeRecord, encodeLog, decodeLog, encodeArea, decodeFrames, decodeArea}
-use Rattle.model.specs.Definitions.WellFormed.{FrameOk, RecordOk, LogOk, FramesOk, AreaOk}
+use Rattle.model.specs.Definitions.Codec.{decodeFrames, encodeRecordIn, decodeRecordIn, encodeLogIn, decodeLogIn, encodeAreaIn, decodeAreaIn}
+use Rattle.model.specs.Definitions.WellFormed.{FrameOk, FramesOk, RecordOkIn, LogOkIn, AreaOkIn}
 use Rattle.model.specs.Laws.Lists.{each-imp}
 use Rattle.model.specs.Laws.Parts.{part-append-right, part-front, part-at, part-end, byteAt-append-right, length-encodeAll, decodeAll-encodeAll}
 use Rattle.model.specs.Laws.Parts.{decodeAll-encodeAll-all, ReadsBack}
@@ -65,20 +65,22 @@ kindOf-marks (Got GotOwn p) = refl
 kindOf-marks (Shown p) = refl
 kindOf-marks (Dropped p) = refl
 
-pub length-encodeRecord : (r : Record) → length (r .bytes) ≡ pageSize → length (encodeRecord r) ≡ slotSize
-unfolding encodeRecord
-length-encodeRecord r e = rw (length-append (bytesOf sinceSize (r .count)) (r .bytes), length-bytesOf, e)
+pub length-encodeRecord : (form : Form) (r : Record) → length (r .bytes) ≡ pageSize → length (encodeRecordIn form r) ≡ slotSizeIn form
+unfolding encodeRecordIn
+length-encodeRecord form r e = rw (length-append (bytesOf (form .sinceWidth) (r .count)) (r .bytes), length-bytesOf, e) (omega arith)
 
-pub decode-encodeRecord : (pages : ℕ) (r : Record) → RecordOk pages r → decodeRecord (encodeRecord r) ≡ r
-unfolding decodeRecord encodeRecord byteAt
-decode-encodeRecord pages r ok =
+pub decode-encodeRecord : {form : Form} (pages : ℕ) (r : Record) → RecordOkIn form pages r → decodeRecordIn form (encodeRecordIn form r) ≡ r
+unfolding decodeRecordIn encodeRecordIn byteAt
+decode-encodeRecord {form} pages r ok =
     let head : List ℕ = mark0 (r .kind) ∷ mark1 (r .kind) ∷ pageOf (r .kind) ∷ 0 ∷ [] in
-    let count : List ℕ = bytesOf sinceSize (r .count) in
-    let width : length count ≡ sinceSize = length-bytesOf sinceSize (r .count) in
-    let c : part (encodeRecord r) recordCountAt sinceSize ≡ count = part-at head count (r .bytes) recordCountAt sinceSize refl width in
-    let n : decodeRecord (encodeRecord r) .count ≡ r .count = rw c (numberOf-bytesOf sinceSize (r .count) (omega (arith, ok .count))) in
-    let b : decodeRecord (encodeRecord r) .bytes ≡ r .bytes
-    = part-append-right head (count ++ r .bytes) slotBytesAt sinceSize pageSize refl ∙ part-end count (r .bytes) sinceSize pageSize width (ok .size) in
+    let count : List ℕ = bytesOf (form .sinceWidth) (r .count) in
+    let width : length count ≡ form .sinceWidth = length-bytesOf (form .sinceWidth) (r .count) in
+    let c : part (encodeRecordIn form r) recordCountAt (form .sinceWidth) ≡ count
+    = part-at head count (r .bytes) recordCountAt (form .sinceWidth) refl width in
+    let n : decodeRecordIn form (encodeRecordIn form r) .count ≡ r .count = rw c (numberOf-bytesOf (form .sinceWidth) (r .count) (omega (arith, ok .count))) in
+    let b : decodeRecordIn form (encodeRecordIn form r) .bytes ≡ r .bytes
+    = part-append-right head (count ++ r .bytes) (slotBytesAtIn form) (form .sinceWidth) pageSize refl
+    ∙ part-end count (r .bytes) (form .sinceWidth) pageSize width (ok .size) in
     λ i. record { count = n i; kind = kindOf-marks (r .kind) i; bytes = b i }
 
 -- ---- frames side by side
@@ -97,26 +99,29 @@ decode-encodeFrames pages fs ok = decodeAll-encodeAll-all encodeFrame decodeFram
 
 -- ---- a log
 
-record-back : (pages : ℕ) (r : Record) → RecordOk pages r → ReadsBack encodeRecord decodeRecord slotSize r
-record-back pages r ok = (length-encodeRecord r (ok .size), decode-encodeRecord pages r ok)
+record-back : {form : Form} (pages : ℕ) (r : Record) → RecordOkIn form pages r → ReadsBack (encodeRecordIn form) (decodeRecordIn form) (slotSizeIn form) r
+record-back {form} pages r ok = (length-encodeRecord form r (ok .size), decode-encodeRecord pages r ok)
 
-pub length-encodeRecords : (pages : ℕ) (rs : List Record) → Each (RecordOk pages) rs → length (encodeAll encodeRecord rs) ≡ length rs * slotSize
-length-encodeRecords pages rs ok = length-encodeAll encodeRecord slotSize rs (each-imp rs (λ r h. length-encodeRecord r (h .size)) ok)
+pub length-encodeRecords : {form : Form} (pages : ℕ) (rs : List Record) → Each (RecordOkIn form pages) rs
+    → length (encodeAll (encodeRecordIn form) rs) ≡ length rs * slotSizeIn form
+length-encodeRecords {form} pages rs ok =
+    length-encodeAll (encodeRecordIn form) (slotSizeIn form) rs (each-imp rs (λ r h. length-encodeRecord form r (h .size)) ok)
 
-pub length-encodeLog : (pages : ℕ) (l : Log) → LogOk pages l → length (encodeLog l) ≡ slotsSize
-unfolding encodeLog
-length-encodeLog pages l ok =
-    rw (length-append (encodeAll encodeRecord (l .records)) (l .rest), length-encodeRecords pages (l .records) (ok .records)) (ok .slots)
+pub length-encodeLog : {form : Form} (pages : ℕ) (l : Log) → LogOkIn form pages l → length (encodeLogIn form l) ≡ slotsSizeIn form
+unfolding encodeLogIn
+length-encodeLog {form} pages l ok =
+    rw (length-append (encodeAll (encodeRecordIn form) (l .records)) (l .rest), length-encodeRecords pages (l .records) (ok .records)) (ok .slots)
 
-pub decode-encodeLog : (pages : ℕ) (l : Log) → LogOk pages l → decodeLog (length (l .records)) (encodeLog l) ≡ l
-unfolding decodeLog encodeLog
-decode-encodeLog pages l ok =
+pub decode-encodeLog : {form : Form} (pages : ℕ) (l : Log) → LogOkIn form pages l → decodeLogIn form (length (l .records)) (encodeLogIn form l) ≡ l
+unfolding decodeLogIn encodeLogIn
+decode-encodeLog {form} pages l ok =
     let n : ℕ = length (l .records) in
-    let bytes : List ℕ = encodeAll encodeRecord (l .records) in
-    let a : decodeLog n (encodeLog l) .records ≡ l .records
-    = decodeAll-encodeAll encodeRecord decodeRecord slotSize n (l .records) (l .rest) (each-imp (l .records) (record-back pages) (ok .records)) refl in
-    let b : decodeLog n (encodeLog l) .rest ≡ l .rest
-    = drop-at bytes (l .rest) (n * slotSize) (length-encodeRecords pages (l .records) (ok .records)) in
+    let bytes : List ℕ = encodeAll (encodeRecordIn form) (l .records) in
+    let a : decodeLogIn form n (encodeLogIn form l) .records ≡ l .records
+    = decodeAll-encodeAll (encodeRecordIn form) (decodeRecordIn form) (slotSizeIn form) n (l .records) (l .rest)
+    (each-imp (l .records) (record-back pages) (ok .records)) refl in
+    let b : decodeLogIn form n (encodeLogIn form l) .rest ≡ l .rest
+    = drop-at bytes (l .rest) (n * slotSizeIn form) (length-encodeRecords pages (l .records) (ok .records)) in
     λ i. record { records = a i; rest = b i }
 
 -- ---- an area: where its fields stand
@@ -128,46 +133,46 @@ areaHead a = bytesOf numberSize (a .number) ++ (length (a .log .records) ∷ [])
 pub length-areaHead : (a : Area) → length (areaHead a) ≡ areaFramesAt
 length-areaHead a = rw (length-append (bytesOf numberSize (a .number)) (length (a .log .records) ∷ []), length-bytesOf)
 
-pub encodeArea-split : (a : Area) → encodeArea a ≡ areaHead a ++ (encodeAll encodeFrame (a .frames) ++ encodeLog (a .log))
-unfolding encodeArea
-encodeArea-split a = rw append-assoc
+pub encodeArea-split : (form : Form) (a : Area) → encodeAreaIn form a ≡ areaHead a ++ (encodeAll encodeFrame (a .frames) ++ encodeLogIn form (a .log))
+unfolding encodeAreaIn
+encodeArea-split form a = rw append-assoc
 
-module _ (pages : ℕ) (a : Area) (ok : AreaOk pages a) where
-  pub length-encodeArea : length (encodeArea a) ≡ areaSize pages
-  unfolding encodeArea
+module _ {form : Form} (pages : ℕ) (a : Area) (ok : AreaOkIn form pages a) where
+  pub length-encodeArea : length (encodeAreaIn form a) ≡ areaSizeIn form pages
+  unfolding encodeAreaIn
   length-encodeArea =
       simp (length-append, length-bytesOf, length-encodeFrames pages (a .frames) (ok .frames), length-encodeLog pages (a .log) (ok .log)) (omega arith)
 
-  pub area-number : part (encodeArea a) areaNumberAt numberSize ≡ bytesOf numberSize (a .number)
-  unfolding encodeArea
+  pub area-number : part (encodeAreaIn form a) areaNumberAt numberSize ≡ bytesOf numberSize (a .number)
+  unfolding encodeAreaIn
   area-number = part-front (bytesOf numberSize (a .number)) _ numberSize (length-bytesOf numberSize (a .number))
 
-  pub area-count : byteAt (encodeArea a) areaCountAt ≡ length (a .log .records)
-  unfolding encodeArea byteAt
+  pub area-count : byteAt (encodeAreaIn form a) areaCountAt ≡ length (a .log .records)
+  unfolding encodeAreaIn byteAt
   area-count =
       byteAt-append-right (bytesOf numberSize (a .number))
-      (length (a .log .records) ∷ (encodeAll encodeFrame (a .frames) ++ encodeLog (a .log)))
+      (length (a .log .records) ∷ (encodeAll encodeFrame (a .frames) ++ encodeLogIn form (a .log)))
       areaCountAt 0 (rw length-bytesOf)
 
-  pub area-frames : part (encodeArea a) areaFramesAt (pages * frameSize) ≡ encodeAll encodeFrame (a .frames)
+  pub area-frames : part (encodeAreaIn form a) areaFramesAt (pages * frameSize) ≡ encodeAll encodeFrame (a .frames)
   area-frames =
-      rw (encodeArea-split a)
-      (part-at (areaHead a) (encodeAll encodeFrame (a .frames)) (encodeLog (a .log)) areaFramesAt (pages * frameSize)
+      rw (encodeArea-split form a)
+      (part-at (areaHead a) (encodeAll encodeFrame (a .frames)) (encodeLogIn form (a .log)) areaFramesAt (pages * frameSize)
       (length-areaHead a) (length-encodeFrames pages (a .frames) (ok .frames)))
 
-  pub area-slots : part (encodeArea a) (areaSlotsAt pages) slotsSize ≡ encodeLog (a .log)
+  pub area-slots : part (encodeAreaIn form a) (areaSlotsAt pages) (slotsSizeIn form) ≡ encodeLogIn form (a .log)
   area-slots =
       let frames : List ℕ = encodeAll encodeFrame (a .frames) in
-      rw (encodeArea-split a)
-      (part-append-right (areaHead a) (frames ++ encodeLog (a .log)) (areaSlotsAt pages) (pages * frameSize) slotsSize (rw (length-areaHead a))
-      ∙ part-end frames (encodeLog (a .log)) (pages * frameSize) slotsSize
+      rw (encodeArea-split form a)
+      (part-append-right (areaHead a) (frames ++ encodeLogIn form (a .log)) (areaSlotsAt pages) (pages * frameSize) (slotsSizeIn form) (rw (length-areaHead a))
+      ∙ part-end frames (encodeLogIn form (a .log)) (pages * frameSize) (slotsSizeIn form)
       (length-encodeFrames pages (a .frames) (ok .frames)) (length-encodeLog pages (a .log) (ok .log)))
 
-  pub decode-encodeArea : decodeArea pages (encodeArea a) ≡ a
-  unfolding decodeArea
+  pub decode-encodeArea : decodeAreaIn form pages (encodeAreaIn form a) ≡ a
+  unfolding decodeAreaIn
   decode-encodeArea =
-      let n : decodeArea pages (encodeArea a) .number ≡ a .number
+      let n : decodeAreaIn form pages (encodeAreaIn form a) .number ≡ a .number
       = rw area-number (numberOf-bytesOf numberSize (a .number) (omega (arith, ok .number))) in
-      let f : decodeArea pages (encodeArea a) .frames ≡ a .frames = rw area-frames (decode-encodeFrames pages (a .frames) (ok .frames)) in
-      let l : decodeArea pages (encodeArea a) .log ≡ a .log = rw (area-count, area-slots) (decode-encodeLog pages (a .log) (ok .log)) in
+      let f : decodeAreaIn form pages (encodeAreaIn form a) .frames ≡ a .frames = rw area-frames (decode-encodeFrames pages (a .frames) (ok .frames)) in
+      let l : decodeAreaIn form pages (encodeAreaIn form a) .log ≡ a .log = rw (area-count, area-slots) (decode-encodeLog pages (a .log) (ok .log)) in
       λ i. record { number = n i; frames = f i; log = l i }

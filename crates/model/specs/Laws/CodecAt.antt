@@ -10,10 +10,10 @@ use Rattle.words.specs.Bytes.{Each}
 use Rattle.types.specs.declared.Frame.{Frame}
 use Rattle.types.specs.declared.Record.{Record}
 use Rattle.model.specs.Definitions.Parts.{part, splice, encodeAll}
-use Rattle.model.specs.Definitions.Layout.{slotCount, slotsSize, frameSize, slotSize, entrySize, blockSize, headSize, blocksAt}
+use Rattle.model.specs.Definitions.Layout.{slotCount, slotsSize, frameSize, slotSize, entrySize, blockSize, headSize, blocksAt, today}
 use Rattle.model.specs.Definitions.Bank.{Entry, Log, Board, Bank, emptyFrame, noBoard, boardAt, entryAt, frameAt, onBoard, onEntry, noEntry}
 use Rattle.model.specs.Definitions.Codec.{encodeEntry, encodeFrame, decodeFrame, encodeRecord, decodeRecord, encodeLog, decodeLog, decodeFrames}
-use Rattle.model.specs.Definitions.Codec.{encodeBoard, encode}
+use Rattle.model.specs.Definitions.Codec.{encodeBoard, encode, encodeLogIn, decodeLogIn, encodeIn}
 use Rattle.model.specs.Definitions.WellFormed.{FrameOk, RecordOk, FramesOk}
 use Rattle.model.specs.Definitions.Steps.{appended}
 use Rattle.model.specs.Laws.Lists.{each-imp, update-set, length-update}
@@ -49,22 +49,22 @@ encode-setFrame pages fs p f all ok h =
 
 pub record-read : (count : ℕ) (l : List ℕ) (i : ℕ) (d : Record) → i < count
     → getD (decodeLog count l .records) i d ≡ decodeRecord (part l (i * slotSize) slotSize)
-unfolding decodeLog
+unfolding decodeLogIn
 record-read count l i d h = getD-decodeAll decodeRecord slotSize count l i d h
 
 pub record-read-at : (count : ℕ) (l : List ℕ) (a i : ℕ) (d : Record) → count ≤ slotCount → i < count
     → getD (decodeLog count (part l a slotsSize) .records) i d ≡ decodeRecord (part l (a + i * slotSize) slotSize)
 record-read-at count l a i d n h =
-    record-read count (part l a slotsSize) i d h ∙ ap decodeRecord (part-part l a slotsSize (i * slotSize) slotSize (slot-in count i n h))
+    record-read count (part l a slotsSize) i d h ∙ ap decodeRecord (part-part l a slotsSize (i * slotSize) slotSize (slot-in today count i n h))
 
 -- "of a record at any slot": a record written into any slot below the count reads back, the other slots are as they were
 pub record-back : (pages count : ℕ) (l : List ℕ) (i : ℕ) (r : Record) → RecordOk pages r → i < count → count * slotSize ≤ length l
     → decodeLog count (splice l (i * slotSize) (encodeRecord r))
     ≡ record { records = set (decodeLog count l .records) i r; rest = decodeLog count l .rest }
-unfolding decodeLog
+unfolding decodeLogIn
 record-back pages count l i r ok h k =
     let v : List ℕ = encodeRecord r in
-    let e : length v ≡ slotSize = length-encodeRecord r (ok .size) in
+    let e : length v ≡ slotSize = length-encodeRecord today r (ok .size) in
     let m : i * slotSize + slotSize ≤ count * slotSize = index-in slotSize count i h in
     let a : decodeLog count (splice l (i * slotSize) v) .records ≡ set (decodeLog count l .records) i r
     = decodeAll-write encodeRecord decodeRecord slotSize count l i r (e, decode-encodeRecord pages r ok) h k in
@@ -75,10 +75,10 @@ record-back pages count l i r ok h k =
 -- a record written into the slot at the count, and the count raised: it is the last one
 pub decode-appended : (pages count : ℕ) (l : List ℕ) (r : Record) → RecordOk pages r → count * slotSize ≤ length l
     → decodeLog (count + 1) (splice l (count * slotSize) (encodeRecord r)) ≡ appended r (decodeLog count l)
-unfolding decodeLog appended
+unfolding decodeLogIn appended
 decode-appended pages count l r ok k =
     let v : List ℕ = encodeRecord r in
-    let e : length v ≡ slotSize = length-encodeRecord r (ok .size) in
+    let e : length v ≡ slotSize = length-encodeRecord today r (ok .size) in
     let m : (count + 1) * slotSize ≡ count * slotSize + slotSize = omega arith in
     let a : decodeLog (count + 1) (splice l (count * slotSize) v) .records ≡ decodeLog count l .records ++ (r ∷ [])
     = rw (decodeAll-snoc decodeRecord slotSize count l v e k, decode-encodeRecord pages r ok) in
@@ -89,7 +89,7 @@ decode-appended pages count l r ok k =
 -- a record appended is one splice, at the count
 pub encode-appended : (pages : ℕ) (r : Record) (l : Log) → RecordOk pages r → Each (RecordOk pages) (l .records)
     → encodeLog (appended r l) ≡ splice (encodeLog l) (length (l .records) * slotSize) (encodeRecord r)
-unfolding encodeLog appended
+unfolding encodeLogIn appended
 encode-appended pages r l ok all =
     let rs : List ℕ = encodeAll encodeRecord (l .records) in
     let v : List ℕ = encodeRecord r in
@@ -98,7 +98,7 @@ encode-appended pages r l ok all =
       encodeAll-snoc encodeRecord slotSize (l .records) r,
       append-assoc rs v (drop slotSize (l .rest)),
       splice-append-right rs (l .rest) (length (l .records) * slotSize) 0 v (omega arith),
-      splice-zero (l .rest) v slotSize (length-encodeRecord r (ok .size)),
+      splice-zero (l .rest) v slotSize (length-encodeRecord today r (ok .size)),
     )
 
 -- ---- entries and blocks: any page, any board
@@ -106,7 +106,7 @@ encode-appended pages r l ok all =
 -- one entry changed is one splice
 pub encode-onEntry : (k : Bank) (p : ℕ) (f : Entry → Entry) → p < length (k .directory)
     → encode (onEntry p f k) ≡ splice (encode k) (headSize + p * entrySize) (encodeEntry (f (entryAt k p)))
-unfolding encode onEntry entryAt
+unfolding encodeIn onEntry entryAt
 encode-onEntry k p f h =
     let d : Entry = noEntry in
     let es : List Entry = k .directory in
@@ -127,7 +127,7 @@ pub encode-onBoard : (k : Bank) (b : ℕ) (f : Board → Board) → b < length (
     → Each (Wide encodeBoard (blockSize (length (k .directory)))) (k .boards)
     → length (encodeBoard (f (boardAt k b))) ≡ blockSize (length (k .directory))
     → encode (onBoard b f k) ≡ splice (encode k) (blocksAt (length (k .directory)) + b * blockSize (length (k .directory))) (encodeBoard (f (boardAt k b)))
-unfolding encode onBoard boardAt
+unfolding encodeIn onBoard boardAt
 encode-onBoard k b f h all e =
     let pages : ℕ = length (k .directory) in
     let x : Board = f (getD (k .boards) b noBoard) in

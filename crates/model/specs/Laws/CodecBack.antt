@@ -16,13 +16,13 @@ use Rattle.types.specs.declared.Kind.{Kind}
 use Rattle.types.specs.declared.State.the-variants.{Replaying}
 use Rattle.model.specs.Definitions.Parts.{part, byteAt, encodeAll}
 use Rattle.model.specs.Definitions.Layout.{rightAt, frameBytesAt, mark0At, mark1At, areaNumberAt, letterG, letterC, letterO, letterS, letterH, letterD}
-use Rattle.model.specs.Definitions.Layout.{letterR, pageSize, slotCount, frameSize, slotSize, slotsSize, slotPageAt, slotZeroAt, recordCountAt}
-use Rattle.model.specs.Definitions.Layout.{slotBytesAt, fuseSize, numberSize, sinceSize, stateAt, selectorAt, fuseAt, numberAt, sinceAt, placeAt}
-use Rattle.model.specs.Definitions.Layout.{volatileCountAt, framesAt, slotsAt, areaAt, areaSize, areaCountAt, areaFramesAt, areaSlotsAt, blockSize}
+use Rattle.model.specs.Definitions.Layout.{letterR, pageSize, slotCount, frameSize, slotPageAt, slotZeroAt, fuseSize, numberSize, stateAt, selectorAt}
+use Rattle.model.specs.Definitions.Layout.{fuseAt, numberAt, sinceAt, areaCountAt, areaFramesAt, areaSlotsAt, slotBytesAtIn, slotSizeIn, slotsSizeIn}
+use Rattle.model.specs.Definitions.Layout.{areaSizeIn, placeAtIn, volatileCountAtIn, framesAtIn, slotsAtIn, areaAtIn, blockSizeIn, Form, recordCountAt}
 use Rattle.model.specs.Definitions.Bank.{Area}
-use Rattle.model.specs.Definitions.Codec.{rightByte, rightOf, encodeFrame, decodeFrame, mark0, mark1, pageOf, kindOf, encodeRecord, decodeRecord}
-use Rattle.model.specs.Definitions.Codec.{encodeLog, decodeLog, encodeArea, decodeFrames, decodeArea, stateByte, stateOf, selectorByte, encodeFixed}
-use Rattle.model.specs.Definitions.Codec.{encodeStable, decodeStable, encodeBoard, decodeBoard}
+use Rattle.model.specs.Definitions.Codec.{rightByte, rightOf, encodeFrame, decodeFrame, mark0, mark1, pageOf, kindOf, decodeFrames, stateByte, stateOf}
+use Rattle.model.specs.Definitions.Codec.{selectorByte, decodeStable, encodeRecordIn, decodeRecordIn, encodeLogIn, decodeLogIn, encodeAreaIn}
+use Rattle.model.specs.Definitions.Codec.{decodeAreaIn, encodeFixedIn, encodeStableIn, encodeBoardIn, decodeBoardIn}
 use Rattle.model.specs.Definitions.Check.{frameValid, gotMark, bareMark, markFits, slotValid}
 use Rattle.model.specs.Laws.Logic.{clash, cases, byBool, and-left, and-right}
 use Rattle.model.specs.Laws.Parts.{each-part, length-part, part-rest, part-last, byte-rest, index-in, encodeAll-decodeAll, encodeAll-decodeAll-all}
@@ -90,9 +90,10 @@ marks-kindOf m0 m1 p blank v =
     (λ e. byTest m1 letterH (λ f. (cc, cc)) (λ u. clash h (cc)))
     (λ u. byTest m0 letterD (λ e. byTest m1 letterR (λ f. (cc, cc)) (λ w. clash h (cc))) (λ w. clash h (cc))))
 
-pub encode-decodeRecord : (pages : ℕ) (l : List ℕ) → slotValid pages l ≡ true → Bytes l → length l ≡ slotSize → encodeRecord (decodeRecord l) ≡ l
-unfolding encodeRecord decodeRecord slotValid
-encode-decodeRecord pages l v b e =
+pub encode-decodeRecord : (form : Form) (pages : ℕ) (l : List ℕ) → slotValid form pages l ≡ true → Bytes l → length l ≡ slotSizeIn form
+    → encodeRecordIn form (decodeRecordIn form l) ≡ l
+unfolding encodeRecordIn decodeRecordIn slotValid
+encode-decodeRecord form pages l v b e =
     let k : Kind = kindOf (byteAt l mark0At) (byteAt l mark1At) (byteAt l slotPageAt) in
     let m : (mark0 k ≡ byteAt l mark0At) × (mark1 k ≡ byteAt l mark1At)
     = marks-kindOf (byteAt l mark0At) (byteAt l mark1At) (byteAt l slotPageAt) _ (and-left _ _ v) in
@@ -102,9 +103,9 @@ encode-decodeRecord pages l v b e =
       m .0,
       m .1,
       pageOf-kindOf,
-      bytesOf-part l recordCountAt sinceSize b (omega arith),
-      part-last l slotBytesAt pageSize e,
-      part-rest l recordCountAt sinceSize slotBytesAt refl,
+      bytesOf-part l recordCountAt (form .sinceWidth) b (omega arith),
+      part-last l (slotBytesAtIn form) pageSize e,
+      part-rest l recordCountAt (form .sinceWidth) (slotBytesAtIn form) refl,
       t,
       byte-rest l slotPageAt (omega arith),
       byte-rest l mark1At (omega arith),
@@ -114,65 +115,68 @@ encode-decodeRecord pages l v b e =
 -- ---- a log
 
 -- 32 slots of which the first `count` are records
-pub record LogPasses (pages count : ℕ) (l : List ℕ) : Type 0 where
+pub record LogPasses (form : Form) (pages count : ℕ) (l : List ℕ) : Type 0 where
   pub few : count ≤ slotCount
-  pub slots : (i : ℕ) → i < count → slotValid pages (part l (i * slotSize) slotSize) ≡ true
+  pub slots : (i : ℕ) → i < count → slotValid form pages (part l (i * slotSizeIn form) (slotSizeIn form)) ≡ true
 
 -- a slot below the count is inside
-pub slot-in : (count i : ℕ) → count ≤ slotCount → i < count → i * slotSize + slotSize ≤ slotsSize
-slot-in count i n h = index-in slotSize slotCount i (omega arith)
+pub slot-in : (form : Form) (count i : ℕ) → count ≤ slotCount → i < count → i * slotSizeIn form + slotSizeIn form ≤ slotsSizeIn form
+slot-in form count i n h = index-in (slotSizeIn form) slotCount i (omega arith)
 
-pub encode-decodeLog : (pages count : ℕ) (l : List ℕ) → LogPasses pages count l → Bytes l → length l ≡ slotsSize
-    → encodeLog (decodeLog count l) ≡ l
-unfolding encodeLog decodeLog
-encode-decodeLog pages count l v b e =
-    rw (encodeAll-decodeAll encodeRecord decodeRecord slotSize count l
+pub encode-decodeLog : {form : Form} (pages count : ℕ) (l : List ℕ) → LogPasses form pages count l → Bytes l → length l ≡ slotsSizeIn form
+    → encodeLogIn form (decodeLogIn form count l) ≡ l
+unfolding encodeLogIn decodeLogIn
+encode-decodeLog {form} pages count l v b e =
+    rw (encodeAll-decodeAll (encodeRecordIn form) (decodeRecordIn form) (slotSizeIn form) count l
     (λ i h.
-    let m : i * slotSize + slotSize ≤ slotsSize = slot-in count i (v .few) h in
-    encode-decodeRecord pages (part l (i * slotSize) slotSize) (v .slots i h)
-    (each-part l (i * slotSize) slotSize b) (length-part l (i * slotSize) slotSize (omega arith))))
-    (take-append-drop (count * slotSize) l)
+    let m : i * slotSizeIn form + slotSizeIn form ≤ slotsSizeIn form = slot-in form count i (v .few) h in
+    encode-decodeRecord form pages (part l (i * slotSizeIn form) (slotSizeIn form)) (v .slots i h)
+    (each-part l (i * slotSizeIn form) (slotSizeIn form) b) (length-part l (i * slotSizeIn form) (slotSizeIn form) (omega arith))))
+    (take-append-drop (count * slotSizeIn form) l)
 
 -- ---- an area
 
-pub length-decodeLog : (count : ℕ) (l : List ℕ) → length (decodeLog count l .records) ≡ count
-unfolding decodeLog
-length-decodeLog count l = length-decodeAll decodeRecord slotSize count l
+pub length-decodeLog : (form : Form) (count : ℕ) (l : List ℕ) → length (decodeLogIn form count l .records) ≡ count
+unfolding decodeLogIn
+length-decodeLog form count l = length-decodeAll (decodeRecordIn form) (slotSizeIn form) count l
 
-pub record AreaPasses (pages : ℕ) (l : List ℕ) : Type 0 where
+pub record AreaPasses (form : Form) (pages : ℕ) (l : List ℕ) : Type 0 where
   pub frames : FramesPass pages (part l areaFramesAt (pages * frameSize))
-  pub log : LogPasses pages (byteAt l areaCountAt) (part l (areaSlotsAt pages) slotsSize)
+  pub log : LogPasses form pages (byteAt l areaCountAt) (part l (areaSlotsAt pages) (slotsSizeIn form))
 
 -- frames, and a log, read at any place of a longer list
 pub frames-part : (pages : ℕ) (l : List ℕ) (a : ℕ) → FramesPass pages (part l a (pages * frameSize)) → a + pages * frameSize ≤ length l
     → encodeAll encodeFrame (decodeFrames pages (part l a (pages * frameSize))) ≡ part l a (pages * frameSize)
 frames-part pages l a v h = encode-decodeFrames pages (part l a (pages * frameSize)) v (length-part l a (pages * frameSize) h)
 
-pub log-part : (pages count : ℕ) (l : List ℕ) (a : ℕ) → LogPasses pages count (part l a slotsSize) → Bytes l → a + slotsSize ≤ length l
-    → encodeLog (decodeLog count (part l a slotsSize)) ≡ part l a slotsSize
-log-part pages count l a v b h = encode-decodeLog pages count (part l a slotsSize) v (each-part l a slotsSize b) (length-part l a slotsSize h)
+pub log-part : {form : Form} (pages count : ℕ) (l : List ℕ) (a : ℕ) → LogPasses form pages count (part l a (slotsSizeIn form)) → Bytes l
+    → a + slotsSizeIn form ≤ length l
+    → encodeLogIn form (decodeLogIn form count (part l a (slotsSizeIn form))) ≡ part l a (slotsSizeIn form)
+log-part {form} pages count l a v b h =
+    encode-decodeLog pages count (part l a (slotsSizeIn form)) v (each-part l a (slotsSizeIn form) b) (length-part l a (slotsSizeIn form) h)
 
-pub encode-decodeArea : (pages : ℕ) (l : List ℕ) → AreaPasses pages l → Bytes l → length l ≡ areaSize pages
-    → encodeArea (decodeArea pages l) ≡ l
-unfolding encodeArea decodeArea
-encode-decodeArea pages l v b e =
+pub encode-decodeArea : {form : Form} (pages : ℕ) (l : List ℕ) → AreaPasses form pages l → Bytes l → length l ≡ areaSizeIn form pages
+    → encodeAreaIn form (decodeAreaIn form pages l) ≡ l
+unfolding encodeAreaIn decodeAreaIn
+encode-decodeArea {form} pages l v b e =
     rw (
       bytesOf-part l areaNumberAt numberSize b (omega arith),
-      length-decodeLog (byteAt l areaCountAt) (part l (areaSlotsAt pages) slotsSize),
+      length-decodeLog form (byteAt l areaCountAt) (part l (areaSlotsAt pages) (slotsSizeIn form)),
       frames-part pages l areaFramesAt (v .frames) (omega arith),
       log-part pages (byteAt l areaCountAt) l (areaSlotsAt pages) (v .log) b (omega arith),
     )
     (rw (
-      part-last l (areaSlotsAt pages) slotsSize e,
+      part-last l (areaSlotsAt pages) (slotsSizeIn form) e,
       part-rest l areaFramesAt (pages * frameSize) (areaSlotsAt pages) refl,
       byte-rest l areaCountAt (omega arith),
     )
     (part-rest l areaNumberAt numberSize areaCountAt refl))
 
-pub area-part : (pages : ℕ) (l : List ℕ) (a : ℕ) → AreaPasses pages (part l a (areaSize pages)) → Bytes l → a + areaSize pages ≤ length l
-    → encodeArea (decodeArea pages (part l a (areaSize pages))) ≡ part l a (areaSize pages)
-area-part pages l a v b h =
-    encode-decodeArea pages (part l a (areaSize pages)) v (each-part l a (areaSize pages) b) (length-part l a (areaSize pages) h)
+pub area-part : {form : Form} (pages : ℕ) (l : List ℕ) (a : ℕ) → AreaPasses form pages (part l a (areaSizeIn form pages)) → Bytes l
+    → a + areaSizeIn form pages ≤ length l
+    → encodeAreaIn form (decodeAreaIn form pages (part l a (areaSizeIn form pages))) ≡ part l a (areaSizeIn form pages)
+area-part {form} pages l a v b h =
+    encode-decodeArea pages (part l a (areaSizeIn form pages)) v (each-part l a (areaSizeIn form pages) b) (length-part l a (areaSizeIn form pages) h)
 
 -- ---- a block
 
@@ -193,74 +197,80 @@ unfolding decodeStable
 second-decodeStable true a0 a1 = refl
 second-decodeStable false a0 a1 = refl
 
-pub encode-decodeStable : (b : Bool) (a0 a1 : Area) → encodeStable (decodeStable b a0 a1) ≡ encodeArea a0 ++ encodeArea a1
-unfolding encodeStable decodeStable
-encode-decodeStable true a0 a1 = refl
-encode-decodeStable false a0 a1 = refl
+pub encode-decodeStable : (form : Form) (b : Bool) (a0 a1 : Area) → encodeStableIn form (decodeStable b a0 a1) ≡ encodeAreaIn form a0 ++ encodeAreaIn form a1
+unfolding encodeStableIn decodeStable
+encode-decodeStable form true a0 a1 = refl
+encode-decodeStable form false a0 a1 = refl
 
 -- what the test of a block says of its parts
-pub record Readable (pages : ℕ) (l : List ℕ) : Type 0 where
+pub record Readable (form : Form) (pages : ℕ) (l : List ℕ) : Type 0 where
   pub state : byteAt l stateAt ≤ stateByte Replaying
   pub selector : byteAt l selectorAt ≤ selectorByte true
-  pub frames : FramesPass pages (part l framesAt (pages * frameSize))
-  pub log : LogPasses pages (byteAt l volatileCountAt) (part l (slotsAt pages) slotsSize)
-  pub area0 : AreaPasses pages (part l (areaAt pages 0) (areaSize pages))
-  pub area1 : AreaPasses pages (part l (areaAt pages 1) (areaSize pages))
+  pub frames : FramesPass pages (part l (framesAtIn form) (pages * frameSize))
+  pub log : LogPasses form pages (byteAt l (volatileCountAtIn form)) (part l (slotsAtIn form pages) (slotsSizeIn form))
+  pub area0 : AreaPasses form pages (part l (areaAtIn form pages 0) (areaSizeIn form pages))
+  pub area1 : AreaPasses form pages (part l (areaAtIn form pages 1) (areaSizeIn form pages))
 
 -- five pieces and what follows them
 regroup : (s f n c p r : List ℕ) → (s ++ (f ++ (n ++ (c ++ p)))) ++ r ≡ s ++ (f ++ (n ++ (c ++ (p ++ r))))
 regroup s f n c p r = simp append-assoc
 
 -- the fixed fields, then the rest
-fixed-back : (pages : ℕ) (l : List ℕ) → Readable pages l → Bytes l → framesAt ≤ length l → encodeFixed (decodeBoard pages l) ++ drop framesAt l ≡ l
-unfolding encodeFixed decodeBoard
-fixed-back pages l v b h =
-    let a0 : Area = decodeArea pages (part l (areaAt pages 0) (areaSize pages)) in
-    let a1 : Area = decodeArea pages (part l (areaAt pages 1) (areaSize pages)) in
+fixed-back : {form : Form} (pages : ℕ) (l : List ℕ) → Readable form pages l → Bytes l → framesAtIn form ≤ length l
+    → encodeFixedIn form (decodeBoardIn form pages l) ++ drop (framesAtIn form) l ≡ l
+unfolding encodeFixedIn decodeBoardIn
+fixed-back {form} pages l v b h =
+    let a0 : Area = decodeAreaIn form pages (part l (areaAtIn form pages 0) (areaSizeIn form pages)) in
+    let a1 : Area = decodeAreaIn form pages (part l (areaAtIn form pages 1) (areaSizeIn form pages)) in
     rw (
       stateByte-stateOf (byteAt l stateAt) (v .state),
       second-decodeStable (eqb (byteAt l selectorAt) (selectorByte true)) a0 a1,
       selectorByte-eqb (byteAt l selectorAt) (v .selector),
       bytesOf-part l fuseAt fuseSize b (omega arith),
       bytesOf-part l numberAt numberSize b (omega arith),
-      bytesOf-part l sinceAt sinceSize b (omega arith),
-      length-decodeLog (byteAt l volatileCountAt) (part l (slotsAt pages) slotsSize),
+      bytesOf-part l sinceAt (form .sinceWidth) b (omega arith),
+      length-decodeLog form (byteAt l (volatileCountAtIn form)) (part l (slotsAtIn form pages) (slotsSizeIn form)),
     )
-    (regroup (byteAt l stateAt ∷ byteAt l selectorAt ∷ []) (part l fuseAt fuseSize) (part l numberAt numberSize) (part l sinceAt sinceSize)
-    (byteAt l placeAt ∷ byteAt l volatileCountAt ∷ []) (drop framesAt l)
+    (regroup (byteAt l stateAt ∷ byteAt l selectorAt ∷ []) (part l fuseAt fuseSize) (part l numberAt numberSize) (part l sinceAt (form .sinceWidth))
+    (byteAt l (placeAtIn form) ∷ byteAt l (volatileCountAtIn form) ∷ []) (drop (framesAtIn form) l)
     ∙ rw (
-      byte-rest l volatileCountAt (omega arith),
-      byte-rest l placeAt (omega arith),
-      part-rest l sinceAt sinceSize placeAt refl,
+      byte-rest l (volatileCountAtIn form) (omega arith),
+      byte-rest l (placeAtIn form) (omega arith),
+      part-rest l sinceAt (form .sinceWidth) (placeAtIn form) refl,
       part-rest l numberAt numberSize sinceAt refl,
       part-rest l fuseAt fuseSize numberAt refl,
       byte-rest l selectorAt (omega arith),
     )
     (byte-rest l stateAt (omega arith)))
 
--- what stands behind the fixed fields: frames, volatile slots, two areas
-behind-fixed : (pages : ℕ) (l : List ℕ) → length l ≡ blockSize pages
-    → part l framesAt (pages * frameSize)
-    ++ (part l (slotsAt pages) slotsSize ++ (part l (areaAt pages 0) (areaSize pages) ++ part l (areaAt pages 1) (areaSize pages)))
-    ≡ drop framesAt l
-behind-fixed pages l e =
-    rw (
-      part-last l (areaAt pages 1) (areaSize pages) (omega arith),
-      part-rest l (areaAt pages 0) (areaSize pages) (areaAt pages 1) (omega arith),
-      part-rest l (slotsAt pages) slotsSize (areaAt pages 0) (omega arith),
-    )
-    (part-rest l framesAt (pages * frameSize) (slotsAt pages) refl)
+-- an area lies inside its block
+pub area-inside : (form : Form) (pages area : ℕ) → area < 2 → areaAtIn form pages area + areaSizeIn form pages ≤ blockSizeIn form pages
+area-inside form pages area h = omega (arith, index-in (areaSizeIn form pages) 2 area h)
 
-pub encode-decodeBoard : (pages : ℕ) (l : List ℕ) → Readable pages l → Bytes l → length l ≡ blockSize pages
-    → encodeBoard (decodeBoard pages l) ≡ l
-unfolding encodeBoard decodeBoard
-encode-decodeBoard pages l r b e =
+-- what stands behind the fixed fields: frames, volatile slots, two areas
+behind-fixed : (form : Form) (pages : ℕ) (l : List ℕ) → length l ≡ blockSizeIn form pages
+    → part l (framesAtIn form) (pages * frameSize)
+    ++ (part l (slotsAtIn form pages) (slotsSizeIn form) ++ (part l (areaAtIn form pages 0) (areaSizeIn form pages)
+    ++ part l (areaAtIn form pages 1) (areaSizeIn form pages)))
+    ≡ drop (framesAtIn form) l
+behind-fixed form pages l e =
     rw (
-      frames-part pages l framesAt (r .frames) (omega arith),
-      log-part pages (byteAt l volatileCountAt) l (slotsAt pages) (r .log) b (omega arith),
-      encode-decodeStable,
-      area-part pages l (areaAt pages 0) (r .area0) b (omega arith),
-      area-part pages l (areaAt pages 1) (r .area1) b (omega arith),
-      behind-fixed pages l e,
+      part-last l (areaAtIn form pages 1) (areaSizeIn form pages) (omega arith),
+      part-rest l (areaAtIn form pages 0) (areaSizeIn form pages) (areaAtIn form pages 1) (omega arith),
+      part-rest l (slotsAtIn form pages) (slotsSizeIn form) (areaAtIn form pages 0) (omega arith),
+    )
+    (part-rest l (framesAtIn form) (pages * frameSize) (slotsAtIn form pages) refl)
+
+pub encode-decodeBoard : {form : Form} (pages : ℕ) (l : List ℕ) → Readable form pages l → Bytes l → length l ≡ blockSizeIn form pages
+    → encodeBoardIn form (decodeBoardIn form pages l) ≡ l
+unfolding encodeBoardIn decodeBoardIn
+encode-decodeBoard {form} pages l r b e =
+    rw (
+      frames-part pages l (framesAtIn form) (r .frames) (omega arith),
+      log-part pages (byteAt l (volatileCountAtIn form)) l (slotsAtIn form pages) (r .log) b (omega arith),
+      encode-decodeStable form,
+      area-part pages l (areaAtIn form pages 0) (r .area0) b (omega arith),
+      area-part pages l (areaAtIn form pages 1) (r .area1) b (omega arith),
+      behind-fixed form pages l e,
     )
     (fixed-back pages l r b (omega arith))

@@ -14,7 +14,7 @@ use Rattle.types.specs.declared.Right.{Right}
 use Rattle.types.specs.declared.Right.the-variants.{None, Own}
 use Rattle.types.specs.declared.Answer.the-variants.{Done}
 use Rattle.model.specs.Definitions.Parts.{zeros}
-use Rattle.model.specs.Definitions.Layout.{mostBoards, mostPages, pageSize, slotsSize, bankSize}
+use Rattle.model.specs.Definitions.Layout.{mostBoards, mostPages, pageSize, slotsSize, bankSize, blockSize}
 use Rattle.model.specs.Definitions.Bank.{emptyFrame, emptyLog, zeroArea, zeroWorking, noBoard, boardAt, entryAt, frameAt, freshFrames, freshBoard, fresh}
 use Rattle.model.specs.Definitions.WellFormed.{SizesOk, FrameOk, LogOk, FramesOk, AreaOk, FieldsOk, PlaceOk, rightIn, BoardOk, EntryOk, WellFormed}
 use Rattle.model.specs.Definitions.WellFormed.{WorkingOk}
@@ -117,9 +117,9 @@ fresh-wellFormed n p h₀ h₁ h₂ h₃ =
       boards = λ b l. fresh-ok n p b (rw (fresh-boards n p) at l);
     }
 
--- "Length 4 + 2P + N(2134 + 51P)."
-pub bankSize-closed : (n p : ℕ) → bankSize n p ≡ 4 + 2 * p + n * (2134 + 51 * p)
-bankSize-closed n p = omega arith
+-- "a block 2328 + 51P" (document 02, F-2), so the length is 4 + 2P + N(2328 + 51P)
+pub bankSize-closed : (n p : ℕ) → bankSize n p ≡ 4 + 2 * p + n * (2328 + 51 * p)
+bankSize-closed n p = let e : blockSize p ≡ 2328 + 51 * p = omega arith in rw e (omega arith)
 
 -- ---- its bytes
 

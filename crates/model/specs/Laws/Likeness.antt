@@ -86,6 +86,10 @@ module _ {A : Type 0} (R : A → A → Type 0) where
   unfolding each
   pairs-over r xs = pairs-overFrom 0 r xs
 
+  pub pairs-mapped : {g : A → A} → ((x : A) → R x (g x)) → (xs : List A) → EachPair R xs (map g xs)
+  pairs-mapped r [] = pairs-nil
+  pairs-mapped r (x ∷ xs) = pairs-cons (r x) (pairs-mapped r xs)
+
   pub pairs-same : ((x : A) → R x x) → (xs : List A) → EachPair R xs xs
   pairs-same r [] = pairs-nil
   pairs-same r (x ∷ xs) = pairs-cons (r x) (pairs-same r xs)

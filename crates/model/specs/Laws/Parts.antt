@@ -3,8 +3,9 @@
 use mathlib.Core.Path.{_≡_, refl, sym, ap, _∙_}
 use Prim.Native.Nat.{ℕ, zero, suc, _+_, _-_, _*_, _≤_, _<_}
 use native.Mathlib.Nat.{suc-add, zero-add, add-zero, add-assoc, zero-mul, suc-mul, mul-le-mul-right, not-suc-le-zero, le-of-suc-le-suc}
+use native.Mathlib.Numerals.{add-one}
 use native.Mathlib.Omega.{arith}
-use mathlib.Core.List.{List, [], _∷_, _++_, append-nil, append-assoc}
+use mathlib.Core.List.{List, [], _∷_, _++_, map, append-nil, append-assoc}
 use lib.ListN.{length, getD, set, take, drop, length-append, length-take, length-drop, take-append-drop, List·getD-append}
 use lib.Seq.{length-take-le, take-all, take-nil, take-take, take-add, drop-cons, drop-drop, take-append-le, drop-append-le, drop-append-add, take-append-add}
 use lib.Seq.{take-at, drop-at, getD-append-add, getD-take, getD-drop, set-split}
@@ -241,6 +242,11 @@ byte-rest l a h = let e : a + 1 ≡ suc a = omega arith in rw e (sym (drop-cons 
 same-byte : (l m : List ℕ) (i : ℕ) → part l i 1 ≡ part m i 1 → byteAt l i ≡ byteAt m i
 same-byte l m i e = byteAt-first l i 1 (omega arith) ∙ rw e (sym (byteAt-first m i 1 (omega arith)))
 
+-- one byte before the part that follows it
+pub byte-part : (l : List ℕ) (a b n m : ℕ) → a < length l → a + 1 ≡ b → n + 1 ≡ m → byteAt l a ∷ part l b n ≡ part l a m
+unfolding part
+byte-part l a b n m h e f = rw (← e, ← f, add-one n, ← byte-rest l a h)
+
 pub byteAt-splice-before : (l : List ℕ) (a : ℕ) (v : List ℕ) (i : ℕ) → i < a → a ≤ length l → byteAt (splice l a v) i ≡ byteAt l i
 byteAt-splice-before l a v i h k = same-byte (splice l a v) l i (part-splice-before l a v i 1 (omega arith) k)
 
@@ -416,3 +422,9 @@ module _ {A : Type 0} (enc : A → List ℕ) (dec : List ℕ → A) (w : ℕ) wh
   pub decodeAll-write : (n : ℕ) (l : List ℕ) (i : ℕ) (y : A) → ReadsBack y → i < n → n * w ≤ length l
       → decodeAll dec w n (splice l (i * w) (enc y)) ≡ set (decodeAll dec w n l) i y
   decodeAll-write n l i y e h k = rw (decodeAll-splice dec w n l i (enc y) (e .0) h k, e .1)
+
+-- elements changed before they are written
+pub encodeAll-map : {A B : Type 0} (enc : B → List ℕ) (f : A → B) (xs : List A) → encodeAll enc (map f xs) ≡ encodeAll (λ x. enc (f x)) xs
+unfolding encodeAll
+encodeAll-map enc f [] = refl
+encodeAll-map enc f (x ∷ xs) = ap (λ (l : List ℕ). enc (f x) ++ l) (encodeAll-map enc f xs)

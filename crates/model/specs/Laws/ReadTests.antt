@@ -2,6 +2,7 @@
 -- WrittenTests has the other way. Assumes nothing.
 use mathlib.Core.Path.{_≡_}
 use Prim.Native.Nat.{ℕ, suc, _+_, _*_, _^_, _≤_, _<_}
+use native.Mathlib.Nat.{mul-le-mul-right}
 use native.Mathlib.Omega.{arith}
 use mathlib.Core.Bool.{Bool, true, false, _&&_}
 use mathlib.Core.List.{List, []}
@@ -13,14 +14,14 @@ use Rattle.words.specs.LittleEndian.{numberOf}
 use Rattle.words.specs.LittleEndianLaws.{numberOf-below}
 use Rattle.types.specs.declared.Right.the-variants.{Own}
 use Rattle.model.specs.Definitions.Parts.{part, byteAt, decodeAll}
-use Rattle.model.specs.Definitions.Layout.{byteValues, pageSize, slotCount, rightAt, frameBytesAt, frameSize, slotSize, slotsSize, letterG, letterC}
-use Rattle.model.specs.Definitions.Layout.{mark0At, mark1At, slotPageAt, recordCountAt, slotBytesAt, fuseSize, numberSize, sinceSize, noFuse, lastSince}
-use Rattle.model.specs.Definitions.Layout.{lastNumber, areaNumberAt, areaCountAt, areaFramesAt, areaSlotsAt, areaAt, areaSize, selectorAt, fuseAt}
-use Rattle.model.specs.Definitions.Layout.{numberAt, sinceAt, framesAt, slotsAt, volatileCountAt, blockSize}
+use Rattle.model.specs.Definitions.Layout.{byteValues, pageSize, slotCount, rightAt, frameBytesAt, frameSize, letterG, letterC, mark0At, mark1At}
+use Rattle.model.specs.Definitions.Layout.{slotPageAt, fuseSize, numberSize, noFuse, lastNumber, areaNumberAt, areaCountAt, areaFramesAt, areaSlotsAt}
+use Rattle.model.specs.Definitions.Layout.{selectorAt, fuseAt, numberAt, sinceAt, slotBytesAtIn, slotSizeIn, slotsSizeIn, areaSizeIn, volatileCountAtIn}
+use Rattle.model.specs.Definitions.Layout.{framesAtIn, slotsAtIn, areaAtIn, blockSizeIn, Form, recordCountAt}
 use Rattle.model.specs.Definitions.Bank.{Area}
-use Rattle.model.specs.Definitions.Codec.{rightByte, selectorByte, decodeFrame, decodeFrames, kindOf, decodeRecord, decodeLog, decodeArea, decodeBoard}
-use Rattle.model.specs.Definitions.Codec.{decodeStable}
-use Rattle.model.specs.Definitions.WellFormed.{FrameOk, isGot, RecordOk, LogOk, FramesOk, AreaOk, FieldsOk}
+use Rattle.model.specs.Definitions.Codec.{rightByte, selectorByte, decodeFrame, decodeFrames, kindOf, decodeStable, decodeRecordIn, decodeLogIn}
+use Rattle.model.specs.Definitions.Codec.{decodeAreaIn, decodeBoardIn}
+use Rattle.model.specs.Definitions.WellFormed.{FrameOk, isGot, FramesOk, RecordOkIn, LogOkIn, AreaOkIn, FieldsOkIn}
 use Rattle.model.specs.Definitions.Check.{isZero, frameValid, gotMark, markFits, slotValid, bareMark}
 use Rattle.model.specs.Laws.Logic.{byBool, clash, and-left, and-right}
 use Rattle.model.specs.Laws.Lists.{each-drop, each-of-getD}
@@ -30,14 +31,12 @@ use Rattle.model.specs.Laws.Tests.{says-zero, says-clear}
 
 -- ---- what holds of bytes holds of the numbers and the elements read from them
 
--- a number read from a part of its width is at most the last one of that width
-number-below : (l : List ℕ) (a w last : ℕ) → a + w ≤ length l → Bytes l → byteValues ^ w ≤ suc last → numberOf (part l a w) ≤ last
-number-below l a w last h b e =
-    let r : numberOf (part l a w) < byteValues ^ w = numberOf-below w (part l a w) (each-part l a w b) (length-part l a w h) in
-    omega arith
+-- a number read from a part of its width is below the values of that width, and at most the last of them
+number-in : (l : List ℕ) (a w : ℕ) → a + w ≤ length l → Bytes l → numberOf (part l a w) < byteValues ^ w
+number-in l a w h b = numberOf-below w (part l a w) (each-part l a w b) (length-part l a w h)
 
-since-width : byteValues ^ sinceSize ≤ suc lastSince
-since-width = lit≤ tt
+number-below : (l : List ℕ) (a w last : ℕ) → a + w ≤ length l → Bytes l → byteValues ^ w ≤ suc last → numberOf (part l a w) ≤ last
+number-below l a w last h b e = omega (arith, number-in l a w h b)
 
 number-width : byteValues ^ numberSize ≤ suc lastNumber
 number-width = lit≤ tt
@@ -86,40 +85,44 @@ bare-blank m0 m1 p blank v g =
     (λ t. byBool (eqb m1 letterC) (λ u. clash (cc) g) (λ u. clash (cc) g))
     (λ t. let r : (blank && bareMark m0 m1) ≡ true = cc in and-left blank (bareMark m0 m1) r)
 
-pub slot-ok : (pages : ℕ) (l : List ℕ) → length l ≡ slotSize → Bytes l → slotValid pages l ≡ true → RecordOk pages (decodeRecord l)
-unfolding slotValid decodeRecord
-slot-ok pages l e b v =
-    let size : length (part l slotBytesAt pageSize) ≡ pageSize = length-part l slotBytesAt pageSize (omega arith) in
-    let bytes : Bool = isZero (part l slotBytesAt pageSize) in
+pub slot-ok : {form : Form} (pages : ℕ) (l : List ℕ) → length l ≡ slotSizeIn form → Bytes l → slotValid form pages l ≡ true
+    → RecordOkIn form pages (decodeRecordIn form l)
+unfolding slotValid decodeRecordIn
+slot-ok {form} pages l e b v =
+    let size : length (part l (slotBytesAtIn form) pageSize) ≡ pageSize = length-part l (slotBytesAtIn form) pageSize (omega arith) in
+    let bytes : Bool = isZero (part l (slotBytesAtIn form) pageSize) in
     let mark : markFits (byteAt l mark0At) (byteAt l mark1At) bytes ≡ true = and-left _ _ v in
     record {
-      count = number-below l recordCountAt sinceSize lastSince (omega arith) b since-width;
+      count = number-in l recordCountAt (form .sinceWidth) (omega arith) b;
       page =
           rw (pageOf-kindOf (byteAt l mark0At) (byteAt l mark1At) (byteAt l slotPageAt))
           (ltb-true (byteAt l slotPageAt) pages (search (and-left, and-right)));
       size = size;
-      bytes = each-part l slotBytesAt pageSize b;
+      bytes = each-part l (slotBytesAtIn form) pageSize b;
       plain = λ g.
-          says-zero (part l slotBytesAt pageSize) pageSize size .0
+          says-zero (part l (slotBytesAtIn form) pageSize) pageSize size .0
           (bare-blank (byteAt l mark0At) (byteAt l mark1At) (byteAt l slotPageAt) bytes mark g);
     }
 
 -- ---- a log
 
-pub log-ok : (pages count : ℕ) (l : List ℕ) → length l ≡ slotsSize → Bytes l → LogPasses pages count l → LogOk pages (decodeLog count l)
-unfolding decodeLog
-log-ok pages count l e b v =
+pub log-ok : {form : Form} (pages count : ℕ) (l : List ℕ) → length l ≡ slotsSizeIn form → Bytes l → LogPasses form pages count l
+    → LogOkIn form pages (decodeLogIn form count l)
+unfolding decodeLogIn
+log-ok {form} pages count l e b v =
     let c : count ≤ slotCount = v .few in
     record {
       records =
-          each-decodeAll decodeRecord slotSize count l
+          each-decodeAll (decodeRecordIn form) (slotSizeIn form) count l
           (λ i h.
-          slot-ok pages (part l (i * slotSize) slotSize)
-          (length-part l (i * slotSize) slotSize (omega (arith, slot-in count i c h)))
-          (each-part l (i * slotSize) slotSize b)
+          slot-ok pages (part l (i * slotSizeIn form) (slotSizeIn form))
+          (length-part l (i * slotSizeIn form) (slotSizeIn form) (omega (arith, slot-in form count i c h)))
+          (each-part l (i * slotSizeIn form) (slotSizeIn form) b)
           (v .slots i h));
-      bytes = each-drop (count * slotSize) l b;
-      slots = rw (length-decodeAll decodeRecord slotSize count l, length-drop (count * slotSize) l) (omega arith);
+      bytes = each-drop (count * slotSizeIn form) l b;
+      slots =
+          rw (length-decodeAll (decodeRecordIn form) (slotSizeIn form) count l, length-drop (count * slotSizeIn form) l)
+          (omega (arith, mul-le-mul-right {m = count} {n = slotCount} (slotSizeIn form) c));
     }
 
 -- ---- an area
@@ -129,12 +132,14 @@ frames-part-ok : (pages : ℕ) (l : List ℕ) (a : ℕ) → a + pages * frameSiz
 frames-part-ok pages l a h b =
     frames-ok pages (part l a (pages * frameSize)) (length-part l a (pages * frameSize) h) (each-part l a (pages * frameSize) b)
 
-log-part-ok : (pages count : ℕ) (l : List ℕ) (a : ℕ) → a + slotsSize ≤ length l → Bytes l
-    → LogPasses pages count (part l a slotsSize) → LogOk pages (decodeLog count (part l a slotsSize))
-log-part-ok pages count l a h b = log-ok pages count (part l a slotsSize) (length-part l a slotsSize h) (each-part l a slotsSize b)
+log-part-ok : {form : Form} (pages count : ℕ) (l : List ℕ) (a : ℕ) → a + slotsSizeIn form ≤ length l → Bytes l
+    → LogPasses form pages count (part l a (slotsSizeIn form)) → LogOkIn form pages (decodeLogIn form count (part l a (slotsSizeIn form)))
+log-part-ok {form} pages count l a h b =
+    log-ok pages count (part l a (slotsSizeIn form)) (length-part l a (slotsSizeIn form) h) (each-part l a (slotsSizeIn form) b)
 
-pub area-ok : (pages : ℕ) (l : List ℕ) → length l ≡ areaSize pages → Bytes l → AreaPasses pages l → AreaOk pages (decodeArea pages l)
-unfolding decodeArea
+pub area-ok : {form : Form} (pages : ℕ) (l : List ℕ) → length l ≡ areaSizeIn form pages → Bytes l → AreaPasses form pages l
+    → AreaOkIn form pages (decodeAreaIn form pages l)
+unfolding decodeAreaIn
 area-ok pages l e b v =
     record {
       number = number-below l areaNumberAt numberSize lastNumber (omega arith) b number-width;
@@ -142,39 +147,43 @@ area-ok pages l e b v =
       log = log-part-ok pages (byteAt l areaCountAt) l (areaSlotsAt pages) (omega arith) b (v .log);
     }
 
-area-part-ok : (pages : ℕ) (l : List ℕ) (a : ℕ) → a + areaSize pages ≤ length l → Bytes l
-    → AreaPasses pages (part l a (areaSize pages)) → AreaOk pages (decodeArea pages (part l a (areaSize pages)))
-area-part-ok pages l a h b = area-ok pages (part l a (areaSize pages)) (length-part l a (areaSize pages) h) (each-part l a (areaSize pages) b)
+area-part-ok : {form : Form} (pages : ℕ) (l : List ℕ) (a : ℕ) → a + areaSizeIn form pages ≤ length l → Bytes l
+    → AreaPasses form pages (part l a (areaSizeIn form pages)) → AreaOkIn form pages (decodeAreaIn form pages (part l a (areaSizeIn form pages)))
+area-part-ok {form} pages l a h b =
+    area-ok pages (part l a (areaSizeIn form pages)) (length-part l a (areaSizeIn form pages) h) (each-part l a (areaSizeIn form pages) b)
 
 -- ---- a block
 
 -- either area may be the selected one
-selected-ok : (pages : ℕ) (second : Bool) (x y : Area) → AreaOk pages x → AreaOk pages y → AreaOk pages (decodeStable second x y .selected)
+selected-ok : {form : Form} (pages : ℕ) (second : Bool) (x y : Area) → AreaOkIn form pages x → AreaOkIn form pages y
+    → AreaOkIn form pages (decodeStable second x y .selected)
 unfolding decodeStable
 selected-ok pages false x y p q = p
 selected-ok pages true x y p q = q
 
-spare-ok : (pages : ℕ) (second : Bool) (x y : Area) → AreaOk pages x → AreaOk pages y → AreaOk pages (decodeStable second x y .spare)
+spare-ok : {form : Form} (pages : ℕ) (second : Bool) (x y : Area) → AreaOkIn form pages x → AreaOkIn form pages y
+    → AreaOkIn form pages (decodeStable second x y .spare)
 unfolding decodeStable
 spare-ok pages false x y p q = q
 spare-ok pages true x y p q = p
 
-pub fields-ok : (pages : ℕ) (l : List ℕ) → length l ≡ blockSize pages → Bytes l → Readable pages l → FieldsOk pages (decodeBoard pages l)
-unfolding decodeBoard
-fields-ok pages l e b r =
+pub fields-ok : {form : Form} (pages : ℕ) (l : List ℕ) → length l ≡ blockSizeIn form pages → Bytes l → Readable form pages l
+    → FieldsOkIn form pages (decodeBoardIn form pages l)
+unfolding decodeBoardIn
+fields-ok {form} pages l e b r =
     let second : Bool = eqb (byteAt l selectorAt) (selectorByte true) in
-    let x : Area = decodeArea pages (part l (areaAt pages 0) (areaSize pages)) in
-    let y : Area = decodeArea pages (part l (areaAt pages 1) (areaSize pages)) in
-    let p : AreaOk pages x = area-part-ok pages l (areaAt pages 0) (omega arith) b (r .area0) in
-    let q : AreaOk pages y = area-part-ok pages l (areaAt pages 1) (omega arith) b (r .area1) in
+    let x : Area = decodeAreaIn form pages (part l (areaAtIn form pages 0) (areaSizeIn form pages)) in
+    let y : Area = decodeAreaIn form pages (part l (areaAtIn form pages 1) (areaSizeIn form pages)) in
+    let p : AreaOkIn form pages x = area-part-ok pages l (areaAtIn form pages 0) (omega arith) b (r .area0) in
+    let q : AreaOkIn form pages y = area-part-ok pages l (areaAtIn form pages 1) (omega arith) b (r .area1) in
     record {
       fuse = number-below l fuseAt fuseSize noFuse (omega arith) b fuse-width;
       working =
           record {
             number = number-below l numberAt numberSize lastNumber (omega arith) b number-width;
-            since = number-below l sinceAt sinceSize lastSince (omega arith) b since-width;
-            frames = frames-part-ok pages l framesAt (omega arith) b (r .frames);
-            log = log-part-ok pages (byteAt l volatileCountAt) l (slotsAt pages) (omega arith) b (r .log);
+            since = number-in l sinceAt (form .sinceWidth) (omega arith) b;
+            frames = frames-part-ok pages l (framesAtIn form) (omega arith) b (r .frames);
+            log = log-part-ok pages (byteAt l (volatileCountAtIn form)) l (slotsAtIn form pages) (omega arith) b (r .log);
           };
       selected = selected-ok pages second x y p q;
       spare = spare-ok pages second x y p q;

@@ -9,7 +9,7 @@ use mathlib.Core.List.{List, [], _∷_}
 use lib.ListN.{length}
 use lib.Dec.{eqb}
 use Rattle.types.specs.declared.State.the-variants.{Replaying}
-use Rattle.model.specs.Definitions.Layout.{bankSize}
+use Rattle.model.specs.Definitions.Layout.{bankSize, today}
 use Rattle.model.specs.Definitions.Bank.{Board, Bank, boardAt, entryAt, onBoard, onWorking}
 use Rattle.model.specs.Definitions.Codec.{encode, decode}
 use Rattle.model.specs.Definitions.Check.{wellFormed, sizesAllowed}
@@ -114,7 +114,7 @@ refusal-keeps c s =
     (λ w p q u.
     let e : callBank c k .run ≡ start k = kept-run (boardNamed c) k (LateIn c k) (callBank c k) (late-replaying c k) (call-ended c k) p q u in
     record {
-      bytes = ap (λ (r : Run). encode (r .bank)) e ∙ encode-decode s w;
+      bytes = ap (λ (r : Run). encode (r .bank)) e ∙ encode-decode today s w;
       stores = ap (λ (r : Run). r .stores) e;
     })
     (λ w p q u. record { bytes = refl; stores = refl })

@@ -157,12 +157,12 @@ module _ {pages : ℕ} {l : Log} where
 -- a shown or dropped
 pub recordable-plain : {pages : ℕ} (kind : Kind) → isGot kind ≡ false → pageOf kind < pages → Recordable pages kind (zeros pageSize)
 recordable-plain kind g m n l =
-    record { count = l; page = m; size = zeros-length pageSize; bytes = zeros-bytes pageSize; plain = λ e. refl }
+    record { count = omega arith; page = m; size = zeros-length pageSize; bytes = zeros-bytes pageSize; plain = λ e. refl }
 
 -- a got with the bytes of a frame
 pub recordable-got : {pages p : ℕ} {f : Frame} (g : CopyOrOwn) → FrameOk f → p < pages → Recordable pages (Got g p) (f .bytes)
 unfolding pageOf isGot
-recordable-got g h m n l = record { count = l; page = m; size = h .size; bytes = h .bytes; plain = λ e. clash refl e }
+recordable-got g h m n l = record { count = omega arith; page = m; size = h .size; bytes = h .bytes; plain = λ e. clash refl e }
 
 -- ---- an area, field by field
 
@@ -186,7 +186,7 @@ module _ {pages : ℕ} {w : Working} (ok : WorkingOk pages w) where
   workingOk-number n h = record { number = h; since = ok .since; frames = ok .frames; log = ok .log }
 
   pub workingOk-since : (n : ℕ) → n ≤ lastSince → WorkingOk pages (withSince n w)
-  workingOk-since n h = record { number = ok .number; since = h; frames = ok .frames; log = ok .log }
+  workingOk-since n h = record { number = ok .number; since = omega arith; frames = ok .frames; log = ok .log }
 
   pub workingOk-place : (n : ℕ) → WorkingOk pages (withPlace n w)
   workingOk-place n = record { number = ok .number; since = ok .since; frames = ok .frames; log = ok .log }

@@ -7,8 +7,8 @@ use native.Mathlib.Omega.{arith}
 use mathlib.Core.Bool.{Bool, true, false}
 use mathlib.Core.List.{List, [], _∷_}
 use lib.ListN.{length, getD}
-use lib.Dec.{lit<, lit≤}
-use borrow.Author.Tests.{le-leb, lt-ltb}
+use lib.Dec.{ltb, lit<, lit≤}
+use borrow.Author.Tests.{le-leb, lt-ltb, ltb-true, ltb-false}
 use Rattle.words.specs.Bytes.{Each, each-nil, each-cons, Bytes}
 use Rattle.words.specs.LittleEndian.{bytesOf}
 use Rattle.words.specs.LittleEndianLaws.{bytes-bytesOf}
@@ -22,14 +22,14 @@ use Rattle.types.specs.declared.Record.{Record}
 use Rattle.types.specs.declared.State.{State}
 use Rattle.types.specs.declared.State.the-variants.{Up, Down, Replaying}
 use Rattle.model.specs.Definitions.Parts.{part, byteAt, encodeAll}
-use Rattle.model.specs.Definitions.Layout.{byteValues, pageSize, slotCount, slotBytesAt, frameSize, slotSize, numberSize, sinceSize, fuseSize, stateAt}
-use Rattle.model.specs.Definitions.Layout.{selectorAt, volatileCountAt, mostBoards, mostPages}
+use Rattle.model.specs.Definitions.Layout.{byteValues, pageSize, slotCount, frameSize, numberSize, fuseSize, stateAt, selectorAt, mostBoards, mostPages}
+use Rattle.model.specs.Definitions.Layout.{slotBytesAtIn, slotSizeIn, volatileCountAtIn, Form}
 use Rattle.model.specs.Definitions.Bank.{Entry, Log, Area, Board, emptyFrame}
-use Rattle.model.specs.Definitions.Codec.{rightByte, stateByte, selectorByte, mark0, mark1, pageOf, encodeFrame, encodeRecord, decodeRecord, encodeLog}
-use Rattle.model.specs.Definitions.Codec.{encodeArea, encodeFixed, encodeBoard, encodeEntry}
-use Rattle.model.specs.Definitions.WellFormed.{FrameOk, RecordOk, LogOk, FramesOk, AreaOk, FieldsOk, EntryOk, isGot}
+use Rattle.model.specs.Definitions.Codec.{rightByte, stateByte, selectorByte, mark0, mark1, pageOf, encodeFrame, encodeEntry, encodeRecordIn}
+use Rattle.model.specs.Definitions.Codec.{decodeRecordIn, encodeLogIn, encodeAreaIn, encodeFixedIn, encodeBoardIn}
+use Rattle.model.specs.Definitions.WellFormed.{FrameOk, FramesOk, EntryOk, isGot, RecordOkIn, LogOkIn, AreaOkIn, FieldsOkIn}
 use Rattle.model.specs.Definitions.Check.{frameValid, gotMark, bareMark, markFits, slotValid}
-use Rattle.model.specs.Laws.Logic.{and-both}
+use Rattle.model.specs.Laws.Logic.{byBool, and-both}
 use Rattle.model.specs.Laws.Lists.{each-imp, each-head, each-tail, each-getD, each-append}
 use Rattle.model.specs.Laws.Parts.{part-encodeAll, part-append-left, index-in}
 use Rattle.model.specs.Laws.Codec.{length-encodeFrame, decode-encodeFrame, length-encodeRecord, decode-encodeRecord, length-encodeRecords, area-count}
@@ -69,30 +69,36 @@ mark-valid (Got GotOwn p) blank h = refl
 mark-valid (Shown p) blank h = rw (h refl)
 mark-valid (Dropped p) blank h = rw (h refl)
 
-pub slot-valid : (pages : ℕ) (r : Record) → RecordOk pages r → slotValid pages (encodeRecord r) ≡ true
-unfolding slotValid encodeRecord byteAt decodeRecord
-slot-valid pages r ok =
-    let bytes : part (encodeRecord r) slotBytesAt pageSize ≡ r .bytes = ap (λ (q : Record). q .bytes) (decode-encodeRecord pages r ok) in
+pub slot-valid : {form : Form} (pages : ℕ) (r : Record) → RecordOkIn form pages r → slotValid form pages (encodeRecordIn form r) ≡ true
+unfolding slotValid encodeRecordIn byteAt decodeRecordIn
+slot-valid {form} pages r ok =
+    let bytes : part (encodeRecordIn form r) (slotBytesAtIn form) pageSize ≡ r .bytes = ap (λ (q : Record). q .bytes) (decode-encodeRecord pages r ok) in
     and-both
     (mark-valid (r .kind) _ (λ g. rw bytes (says-zero (r .bytes) pageSize (ok .size) .1 (ok .plain g))))
     (and-both (lt-ltb (pageOf (r .kind)) pages (ok .page)) refl)
 
 -- ---- a log
 
-pub log-count : (pages : ℕ) (l : Log) → LogOk pages l → length (l .records) ≤ slotCount
-log-count pages l ok = omega (arith, ok .slots)
+pub log-count : {form : Form} (pages : ℕ) (l : Log) → LogOkIn form pages l → length (l .records) ≤ slotCount
+log-count {form} pages l ok =
+    byBool (ltb slotCount (length (l .records)))
+    (λ t.
+    let more : slotCount < length (l .records) = ltb-true slotCount (length (l .records)) t in
+    absurd (omega (arith, ok .slots, index-in (slotSizeIn form) (length (l .records)) slotCount more)))
+    (λ t. ltb-false slotCount (length (l .records)) t)
 
-log-slot : (pages : ℕ) (l : Log) → LogOk pages l → (i : ℕ) (d : Record) → i < length (l .records)
-    → part (encodeLog l) (i * slotSize) slotSize ≡ encodeRecord (getD (l .records) i d)
-unfolding encodeLog
-log-slot pages l ok i d h =
-    part-append-left (encodeAll encodeRecord (l .records)) (l .rest) (i * slotSize) slotSize
-    (rw (length-encodeRecords pages (l .records) (ok .records)) (index-in slotSize (length (l .records)) i h))
-    ∙ part-encodeAll encodeRecord slotSize (l .records) i d (each-imp (l .records) (λ r o. length-encodeRecord r (o .size)) (ok .records)) h
+log-slot : {form : Form} (pages : ℕ) (l : Log) → LogOkIn form pages l → (i : ℕ) (d : Record) → i < length (l .records)
+    → part (encodeLogIn form l) (i * slotSizeIn form) (slotSizeIn form) ≡ encodeRecordIn form (getD (l .records) i d)
+unfolding encodeLogIn
+log-slot {form} pages l ok i d h =
+    part-append-left (encodeAll (encodeRecordIn form) (l .records)) (l .rest) (i * slotSizeIn form) (slotSizeIn form)
+    (rw (length-encodeRecords pages (l .records) (ok .records)) (index-in (slotSizeIn form) (length (l .records)) i h))
+    ∙ part-encodeAll (encodeRecordIn form) (slotSizeIn form) (l .records) i d
+    (each-imp (l .records) (λ r o. length-encodeRecord form r (o .size)) (ok .records)) h
 
-pub log-valid : (pages : ℕ) (l : Log) → LogOk pages l → LogPasses pages (length (l .records)) (encodeLog l)
-log-valid pages l ok =
-    let none : Record = decodeRecord [] in
+pub log-valid : {form : Form} (pages : ℕ) (l : Log) → LogOkIn form pages l → LogPasses form pages (length (l .records)) (encodeLogIn form l)
+log-valid {form} pages l ok =
+    let none : Record = decodeRecordIn form [] in
     record {
       few = log-count pages l ok;
       slots = λ i h. rw (log-slot pages l ok i none h) (slot-valid pages (getD (l .records) i none) (each-getD (l .records) i none (ok .records) h));
@@ -100,7 +106,7 @@ log-valid pages l ok =
 
 -- ---- an area
 
-pub area-valid : (pages : ℕ) (a : Area) → AreaOk pages a → AreaPasses pages (encodeArea a)
+pub area-valid : {form : Form} (pages : ℕ) (a : Area) → AreaOkIn form pages a → AreaPasses form pages (encodeAreaIn form a)
 area-valid pages a ok =
     record {
       frames = rw (area-frames pages a ok) (frames-valid pages (a .frames) (ok .frames));
@@ -120,14 +126,14 @@ unfolding selectorByte
 selector-le false = lit≤ tt
 selector-le true = lit≤ tt
 
-pub block-valid : (pages : ℕ) (x : Board) → FieldsOk pages x → Readable pages (encodeBoard x)
-block-valid pages x ok =
+pub block-valid : {form : Form} (pages : ℕ) (x : Board) → FieldsOkIn form pages x → Readable form pages (encodeBoardIn form x)
+block-valid {form} pages x ok =
     record {
-      state = rw (board-byte pages x ok stateAt (lit< tt), fixed-state x) (state-le (x .state));
-      selector = rw (board-byte pages x ok selectorAt (lit< tt), fixed-selector x) (selector-le (x .stable .second));
+      state = rw (board-byte pages x ok stateAt (omega arith), fixed-state form x) (state-le (x .state));
+      selector = rw (board-byte pages x ok selectorAt (omega arith), fixed-selector form x) (selector-le (x .stable .second));
       frames = rw (board-frames pages x ok) (frames-valid pages (x .working .frames) (ok .working .frames));
       log =
-          rw (board-byte pages x ok volatileCountAt (lit< tt), fixed-volatile x, board-slots pages x ok)
+          rw (board-byte pages x ok (volatileCountAtIn form) (omega arith), fixed-volatile form x, board-slots pages x ok)
           (log-valid pages (x .working .log) (ok .working .log));
       area0 = rw (board-area0 pages x ok) (area-valid pages (area0 (x .stable)) (area0-ok pages x ok));
       area1 = rw (board-area1 pages x ok) (area-valid pages (area1 (x .stable)) (area1-ok pages x ok));
@@ -169,45 +175,45 @@ mark1-byte (Shown p) = lit< tt
 mark1-byte (Dropped p) = lit< tt
 
 module _ (pages : ℕ) (few : pages ≤ mostPages) where
-  bytes-record : (r : Record) → RecordOk pages r → Bytes (encodeRecord r)
-  unfolding encodeRecord
-  bytes-record r ok =
+  bytes-record : {form : Form} (r : Record) → RecordOkIn form pages r → Bytes (encodeRecordIn form r)
+  unfolding encodeRecordIn
+  bytes-record {form} r ok =
       byte (mark0 (r .kind)) (mark0-byte (r .kind))
       (byte (mark1 (r .kind)) (mark1-byte (r .kind))
       (byte (pageOf (r .kind)) (omega (arith, ok .page))
-      (byte 0 (lit< tt) (each-append (bytesOf sinceSize (r .count)) (r .bytes) (bytes-bytesOf sinceSize (r .count)) (ok .bytes)))))
+      (byte 0 (lit< tt) (each-append (bytesOf (form .sinceWidth) (r .count)) (r .bytes) (bytes-bytesOf (form .sinceWidth) (r .count)) (ok .bytes)))))
 
-  pub bytes-log : (l : Log) → LogOk pages l → Bytes (encodeLog l)
-  unfolding encodeLog
-  bytes-log l ok =
-      each-append (encodeAll encodeRecord (l .records)) (l .rest)
-      (bytes-encodeAll encodeRecord (l .records) (ok .records) bytes-record) (ok .bytes)
+  pub bytes-log : {form : Form} (l : Log) → LogOkIn form pages l → Bytes (encodeLogIn form l)
+  unfolding encodeLogIn
+  bytes-log {form} l ok =
+      each-append (encodeAll (encodeRecordIn form) (l .records)) (l .rest)
+      (bytes-encodeAll (encodeRecordIn form) (l .records) (ok .records) bytes-record) (ok .bytes)
 
-  bytes-area : (a : Area) → AreaOk pages a → Bytes (encodeArea a)
-  unfolding encodeArea
-  bytes-area a ok =
+  bytes-area : {form : Form} (a : Area) → AreaOkIn form pages a → Bytes (encodeAreaIn form a)
+  unfolding encodeAreaIn
+  bytes-area {form} a ok =
       each-append (bytesOf numberSize (a .number)) _ (bytes-bytesOf numberSize (a .number))
       (byte (length (a .log .records)) (omega (arith, log-count pages (a .log) (ok .log)))
-      (each-append (encodeAll encodeFrame (a .frames)) (encodeLog (a .log))
+      (each-append (encodeAll encodeFrame (a .frames)) (encodeLogIn form (a .log))
       (bytes-encodeAll encodeFrame (a .frames) (ok .frames .frames) bytes-frame) (bytes-log (a .log) (ok .log))))
 
-  bytes-fixed : (x : Board) → FieldsOk pages x → x .working .place < byteValues → Bytes (encodeFixed x)
-  unfolding encodeFixed stateByte selectorByte
-  bytes-fixed x ok h =
+  bytes-fixed : {form : Form} (x : Board) → FieldsOkIn form pages x → x .working .place < byteValues → Bytes (encodeFixedIn form x)
+  unfolding encodeFixedIn stateByte selectorByte
+  bytes-fixed {form} x ok h =
       byte (stateByte (x .state)) (omega (arith, state-le (x .state)))
       (byte (selectorByte (x .stable .second)) (omega (arith, selector-le (x .stable .second)))
       (each-append (bytesOf fuseSize (x .fuse)) _ (bytes-bytesOf fuseSize (x .fuse))
       (each-append (bytesOf numberSize (x .working .number)) _ (bytes-bytesOf numberSize (x .working .number))
-      (each-append (bytesOf sinceSize (x .working .since)) _ (bytes-bytesOf sinceSize (x .working .since))
+      (each-append (bytesOf (form .sinceWidth) (x .working .since)) _ (bytes-bytesOf (form .sinceWidth) (x .working .since))
       (byte (x .working .place) h
       (byte (length (x .working .log .records)) (omega (arith, log-count pages (x .working .log) (ok .working .log))) each-nil))))))
 
-  pub bytes-board : (x : Board) → FieldsOk pages x → x .working .place < byteValues → Bytes (encodeBoard x)
-  unfolding encodeBoard
-  bytes-board x ok h =
-      each-append (encodeFixed x) _ (bytes-fixed x ok h)
+  pub bytes-board : {form : Form} (x : Board) → FieldsOkIn form pages x → x .working .place < byteValues → Bytes (encodeBoardIn form x)
+  unfolding encodeBoardIn
+  bytes-board {form} x ok h =
+      each-append (encodeFixedIn form x) _ (bytes-fixed x ok h)
       (each-append (encodeAll encodeFrame (x .working .frames)) _ (bytes-encodeAll encodeFrame (x .working .frames) (ok .working .frames .frames) bytes-frame)
-      (each-append (encodeLog (x .working .log)) _ (bytes-log (x .working .log) (ok .working .log))
-      (rw (encodeStable-split (x .stable))
-      (each-append (encodeArea (area0 (x .stable))) _ (bytes-area (area0 (x .stable)) (area0-ok pages x ok))
+      (each-append (encodeLogIn form (x .working .log)) _ (bytes-log (x .working .log) (ok .working .log))
+      (rw (encodeStable-split form (x .stable))
+      (each-append (encodeAreaIn form (area0 (x .stable))) _ (bytes-area (area0 (x .stable)) (area0-ok pages x ok))
       (bytes-area (area1 (x .stable)) (area1-ok pages x ok))))))

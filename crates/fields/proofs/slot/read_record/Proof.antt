@@ -1,40 +1,19 @@
--- `fields::slot::read_record` meets its contract: field by field, what the readers say. Assumes nothing.
-use Rattle.model.specs.Definitions.Parts.{byteAt, part}
-use Rattle.model.specs.Definitions.Codec.{decodeRecord}
+-- `fields::slot::read_record` meets its contract: a record of the count that it reads. Assumes nothing.
+use mathlib.Core.Path.{_∙_}
+use Rattle.model.specs.Definitions.Layout.{today}
+use Rattle.fields.specs.SlotParts.{recordOf-read}
 use borrow.Author.Needs.{needs}
 use Rattle.fields.proofs.slot.read_record.Statement.{statement}
 use Rattle.fields.proofs.slot.read_record.Tie as tie
 
-shared-slice-read-read-kind : tie.Need-shared-slice-read-read-kind
-shared-slice-read-read-kind c = search needs
+get-u32-requires : tie.Need-get-u32-requires
+get-u32-requires c κs = search needs
 
-shared-slice-read-read-kind-2 : tie.Need-shared-slice-read-read-kind-2
-shared-slice-read-read-kind-2 c = search needs
-
-shared-slice-read-read-kind-3 : tie.Need-shared-slice-read-read-kind-3
-shared-slice-read-read-kind-3 c = search needs
-
-read-kind-requires : tie.Need-read-kind-requires
-read-kind-requires c κs = search needs
-
-get-u16-requires : tie.Need-get-u16-requires
-get-u16-requires c κs = search needs
-
-read-page-requires : tie.Need-read-page-requires
-read-page-requires c κs = search needs
+record-with-requires : tie.Need-record-with-requires
+record-with-requires c κs = search needs
 
 returns : tie.Need-returns
-unfolding decodeRecord byteAt part
-returns c = rw (c .before .before .read-kind .ensures, c .before .get-u16 .ensures, c .read-page .ensures)
+returns c = c .record-with .ensures ∙ recordOf-read today _ (c .before .get-u32 .ensures)
 
 pub read-record-spec : {M : Type 1} → statement M
-read-record-spec =
-    tie.close
-    (tie.spec
-    shared-slice-read-read-kind
-    shared-slice-read-read-kind-2
-    shared-slice-read-read-kind-3
-    read-kind-requires
-    get-u16-requires
-    read-page-requires
-    returns)
+read-record-spec = tie.close (tie.spec get-u32-requires record-with-requires returns)

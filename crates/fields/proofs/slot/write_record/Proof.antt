@@ -29,8 +29,8 @@ written l m n o r e g p q s =
 write-kind-requires : tie.Need-write-kind-requires
 write-kind-requires c κs = search needs
 
-put-u16-requires : tie.Need-put-u16-requires
-put-u16-requires c κs = search needs
+put-u32-requires : tie.Need-put-u32-requires
+put-u32-requires c κs = search needs
 
 write-page-requires : tie.Need-write-page-requires
 write-page-requires c κs = search needs
@@ -44,9 +44,9 @@ returns c =
     let wrote = c .before .before .write-page in
     written _ _ _ _ (start .args .r) (start .pre) (wrote .ensures .1)
     (c .before .before .before .before .before .before .before .before .before .before .before .write-kind .ensures)
-    (c .before .before .before .before .before .before .before .put-u16 .ensures) (wrote .ensures .0)
+    (c .before .before .before .before .before .before .before .put-u32 .ensures) (wrote .ensures .0)
 
 pub write-record-spec : {M : Type 1} → statement M
 write-record-spec =
     tie.close
-    (tie.spec write-kind-requires put-u16-requires write-page-requires same-length returns)
+    (tie.spec write-kind-requires put-u32-requires write-page-requires same-length returns)

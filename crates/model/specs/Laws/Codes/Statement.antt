@@ -86,7 +86,7 @@ StateOut (Checkpointing b) k = (boardAt k b .state ≡ Down) ⊎ (boardAt k b .s
 StateOut (Fusing b n) k = boardAt k b .state ≡ Down
 StateOut (Restarting b) k = boardAt k b .state ≢ Down
 
--- ==== 4: "access with since 65,535 or number 4,294,967,295"
+-- ==== 4: "since or access number at 4,294,967,295" (document 02, F-2)
 
 abbrev pub CountersEnd : Board → Type 0
 CountersEnd x = (x .working .since ≡ lastSince) ⊎ (x .working .number ≡ lastNumber)

@@ -6,11 +6,11 @@ use Rattle.types.specs.declared.Answer.{Answer}
 use Rattle.types.specs.declared.Answer.the-variants.{Done, Malformed, OutOfRange, WrongState, CountersFull, ReplayDiffers, OwnerNotUp, LogFull, PowerLost}
 use Rattle.types.specs.declared.Frame.{Frame}
 use Rattle.model.specs.Definitions.Layout.{lastSince}
-use Rattle.model.specs.Definitions.Bank.{Log, Area, Board, Bank}
+use Rattle.model.specs.Definitions.Bank.{Log, Area, Board, Bank, logOver, areaOver, boardOver}
 use Rattle.model.specs.Definitions.Steps.{Access, Read, Write}
 use Rattle.model.specs.Definitions.Calls.{Call, Accessing, Checkpointing, Fusing, Restarting, callWithin, callBank}
-use Rattle.model.specs.Likeness.{FrameAlike, RecordAlike, FramesAlike, LogAlike, AreaAlike, BoardAlike, logOver, areaOver, boardOver, slotsOver}
-use Rattle.model.specs.Likeness.{mappedAccess, mappedValue, mappedCall, mappedCallValue, onValue, ResultAlike, SameBelowCounts, SameAnswer}
+use Rattle.model.specs.Likeness.{FrameAlike, RecordAlike, FramesAlike, LogAlike, AreaAlike, BoardAlike, slotsOver, mappedAccess, mappedValue, mappedCall}
+use Rattle.model.specs.Likeness.{mappedCallValue, onValue, ResultAlike, SameBelowCounts, SameAnswer}
 use Rattle.model.specs.Laws.Likeness.{pairs-over, pairs-same}
 use Rattle.model.specs.Laws.Likeness.Calls.{calls-alike}
 
@@ -77,7 +77,7 @@ same-area : (l : List ℕ) (x : Area) → AreaAlike (λ v. v) x (areaOver l x)
 unfolding areaOver
 same-area l x = record { number = refl; frames = same-frames (x .frames); log = same-log l (x .log) }
 
-same-board : (v s t : List ℕ) (x : Board) → BoardAlike (λ v. v) x (boardOver v s t x)
+pub same-board : (v s t : List ℕ) (x : Board) → BoardAlike (λ v. v) x (boardOver v s t x)
 unfolding boardOver
 same-board v s t x =
     record {

@@ -4,7 +4,7 @@ use native.Mathlib.Omega.{arith}
 use lib.ListN.{length}
 use borrow.Author.Tests.{leb-true, leb-false}
 use borrow.Author.Needs.{needs}
-use Rattle.model.specs.Definitions.Codec.{decodeBoard}
+use Rattle.model.specs.Definitions.Codec.{decodeBoardIn}
 use Rattle.model.specs.Definitions.Replay.{replayOver}
 use Rattle.steps.specs.Blocks.{boardOf}
 use Rattle.steps.specs.BlockLaws.{block-length}
@@ -34,7 +34,7 @@ cast-read-stored : tie.Need-cast-read-stored
 cast-read-stored c = search needs
 
 read-stored-requires : tie.Need-read-stored-requires
-unfolding replayOver decodeBoard
+unfolding replayOver decodeBoardIn
 read-stored-requires c κs =
     let block = c .before .before .before .before .pre in
     let x = boardOf (c .before .before .before .before .args .pages) (c .before .before .before .before .args .block .now) in

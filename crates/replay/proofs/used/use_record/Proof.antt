@@ -1,7 +1,7 @@
 -- `replay::used::use_record` meets its contract. Assumes nothing.
 use native.Mathlib.Omega.{arith}
 use borrow.Author.Needs.{needs}
-use Rattle.model.specs.Definitions.Codec.{decodeBoard}
+use Rattle.model.specs.Definitions.Codec.{decodeBoardIn}
 use Rattle.steps.specs.BlockLaws.{block-length}
 use Rattle.replay.specs.Used.{record-used}
 use Rattle.replay.proofs.used.use_record.Statement.{statement}
@@ -11,7 +11,7 @@ read-place-requires : tie.Need-read-place-requires
 read-place-requires c κs = omega (arith, block-length (c .before .before .pre .0))
 
 add-write-place : tie.Need-add-write-place
-unfolding decodeBoard
+unfolding decodeBoardIn
 add-write-place c = omega (arith, c .before .read-place .ensures)
 
 write-place-requires : tie.Need-write-place-requires

@@ -1,7 +1,7 @@
 -- `steps::access::read_access` meets its contract: both counters are one more. Assumes nothing.
 use native.Mathlib.Omega.{arith}
 use borrow.Author.Needs.{needs}
-use Rattle.model.specs.Definitions.Codec.{decodeBoard}
+use Rattle.model.specs.Definitions.Codec.{decodeBoardIn}
 use Rattle.steps.specs.Access.{access-counted}
 use Rattle.steps.proofs.access.read_access.Statement.{statement}
 use Rattle.steps.proofs.access.read_access.Tie as tie
@@ -14,14 +14,14 @@ read-since-requires : tie.Need-read-since-requires
 read-since-requires c κs = omega (arith, block-length (c .before .before .before .before .pre .0))
 
 add-write-number : tie.Need-add-write-number
-unfolding decodeBoard
+unfolding decodeBoardIn
 add-write-number c = omega (arith, c .before .before .before .read-number .ensures)
 
 write-number-requires : tie.Need-write-number-requires
 write-number-requires c κs = omega (arith, block-length (c .before .before .before .before .before .before .pre .0))
 
 add-write-since : tie.Need-add-write-since
-unfolding decodeBoard
+unfolding decodeBoardIn
 add-write-since c = omega (arith, c .before .before .before .before .before .read-since .ensures)
 
 write-since-requires : tie.Need-write-since-requires

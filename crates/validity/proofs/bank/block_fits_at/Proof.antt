@@ -6,31 +6,31 @@ use Prim.Native.Nat.{ℕ, _+_, _-_, _*_}
 use mathlib.Core.Bool.{Bool}
 use mathlib.Core.List.{List}
 use lib.ListN.{take, drop}
-use Rattle.model.specs.Definitions.Layout.{entrySize, headSize, blockSize, blocksAt}
+use Rattle.model.specs.Definitions.Layout.{entrySize, headSize, blocksAt, Form, formOf, blockSizeIn}
 use Rattle.model.specs.Definitions.Parts.{part}
 use Rattle.model.specs.Laws.Parts.{index-in}
-use Rattle.model.specs.Definitions.Check.{blockFits, directoryOf, blockOf}
+use Rattle.model.specs.Definitions.Check.{blockFits, directoryOf, blockOfIn}
 use Rattle.fields.proofs.Lent.{lent-read}
 use Rattle.validity.proofs.bank.block_fits_at.Statement.{statement}
 use Rattle.validity.proofs.bank.block_fits_at.Tie as tie
 
-lent : (s : List ℕ) (pages board a size : ℕ) (r : Bool) → a ≡ blocksAt pages + board * blockSize pages → size ≡ blockSize pages
-    → r ≡ blockFits pages (take (headSize + pages * entrySize - headSize) (drop headSize s)) (take (a + size - a) (drop a s)) board
-    → r ≡ blockFits pages (directoryOf pages s) (blockOf pages s board) board
-unfolding directoryOf blockOf
-lent s pages board a size r p q h =
+lent : (form : Form) (s : List ℕ) (pages board a size : ℕ) (r : Bool) → a ≡ blocksAt pages + board * blockSizeIn form pages → size ≡ blockSizeIn form pages
+    → r ≡ blockFits form pages (take (headSize + pages * entrySize - headSize) (drop headSize s)) (take (a + size - a) (drop a s)) board
+    → r ≡ blockFits form pages (directoryOf pages s) (blockOfIn form pages s board) board
+unfolding directoryOf blockOfIn
+lent form s pages board a size r p q h =
     rw (← p, ← q)
-    (lent-read s a size (λ l. blockFits pages (part s headSize (pages * entrySize)) l board) r
-    (lent-read s headSize (pages * entrySize) (λ d. blockFits pages d (take (a + size - a) (drop a s)) board) r h))
+    (lent-read s a size (λ l. blockFits form pages (part s headSize (pages * entrySize)) l board) r
+    (lent-read s headSize (pages * entrySize) (λ d. blockFits form pages d (take (a + size - a) (drop a s)) board) r h))
 
 mul-n : tie.Need-mul-n
 mul-n c = search needs
 
-block-at-requires : tie.Need-block-at-requires
-block-at-requires c κs = search needs
+block-at-in-requires : tie.Need-block-at-in-requires
+block-at-in-requires c κs = search needs
 
-block-size-requires : tie.Need-block-size-requires
-block-size-requires c κs = search needs
+block-size-in-requires : tie.Need-block-size-in-requires
+block-size-in-requires c κs = search needs
 
 add-block-fits : tie.Need-add-block-fits
 add-block-fits c = search needs
@@ -47,7 +47,7 @@ part-block-fits-end c = search needs
 add-block-fits-2 : tie.Need-add-block-fits-2
 add-block-fits-2 c =
     let start = c .before .before .before .before in
-    omega (arith, index-in (blockSize (start .args .pages)) (start .args .boards) (start .args .board) (start .pre .3))
+    omega (arith, index-in (blockSizeIn (formOf (start .args .since)) (start .args .pages)) (start .args .boards) (start .args .board) (start .pre .1))
 
 sub-block-fits-2 : tie.Need-sub-block-fits-2
 sub-block-fits-2 c = search needs
@@ -58,7 +58,7 @@ part-block-fits-start-2 c = search needs
 part-block-fits-end-2 : tie.Need-part-block-fits-end-2
 part-block-fits-end-2 c =
     let start = c .before .before .before .before in
-    omega (arith, index-in (blockSize (start .args .pages)) (start .args .boards) (start .args .board) (start .pre .3))
+    omega (arith, index-in (blockSizeIn (formOf (start .args .since)) (start .args .pages)) (start .args .boards) (start .args .board) (start .pre .1))
 
 block-fits-requires : tie.Need-block-fits-requires
 block-fits-requires c κs = search needs
@@ -66,15 +66,16 @@ block-fits-requires c κs = search needs
 returns : tie.Need-returns
 returns c =
     let sized = c .before .before .before in
-    lent (sized .before .before .before .args .bank .now) _ _ _ _ _ (sized .before .block-at .ensures) (sized .block-size .ensures) (c .block-fits .ensures)
+    lent _ (sized .before .before .before .args .bank .now) _ _ _ _ _ (sized .before .block-at-in .ensures) (sized .block-size-in .ensures)
+    (c .block-fits .ensures)
 
 pub block-fits-at-spec : {M : Type 1} → statement M
 block-fits-at-spec =
     tie.close
     (tie.spec
     mul-n
-    block-at-requires
-    block-size-requires
+    block-at-in-requires
+    block-size-in-requires
     add-block-fits
     sub-block-fits
     part-block-fits-start

@@ -3,17 +3,20 @@ use native.Mathlib.Omega.{arith}
 use mathlib.Core.Path.{_≡_}
 use Prim.Native.Nat.{_≤_, _-_}
 use mathlib.Core.Bool.{true}
+use Rattle.model.specs.Definitions.Layout.{formOf}
 use Rattle.model.specs.Definitions.Parts.{everyBelow}
-use Rattle.model.specs.Definitions.Check.{blockFits, directoryOf, blockOf, blocksFit}
+use Rattle.model.specs.Definitions.Check.{blockFits, directoryOf, blockOfIn, blocksFit}
 use Rattle.validity.specs.Search.{failed, passed, below-none, below-next, below-stop, below-end}
 use Rattle.validity.proofs.bank.blocks_fit.Statement.{statement}
 use Rattle.validity.proofs.bank.blocks_fit.Tie as tie
 
 abbrev Inv-loop : tie.InvT-loop
-Inv-loop bank boards pages board₀ board = (board ≤ boards) × (everyBelow board (λ b. blockFits pages (directoryOf pages bank) (blockOf pages bank b) b) ≡ true)
+Inv-loop bank since boards pages board₀ board =
+    (board ≤ boards)
+    × (everyBelow board (λ b. blockFits (formOf since) pages (directoryOf pages bank) (blockOfIn (formOf since) pages bank b) b) ≡ true)
 
 abbrev μ-loop : tie.MeasureT-loop
-μ-loop bank boards pages board₀ board = boards - board
+μ-loop bank since boards pages board₀ board = boards - board
 
 loop-holds : tie.Need-loop-holds Inv-loop μ-loop
 loop-holds c = (omega arith, below-none _)

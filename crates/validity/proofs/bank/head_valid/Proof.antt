@@ -1,28 +1,27 @@
 -- `validity::bank::head_valid` meets its contract: each return follows the tests in turn. Assumes nothing.
 use borrow.Author.Needs.{needs}
 use borrow.Author.Tests.{ne-eqb}
+use native.Mathlib.Omega.{arith}
+use mathlib.Core.Path.{_≡_}
+use mathlib.Core.Bool.{_&&_}
+use lib.ListN.{length}
+use lib.Dec.{eqb, ltb, leb}
+use Rattle.model.specs.Definitions.Layout.{mostPages, pagesAt, formOf, bankSizeIn}
 use Rattle.model.specs.Definitions.Parts.{byteAt}
 use Rattle.model.specs.Definitions.Check.{headValid}
 use Rattle.validity.specs.Search.{failed, passed}
 use Rattle.validity.specs.Order.{in-range-says, head-test, no-head}
-use mathlib.Core.Path.{_≡_}
-use mathlib.Core.Bool.{_&&_}
-use Prim.Native.Nat.{ℕ}
-use mathlib.Core.List.{List}
-use lib.ListN.{length}
-use lib.Dec.{eqb, ltb, leb}
-use Rattle.model.specs.Definitions.Layout.{mostPages, pagesAt, bankSize}
 use Rattle.validity.proofs.bank.head_valid.Statement.{statement}
 use Rattle.validity.proofs.bank.head_valid.Tie as tie
 
 -- what is left to test once the number of boards is known
-abbrev bytes : tie.Else4 → List ℕ
-bytes c = c .before .before .before .before .before .before .before .before .before .before .args .bank .now
-
 boards-known : (c : tie.Else4)
-    → headValid (bytes c)
-    ≡ ((ltb 0 (byteAt (bytes c) pagesAt) && leb (byteAt (bytes c) pagesAt) mostPages)
-    && eqb (length (bytes c)) (bankSize (c .before .before .wide .result) (byteAt (bytes c) pagesAt)))
+    → let start = c .before .before .before .before .before .before .before .before .before .before in
+    let form = formOf (start .args .since) in
+    let s = start .args .bank .now in
+    headValid form s
+    ≡ ((ltb 0 (byteAt s pagesAt) && leb (byteAt s pagesAt) mostPages)
+    && eqb (length s) (bankSizeIn form (c .before .before .wide .result) (byteAt s pagesAt)))
 unfolding byteAt
 boards-known c =
     let read = c .before .before in
@@ -36,7 +35,7 @@ boards-known c =
     )
 
 returns : tie.Need-returns
-returns c = no-head (c .before .before .args .bank .now) (c .if1 .taken)
+returns c = no-head _ (c .before .before .args .bank .now) (c .if1 .taken)
 
 shared-slice-read-if2 : tie.Need-shared-slice-read-if2
 shared-slice-read-if2 c = search needs
@@ -88,9 +87,10 @@ unfolding byteAt
 returns-5 c =
     rw (boards-known (c .before .before .before .before), ← c .before .before .wide2 .ensures .0, failed (c .before .in-range2 .ensures) (c .if5 .taken))
 
-bank-size-requires : tie.Need-bank-size-requires
-bank-size-requires c κs =
+bank-size-in-requires : tie.Need-bank-size-in-requires
+bank-size-in-requires c κs =
     let boards = c .before .before .before .before in (
+      omega arith,
       in-range-says _ _ (passed (c .before .in-range2 .ensures) (c .if5 .left)),
       in-range-says _ _ (passed (boards .before .in-range .ensures) (boards .if4 .left)),
     )
@@ -103,7 +103,7 @@ returns-6 c =
       boards-known (pages .before .before .before .before),
       ← pages .before .before .wide2 .ensures .0,
       passed (pages .before .in-range2 .ensures) (pages .if5 .left),
-      c .bank-size .ensures,
+      c .bank-size-in .ensures,
     )
 
 pub head-valid-spec : {M : Type 1} → statement M
@@ -123,5 +123,5 @@ head-valid-spec =
     wide-requires-2
     in-range-requires-2
     returns-5
-    bank-size-requires
+    bank-size-in-requires
     returns-6)

@@ -13,11 +13,8 @@ area-count-requires-2 c κs = search needs
 larger-requires : tie.Need-larger-requires
 larger-requires c κs = search needs
 
-read-volatile-count-requires : tie.Need-read-volatile-count-requires
-read-volatile-count-requires c κs = search needs
-
-wide-requires : tie.Need-wide-requires
-wide-requires c κs = search needs
+volatile-count-requires : tie.Need-volatile-count-requires
+volatile-count-requires c κs = search needs
 
 larger-requires-2 : tie.Need-larger-requires-2
 larger-requires-2 c κs = search needs
@@ -26,11 +23,10 @@ returns : tie.Need-returns
 unfolding longestLog
 returns c =
     let volatile = c .before in
-    let stored = volatile .before .before in
+    let stored = volatile .before in
     rw (
       c .larger2 .ensures,
-      volatile .wide .ensures .0,
-      volatile .before .read-volatile-count .ensures,
+      volatile .volatile-count .ensures .0,
       stored .larger .ensures,
       stored .before .area-count2 .ensures .0,
       stored .before .before .area-count .ensures .0,
@@ -43,7 +39,6 @@ longest-log-spec =
     area-count-requires
     area-count-requires-2
     larger-requires
-    read-volatile-count-requires
-    wide-requires
+    volatile-count-requires
     larger-requires-2
     returns)

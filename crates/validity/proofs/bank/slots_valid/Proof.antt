@@ -1,41 +1,32 @@
 -- `validity::bank::slots_valid` meets its contract: each return follows the logs in turn. Assumes nothing.
-use mathlib.Core.Path.{_≡_}
-use Prim.Native.Nat.{ℕ}
-use mathlib.Core.List.{List}
 use borrow.Author.Needs.{needs}
-use Rattle.model.specs.Definitions.Layout.{volatileCountAt, slotsAt}
+use mathlib.Core.Path.{_≡_}
+use Rattle.model.specs.Definitions.Layout.{formOf, volatileCountAtIn, slotsAtIn}
 use Rattle.model.specs.Definitions.Parts.{byteAt}
-use Rattle.model.specs.Definitions.Check.{recordValid, slotsValid}
+use Rattle.model.specs.Definitions.Check.{recordValid, storedValid, slotsValid}
 use Rattle.validity.specs.Search.{failed, passed}
 use Rattle.validity.proofs.bank.slots_valid.Statement.{statement}
 use Rattle.validity.proofs.bank.slots_valid.Tie as tie
 
--- the volatile log's slot, by the places and counts that the code read
-module _ (c : tie.After-record-valid) where
-  abbrev pages : ℕ
-  pages = c .before .before .before .before .before .args .pages
+-- the slots of the volatile log and of area 0, as the definition finds them
+volatile : (c : tie.After-record-valid)
+    → let start = c .before .before .before .before in
+    let form = formOf (start .args .since) in
+    let l = start .args .block .now in
+    c .record-valid .result
+    ≡ recordValid form (start .args .pages) (slotsAtIn form (start .args .pages)) (byteAt l (volatileCountAtIn form)) l (start .args .index)
+volatile c = rw (← c .before .slots-at-in .ensures, ← c .before .before .volatile-count .ensures .0) (c .record-valid .ensures)
 
-  abbrev bytes : List ℕ
-  bytes = c .before .before .before .before .before .args .block .now
+stored : (c : tie.After-stored-valid)
+    → let start = c .before .before .before .before .before .before in
+    c .stored-valid .result ≡ storedValid (formOf (start .args .since)) (start .args .pages) 0 (start .args .block .now) (start .args .index)
+stored c = c .stored-valid .ensures
 
-  volatile : c .record-valid .result
-      ≡ recordValid pages (slotsAt pages) (byteAt bytes volatileCountAt) bytes (c .before .before .before .before .before .args .index)
-  volatile =
-      cc (
-        c .record-valid .ensures,
-        c .before .slots-at .ensures,
-        c .before .before .wide .ensures .0,
-        c .before .before .before .read-volatile-count .ensures,
-      )
+volatile-count-requires : tie.Need-volatile-count-requires
+volatile-count-requires c κs = search needs
 
-read-volatile-count-requires : tie.Need-read-volatile-count-requires
-read-volatile-count-requires c κs = search needs
-
-wide-requires : tie.Need-wide-requires
-wide-requires c κs = search needs
-
-slots-at-requires : tie.Need-slots-at-requires
-slots-at-requires c κs = search needs
+slots-at-in-requires : tie.Need-slots-at-in-requires
+slots-at-in-requires c κs = search needs
 
 record-valid-requires : tie.Need-record-valid-requires
 record-valid-requires c κs = search needs
@@ -51,7 +42,7 @@ returns-2 : tie.Need-returns-2
 unfolding slotsValid
 returns-2 c =
     let kept = c .before .before in
-    rw (passed (volatile (kept .before)) (kept .if1 .left), failed (c .before .stored-valid .ensures) (c .if2 .taken))
+    rw (passed (volatile (kept .before)) (kept .if1 .left), failed (stored (c .before)) (c .if2 .taken))
 
 stored-valid-requires-2 : tie.Need-stored-valid-requires-2
 stored-valid-requires-2 c κs = search needs
@@ -59,17 +50,16 @@ stored-valid-requires-2 c κs = search needs
 returns-3 : tie.Need-returns-3
 unfolding slotsValid
 returns-3 c =
-    let stored = c .before in
-    let kept = stored .before .before in
-    rw (passed (volatile (kept .before)) (kept .if1 .left), passed (stored .before .stored-valid .ensures) (stored .if2 .left), c .stored-valid2 .ensures)
+    let first = c .before in
+    let kept = first .before .before in
+    rw (passed (volatile (kept .before)) (kept .if1 .left), passed (stored (first .before)) (first .if2 .left), c .stored-valid2 .ensures)
 
 pub slots-valid-spec : {M : Type 1} → statement M
 slots-valid-spec =
     tie.close
     (tie.spec
-    read-volatile-count-requires
-    wide-requires
-    slots-at-requires
+    volatile-count-requires
+    slots-at-in-requires
     record-valid-requires
     returns
     stored-valid-requires

@@ -5,15 +5,18 @@ use Rattle.validity.specs.Search.{failed, passed}
 use Rattle.validity.proofs.block.all_frames_valid.Statement.{statement}
 use Rattle.validity.proofs.block.all_frames_valid.Tie as tie
 
+frames-at-in-requires : tie.Need-frames-at-in-requires
+frames-at-in-requires c κs = search needs
+
 frames-valid-requires : tie.Need-frames-valid-requires
 frames-valid-requires c κs = search needs
 
 returns : tie.Need-returns
 unfolding allFramesValid
-returns c = rw (failed (c .before .frames-valid .ensures) (c .if1 .taken))
+returns c = rw (← c .before .before .frames-at-in .ensures, failed (c .before .frames-valid .ensures) (c .if1 .taken))
 
-area-at-requires : tie.Need-area-at-requires
-area-at-requires c κs = search needs
+area-at-in-requires : tie.Need-area-at-in-requires
+area-at-in-requires c κs = search needs
 
 add-frames-valid : tie.Need-add-frames-valid
 add-frames-valid c = search needs
@@ -26,13 +29,14 @@ unfolding allFramesValid
 returns-2 c =
     let working = c .before .before .before in
     rw (
+      ← c .before .before .area-at-in .ensures,
+      ← working .before .before .frames-at-in .ensures,
       passed (working .before .frames-valid .ensures) (working .if1 .left),
-      ← c .before .before .area-at .ensures,
       failed (c .before .frames-valid2 .ensures) (c .if2 .taken),
     )
 
-area-at-requires-2 : tie.Need-area-at-requires-2
-area-at-requires-2 c κs = search needs
+area-at-in-requires-2 : tie.Need-area-at-in-requires-2
+area-at-in-requires-2 c κs = search needs
 
 add-frames-valid-2 : tie.Need-add-frames-valid-2
 add-frames-valid-2 c = search needs
@@ -46,10 +50,11 @@ returns-3 c =
     let first = c .before .before in
     let working = first .before .before .before in
     rw (
+      ← c .before .area-at-in2 .ensures,
+      ← first .before .before .area-at-in .ensures,
+      ← working .before .before .frames-at-in .ensures,
       passed (working .before .frames-valid .ensures) (working .if1 .left),
-      ← first .before .before .area-at .ensures,
       passed (first .before .frames-valid2 .ensures) (first .if2 .left),
-      ← c .before .area-at2 .ensures,
       c .frames-valid3 .ensures,
     )
 
@@ -57,13 +62,14 @@ pub all-frames-valid-spec : {M : Type 1} → statement M
 all-frames-valid-spec =
     tie.close
     (tie.spec
+    frames-at-in-requires
     frames-valid-requires
     returns
-    area-at-requires
+    area-at-in-requires
     add-frames-valid
     frames-valid-requires-2
     returns-2
-    area-at-requires-2
+    area-at-in-requires-2
     add-frames-valid-2
     frames-valid-requires-3
     returns-3)

@@ -15,11 +15,8 @@ returns c = rw (← c .before .read-fuse .ensures, c .if1 .taken)
 selected-count-requires : tie.Need-selected-count-requires
 selected-count-requires c κs = search needs
 
-read-volatile-count-requires : tie.Need-read-volatile-count-requires
-read-volatile-count-requires c κs = search needs
-
-wide-requires : tie.Need-wide-requires
-wide-requires c κs = search needs
+volatile-count-requires : tie.Need-volatile-count-requires
+volatile-count-requires c κs = search needs
 
 add-if2 : tie.Need-add-if2
 add-if2 c = search needs
@@ -27,13 +24,12 @@ add-if2 c = search needs
 returns-2 : tie.Need-returns-2
 unfolding boardValid
 returns-2 c =
-    let fused = c .before .before .before .before in
+    let fused = c .before .before .before in
     rw (
       ← fused .before .read-fuse .ensures,
       ne-eqb _ _ (fused .if1 .left),
-      ← c .before .before .before .selected-count .ensures .0,
-      ← c .before .before .read-volatile-count .ensures,
-      ← c .before .wide .ensures .0,
+      ← c .before .before .selected-count .ensures .0,
+      ← c .before .volatile-count .ensures .0,
       lt-leb _ _ (c .if2 .taken),
     )
 
@@ -44,13 +40,12 @@ returns-3 : tie.Need-returns-3
 unfolding boardValid
 returns-3 c =
     let room = c .before in
-    let fused = room .before .before .before .before in
+    let fused = room .before .before .before in
     rw (
       ← fused .before .read-fuse .ensures,
       ne-eqb _ _ (fused .if1 .left),
-      ← room .before .before .before .selected-count .ensures .0,
-      ← room .before .before .read-volatile-count .ensures,
-      ← room .before .wide .ensures .0,
+      ← room .before .before .selected-count .ensures .0,
+      ← room .before .volatile-count .ensures .0,
       le-leb _ _ (room .if2 .left),
       c .state-valid .ensures,
     )
@@ -62,8 +57,7 @@ board-valid-spec =
     read-fuse-requires
     returns
     selected-count-requires
-    read-volatile-count-requires
-    wide-requires
+    volatile-count-requires
     add-if2
     returns-2
     state-valid-requires

@@ -5,15 +5,12 @@ use Rattle.model.specs.Definitions.Check.{countsValid}
 use Rattle.validity.proofs.block.counts_valid.Statement.{statement}
 use Rattle.validity.proofs.block.counts_valid.Tie as tie
 
-read-volatile-count-requires : tie.Need-read-volatile-count-requires
-read-volatile-count-requires c κs = search needs
-
-wide-requires : tie.Need-wide-requires
-wide-requires c κs = search needs
+volatile-count-requires : tie.Need-volatile-count-requires
+volatile-count-requires c κs = search needs
 
 returns : tie.Need-returns
 unfolding countsValid
-returns c = rw (← c .before .before .read-volatile-count .ensures, ← c .before .wide .ensures .0, lt-leb _ _ (c .if1 .taken))
+returns c = rw (← c .before .volatile-count .ensures .0, lt-leb _ _ (c .if1 .taken))
 
 area-count-requires : tie.Need-area-count-requires
 area-count-requires c κs = search needs
@@ -23,8 +20,7 @@ unfolding countsValid
 returns-2 c =
     let few = c .before .before in
     rw (
-      ← few .before .before .read-volatile-count .ensures,
-      ← few .before .wide .ensures .0,
+      ← few .before .volatile-count .ensures .0,
       le-leb _ _ (few .if1 .left),
       ← c .before .area-count .ensures .0,
       lt-leb _ _ (c .if2 .taken),
@@ -39,8 +35,7 @@ returns-3 c =
     let less = c .before in
     let few = less .before .before in
     rw (
-      ← few .before .before .read-volatile-count .ensures,
-      ← few .before .wide .ensures .0,
+      ← few .before .volatile-count .ensures .0,
       le-leb _ _ (few .if1 .left),
       ← less .before .area-count .ensures .0,
       le-leb _ _ (less .if2 .left),
@@ -51,8 +46,7 @@ pub counts-valid-spec : {M : Type 1} → statement M
 counts-valid-spec =
     tie.close
     (tie.spec
-    read-volatile-count-requires
-    wide-requires
+    volatile-count-requires
     returns
     area-count-requires
     returns-2

@@ -1,4 +1,5 @@
 -- `validity::block::pages_agree` meets its contract. The loop's invariant: the pages before `page` agree. Assumes nothing.
+use borrow.Author.Needs.{needs}
 use mathlib.Core.Path.{_≡_}
 use Prim.Native.Nat.{ℕ, _≤_, _-_, _*_, _+_}
 use native.Mathlib.Omega.{arith}
@@ -7,41 +8,44 @@ use mathlib.Core.List.{List}
 use lib.ListN.{take, drop, length-take, length-drop}
 use lib.Dec.{eqb}
 use Rattle.types.specs.declared.State.the-variants.{Up}
-use Rattle.model.specs.Definitions.Layout.{entrySize, frameSize, stateAt, framesAt}
+use Rattle.model.specs.Definitions.Layout.{entrySize, frameSize, stateAt, Form, formOf, framesAtIn}
 use Rattle.model.specs.Definitions.Parts.{byteAt, everyBelow}
 use Rattle.model.specs.Definitions.Codec.{decodeEntry, rightOf, decodeFrame, stateByte}
 use Rattle.model.specs.Definitions.Check.{pageAgrees, pageAgreesAt, pagesAgree}
-use Rattle.validity.specs.Search.{failed, passed, below-none, below-next, below-stop, below-end}
-use borrow.Author.Needs.{needs}
 use Rattle.model.specs.Laws.Parts.{byteAt-first}
 use Rattle.fields.proofs.Lent.{lent-read}
+use Rattle.validity.specs.Search.{failed, passed, below-none, below-next, below-stop, below-end}
 use Rattle.validity.proofs.block.pages_agree.Statement.{statement}
 use Rattle.validity.proofs.block.pages_agree.Tie as tie
 
 -- what the callee says of the part that it was lent
-agreed : (directory l : List ℕ) (board page state up right : ℕ) (r : Bool)
+agreed : (form : Form) (directory l : List ℕ) (board page state up frames right : ℕ) (r : Bool)
     → state ≡ byteAt l stateAt
     → up ≡ stateByte Up
-    → right ≡ byteAt l (framesAt + page * frameSize)
+    → frames ≡ framesAtIn form
+    → right ≡ byteAt l (frames + page * frameSize)
     → r ≡ pageAgrees (eqb state up) (rightOf right)
     (decodeEntry (take (page * entrySize + entrySize - page * entrySize) (drop (page * entrySize) directory))) board
-    → r ≡ pageAgreesAt directory l board page
+    → r ≡ pageAgreesAt form directory l board page
 unfolding pageAgreesAt decodeFrame
-agreed directory l board page state up right r p u q h =
-    rw (← byteAt-first l (framesAt + page * frameSize) frameSize (omega arith), ← p, ← u, ← q)
+agreed form directory l board page state up frames right r p u f q h =
+    rw (← f, ← byteAt-first l (frames + page * frameSize) frameSize (omega arith), ← p, ← u, ← q)
     (lent-read directory (page * entrySize) entrySize (λ e. pageAgrees (eqb state up) (rightOf right) (decodeEntry e) board) r h)
 
 abbrev Inv-loop : tie.InvT-loop
-Inv-loop directory block pages board up page₀ page = (page ≤ pages) × (everyBelow page (pageAgreesAt directory block board) ≡ true)
+Inv-loop directory block since pages board up frames page₀ page = (page ≤ pages) × (everyBelow page (pageAgreesAt (formOf since) directory block board) ≡ true)
 
 abbrev μ-loop : tie.MeasureT-loop
-μ-loop directory block pages board up page₀ page = pages - page
+μ-loop directory block since pages board up frames page₀ page = pages - page
 
 get-requires : tie.Need-get-requires Inv-loop μ-loop
 get-requires c κs = omega arith
 
 state-byte-requires : tie.Need-state-byte-requires Inv-loop μ-loop
 state-byte-requires c κs = search needs
+
+frames-at-in-requires : tie.Need-frames-at-in-requires Inv-loop μ-loop
+frames-at-in-requires c κs = omega arith
 
 loop-holds : tie.Need-loop-holds Inv-loop μ-loop
 loop-holds c = (omega arith, below-none _)
@@ -74,12 +78,15 @@ page-agrees-requires : tie.Need-page-agrees-requires Inv-loop μ-loop
 page-agrees-requires c κs = (simp (length-take, length-drop) (omega arith), omega arith)
 
 tested : (c : tie.After-page-agrees Inv-loop μ-loop)
-    → let start = c .before .before .before .before .before .before .before .before .before in
+    → let start = c .before .before .before .before .before .before .before .before .before .before in
     c .page-agrees .result
-    ≡ pageAgreesAt (start .args .directory .now) (start .args .block .now) (start .args .board) (c .before .before .before .before .loop .page)
+    ≡ pageAgreesAt (formOf (start .args .since)) (start .args .directory .now) (start .args .block .now) (start .args .board)
+    (c .before .before .before .before .loop .page)
 tested c =
-    let up = c .before .before .before .before .before in
-    agreed _ _ _ _ _ _ _ _ (up .before .get .ensures) (up .state-byte .ensures) (c .before .before .get2 .ensures) (c .page-agrees .ensures)
+    let frames = c .before .before .before .before .before in
+    let up = frames .before in
+    agreed _ _ _ _ _ _ _ _ _ _ (up .before .get .ensures) (up .state-byte .ensures) (frames .frames-at-in .ensures) (c .before .before .get2 .ensures)
+    (c .page-agrees .ensures)
 
 returns : tie.Need-returns Inv-loop μ-loop
 unfolding pagesAgree
@@ -107,6 +114,7 @@ pages-agree-spec =
     μ-loop
     get-requires
     state-byte-requires
+    frames-at-in-requires
     loop-holds
     mul-a
     mul-get

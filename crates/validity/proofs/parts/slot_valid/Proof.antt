@@ -2,7 +2,7 @@
 use mathlib.Core.Path.{_≡_}
 use borrow.Author.Needs.{needs}
 use borrow.Author.Tests.{lt-ltb, le-ltb}
-use Rattle.model.specs.Definitions.Layout.{pageSize, mark0At, mark1At, slotBytesAt}
+use Rattle.model.specs.Definitions.Layout.{pageSize, mark0At, mark1At, formOf, slotBytesAtIn}
 use Rattle.model.specs.Definitions.Parts.{part, byteAt}
 use Rattle.model.specs.Definitions.Check.{isZero, markFits, slotValid}
 use Rattle.validity.specs.Search.{failed, passed}
@@ -11,13 +11,16 @@ use Rattle.validity.proofs.parts.slot_valid.Tie as tie
 
 -- mark and bytes as the definition reads them
 fits : (c : tie.After-mark-fits)
-    → c .mark-fits .result
-    ≡ markFits
-    (byteAt (c .before .before .before .before .before .args .slot .now) mark0At)
-    (byteAt (c .before .before .before .before .before .args .slot .now) mark1At)
-    (isZero (part (c .before .before .before .before .before .args .slot .now) slotBytesAt pageSize))
+    → let start = c .before .before .before .before .before .before in
+    let l = start .args .slot .now in
+    c .mark-fits .result ≡ markFits (byteAt l mark0At) (byteAt l mark1At) (isZero (part l (slotBytesAtIn (formOf (start .args .since))) pageSize))
 unfolding byteAt
-fits c = rw (← c .before .before .before .zero-page .ensures) (c .mark-fits .ensures)
+fits c =
+    let zero = c .before .before .before in
+    rw (← zero .before .slot-bytes-at-in .ensures, ← zero .zero-page .ensures) (c .mark-fits .ensures)
+
+slot-bytes-at-in-requires : tie.Need-slot-bytes-at-in-requires
+slot-bytes-at-in-requires c κs = search needs
 
 zero-page-requires : tie.Need-zero-page-requires
 zero-page-requires c κs = search needs
@@ -61,6 +64,7 @@ pub slot-valid-spec : {M : Type 1} → statement M
 slot-valid-spec =
     tie.close
     (tie.spec
+    slot-bytes-at-in-requires
     zero-page-requires
     shared-slice-read-mark-fits
     shared-slice-read-mark-fits-2

@@ -1,20 +1,24 @@
-//! Well-formed banks made by hand, which no run need ever reach: random fields in their ranges, often at a limit.
-//! Slots at or past a count are anything: any bytes, zero or records.
+//! Random well-formed banks: reached by a script, or made by hand, in either form, which no run need ever reach, with
+//! fields in their ranges, often at a limit. Slots at or past a count are anything: any bytes, zero or records.
 
-use second::calls::make;
-use second::layout::*;
-use second::random::Random;
+use crate::calls::make_in;
+use crate::fault::Fault;
+use crate::gen::Generator;
+use crate::layout::*;
+use crate::older;
+use crate::random::Random;
+use crate::trial::Trial;
 
 /// The smallest and largest sizes often, the others sometimes.
-pub fn size(random: &mut Random) -> Layout {
+pub fn size<const FORM: Form>(random: &mut Random) -> Layout<FORM> {
     let boards = random.pick(&[1, 2, 2, 2, 3, 3, 4, 5, 8]);
     let pages = random.pick(&[1, 1, 2, 2, 3, 4, 7, 16]);
     Layout { boards, pages }
 }
 
-pub fn fresh(layout: Layout) -> Vec<u8> {
+pub fn fresh<const FORM: Form>(layout: Layout<FORM>) -> Vec<u8> {
     let mut bank = vec![0; layout.length()];
-    make(&mut bank, layout.boards as u32, layout.pages as u32);
+    make_in::<FORM>(&mut bank, layout.boards as u32, layout.pages as u32);
     bank
 }
 
@@ -26,19 +30,47 @@ pub fn fill(random: &mut Random, bytes: &mut [u8]) {
     }
 }
 
-pub fn bank(random: &mut Random) -> Vec<u8> {
-    let layout = size(random);
+/// The bank that a random script leaves.
+pub fn reached(random: &mut Random) -> Vec<u8> {
+    let lines = random.between(20, 300);
+    let mut generator = Generator::new(random.below(u32::MAX) as u64, lines);
+    let mut trial = Trial::new(Fault::None);
+    for _ in 0..lines {
+        let line = generator.next(&trial).read();
+        trial.take(line);
+    }
+    let bank = trial.session.bank;
+    bank.unwrap_or_else(|| fresh(size::<NEWEST>(random)))
+}
+
+/// The same in the older form, with any leftovers or none; a short script has no count that it lacks room for.
+pub fn reached_old(random: &mut Random) -> Vec<u8> {
+    let bank = reached(random);
+    let leftovers = random.permille(700);
+    let old = older::narrowed(&bank, |run| {
+        if leftovers {
+            fill(random, run);
+        }
+    });
+    old.unwrap_or_else(|| fresh(size::<OLDER>(random)))
+}
+
+/// A bank made by hand.
+pub fn bank<const FORM: Form>(random: &mut Random) -> Vec<u8> {
+    let layout = size::<FORM>(random);
     let mut bank = fresh(layout);
     let first_block = layout.block(0);
     if random.permille(700) {
         fill(random, &mut bank[first_block..]);
     }
     let records_past = random.permille(400);
+    let at_limits = random.pick(&[0, 100, 300, 300, 300]);
     let mut making = Making {
         random,
         bank,
         layout,
         records_past,
+        at_limits,
     };
     making.states();
     making.directory();
@@ -46,15 +78,17 @@ pub fn bank(random: &mut Random) -> Vec<u8> {
     making.bank
 }
 
-struct Making<'a> {
+struct Making<'a, const FORM: Form> {
     random: &'a mut Random,
     bank: Vec<u8>,
-    layout: Layout,
+    layout: Layout<FORM>,
     /// Whether there are records past the counts too.
     records_past: bool,
+    /// How often since, a record's count or an access number is near its largest, in thousandths.
+    at_limits: u32,
 }
 
-impl Making<'_> {
+impl<const FORM: Form> Making<'_, FORM> {
     fn states(&mut self) {
         let mostly_up = self.random.permille(600);
         for board in 0..self.layout.boards {
@@ -107,12 +141,12 @@ impl Making<'_> {
             place = self.random.below(stored as u32) as u8;
             let next = layout.area_slot(selected, place as usize);
             if self.random.permille(700) {
-                since = get16(&self.bank, next + SLOT_COUNT);
+                since = layout.get_count(&self.bank, next + Layout::<FORM>::SLOT_COUNT);
             }
         }
         put16(&mut self.bank, layout.fuse(board), fuse);
         put32(&mut self.bank, layout.number(board), number);
-        put16(&mut self.bank, layout.since(board), since);
+        layout.put_count(&mut self.bank, layout.since(board), since);
         self.bank[layout.place(board)] = place;
         self.bank[layout.volatile(board)] = volatile;
         self.records(layout.volatile_slot(board, 0), volatile);
@@ -159,18 +193,19 @@ impl Making<'_> {
         } else {
             count as usize
         };
-        for slot in (0..count).map(|slot| first + SLOT * slot) {
+        for slot in (0..count).map(|slot| first + Layout::<FORM>::SLOT * slot) {
             let kind = self.random.pick(&[GOT_COPY, GOT_OWN, SHOWN, DROPPED]);
             let page = self.random.below(self.layout.pages as u32) as u8;
             let since = match self.random.below(4) {
                 0 => self.since(),
-                _ => self.random.below(2) as u16,
+                _ => self.random.below(2),
             };
             self.bank[slot..slot + 2].copy_from_slice(&kind);
             self.bank[slot + SLOT_PAGE] = page;
             self.bank[slot + SLOT_ZERO] = 0;
-            put16(&mut self.bank, slot + SLOT_COUNT, since);
-            let bytes = &mut self.bank[slot + SLOT_BYTES..slot + SLOT];
+            let (count, bytes) = (Layout::<FORM>::SLOT_COUNT, Layout::<FORM>::SLOT_BYTES);
+            self.layout.put_count(&mut self.bank, slot + count, since);
+            let bytes = &mut self.bank[slot + bytes..slot + Layout::<FORM>::SLOT];
             match kind {
                 SHOWN | DROPPED => bytes.fill(0),
                 _ => fill(self.random, bytes),
@@ -204,22 +239,28 @@ impl Making<'_> {
         }
     }
 
-    fn since(&mut self) -> u16 {
+    /// Since or a record's count.
+    fn since(&mut self) -> u32 {
+        let most = Layout::<FORM>::MOST;
+        if self.random.permille(self.at_limits) {
+            return most - self.random.pick(&[0, 0, 1, 1, 2, 3, 4, 5]);
+        }
         match self.random.below(8) {
-            0 => u16::MAX,
-            1 => u16::MAX - 1,
-            2 => self.random.pick(&[255, 256]),
-            3 => self.random.below(65_536) as u16,
-            _ => self.random.below(3) as u16,
+            0 => self.random.pick(&[255, 256]),
+            1 => most.min(self.random.between(65_530, 65_540)),
+            2 => self.random.below(65_536),
+            3 => self.random.below(most),
+            _ => self.random.below(3),
         }
     }
 
     fn number(&mut self) -> u32 {
+        if self.random.permille(self.at_limits / 2) {
+            return u32::MAX - self.random.pick(&[0, 0, 1, 1, 2, 3]);
+        }
         match self.random.below(12) {
-            0 => u32::MAX,
-            1 => u32::MAX - 1,
-            2 => self.random.pick(&[255, 65_535, 16_777_215]),
-            3 => self.random.below(u32::MAX),
+            0 => self.random.pick(&[255, 65_535, 16_777_215]),
+            1 => self.random.below(u32::MAX),
             _ => self.random.below(50),
         }
     }

@@ -1,21 +1,23 @@
 //! Banks that are damaged: bytes changed, most of them where a rule looks, or a wrong length.
 
+use crate::layout::*;
 use crate::made::fill;
-use second::layout::*;
-use second::random::Random;
+use crate::random::Random;
 
 /// A place that some rule of a well-formed bank speaks of.
-fn ruled_place(random: &mut Random, layout: Layout) -> usize {
+fn ruled_place<const FORM: Form>(random: &mut Random, layout: Layout<FORM>) -> usize {
     let board = random.below(layout.boards as u32) as usize;
     let page = random.below(layout.pages as u32) as usize;
     let slot = random.below(SLOTS as u32) as usize;
     let area = layout.area(board, random.below(2) as usize);
-    let in_slot = random.pick(&[0, 1, SLOT_PAGE, SLOT_ZERO, SLOT_BYTES, SLOT - 1]);
+    let (bytes, end) = (Layout::<FORM>::SLOT_BYTES, Layout::<FORM>::SLOT);
+    let in_slot = random.pick(&[0, 1, SLOT_PAGE, SLOT_ZERO, bytes, end - 1]);
     let in_frame = random.pick(&[0, 0, 1, FRAME - 1]);
+    let fixed = (layout.frame(board, 0) - layout.block(board)) as u32;
     match random.below(8) {
         0 => random.below(4) as usize,
         1 => layout.owner(page) + random.below(2) as usize,
-        2 => layout.state(board) + random.below(12) as usize,
+        2 => layout.state(board) + random.below(fixed) as usize,
         3 => random.pick(&[layout.place(board), layout.volatile(board)]),
         4 => layout.frame(board, page) + in_frame,
         5 => layout.area_frame(area, page) + in_frame,
@@ -25,14 +27,14 @@ fn ruled_place(random: &mut Random, layout: Layout) -> usize {
                 0 => layout.volatile_slot(board, 0),
                 _ => layout.area_slot(area, 0),
             };
-            first + SLOT * slot.min(random.below(4) as usize) + in_slot
+            first + end * slot.min(random.below(4) as usize) + in_slot
         }
     }
 }
 
-/// Changes one byte or a few.
-pub fn bytes(random: &mut Random, bank: &mut [u8]) {
-    let layout = Layout::of(bank);
+/// Changes one byte or a few of a bank that has a form's length.
+pub fn bytes<const FORM: Form>(random: &mut Random, bank: &mut [u8]) {
+    let layout = Layout::<FORM>::named_by(bank);
     let times = random.pick(&[1, 1, 1, 2, 3, 8]);
     for _ in 0..times {
         let at = match random.permille(700) {
@@ -50,10 +52,11 @@ pub fn bytes(random: &mut Random, bank: &mut [u8]) {
 }
 
 /// Another length: shorter or longer by little or much, or next to nothing.
-pub fn length(random: &mut Random, bank: &mut Vec<u8>) {
+pub fn length<const FORM: Form>(random: &mut Random, bank: &mut Vec<u8>) {
     let old = bank.len();
-    let block = Layout::of(bank).block(1) - Layout::of(bank).block(0);
-    let by = random.pick(&[1, 1, 2, 51, 2_134, block]);
+    let layout = Layout::<FORM>::named_by(bank);
+    let block = layout.block(1) - layout.block(0);
+    let by = random.pick(&[1, 1, 2, FRAME * 3, block - FRAME * 3 * layout.pages, block]);
     let new = match random.below(4) {
         0 => old - by.min(old),
         1 => old + by,

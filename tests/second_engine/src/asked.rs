@@ -1,9 +1,9 @@
 //! Which call comes next on a bank: numbers in range mostly, at and past every limit sometimes.
 
-use second::calls::Call;
-use second::layout::*;
-use second::line::Line;
-use second::random::Random;
+use crate::calls::Call;
+use crate::layout::*;
+use crate::line::Line;
+use crate::random::Random;
 
 /// One of the numbers at which a range begins, ends or was passed.
 fn limit(random: &mut Random, layout: Layout) -> u32 {
@@ -87,30 +87,46 @@ pub fn make(random: &mut Random, layout: Layout) -> Line {
     }
 }
 
-/// Mostly the access that a replaying board's log waits for, if the bank has such a board; else any call.
+/// Mostly an access that a replaying board's log waits for, if the bank has such a board; else any call.
 pub fn fitting(random: &mut Random, bank: &[u8]) -> Line {
     let layout = Layout::of(bank);
     let board = random.below(layout.boards as u32) as usize;
-    let place = bank[layout.place(board)] as usize;
-    let slot = layout.area_slot(layout.selected(bank, board), place.min(SLOTS - 1));
-    let page = bank[slot + SLOT_PAGE] as u32;
-    let replaying = bank[layout.state(board)] == REPLAYING && (page as usize) < layout.pages;
-    if !replaying || random.permille(300) {
+    if bank[layout.state(board)] != REPLAYING || random.permille(300) {
         return any(random, layout, 985);
     }
-    let board = board as u32;
+    let (page, write) = awaited(random, bank, layout, board);
+    let (board, page) = (board as u32, page as u32);
     let offset = random.below(PAGE as u32);
-    Line::Call(match kind_at(bank, slot) {
-        GOT_COPY => Call::Read {
+    Line::Call(match write {
+        false => Call::Read {
             board,
             page,
             offset,
         },
-        _ => Call::Write {
+        true => Call::Write {
             board,
             page,
             offset,
             value: random.below(256),
         },
     })
+}
+
+/// A page, and whether it is to be written: that of a got which is due, else one that the board has a right to.
+fn awaited(random: &mut Random, bank: &[u8], layout: Layout, board: usize) -> (usize, bool) {
+    let place = bank[layout.place(board)] as usize;
+    let slot = layout.area_slot(layout.selected(bank, board), place.min(SLOTS - 1));
+    let since = layout.get_count(bank, layout.since(board));
+    let due = layout.get_count(bank, slot + SLOT_COUNT) == since;
+    let (kind, page) = (kind_at(bank, slot), bank[slot + SLOT_PAGE] as usize);
+    if due && matches!(kind, GOT_COPY | GOT_OWN) && page < layout.pages {
+        return (page, kind == GOT_OWN);
+    }
+    let start = random.below(layout.pages as u32) as usize;
+    let held = (start..start + layout.pages)
+        .map(|page| page % layout.pages)
+        .find(|page| bank[layout.frame(board, *page)] != NONE)
+        .unwrap_or(start);
+    let owned = bank[layout.frame(board, held)] == OWN;
+    (held, owned && random.permille(500))
 }

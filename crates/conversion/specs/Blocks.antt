@@ -1,0 +1,249 @@
+-- A block of the older form as it is written anew, part by part: what the parts come to is the block of the board that was read, cleared. Assumes nothing.
+use mathlib.Core.Path.{_≡_, refl, sym, ap, _∙_}
+use Prim.Native.Nat.{ℕ, zero, suc, _+_, _*_, _-_, _≤_, _<_}
+use native.Mathlib.Omega.{arith}
+use mathlib.Core.Bool.{Bool, true, false}
+use mathlib.Core.List.{List, [], _∷_, _++_, append-assoc}
+use lib.ListN.{length, take, drop, length-append}
+use lib.Dec.{eqb, lit<}
+use Rattle.words.specs.Bytes.{Bytes}
+use Rattle.words.specs.LittleEndian.{bytesOf, numberOf}
+use Rattle.words.specs.LittleEndianLaws.{length-bytesOf}
+use Rattle.model.specs.Definitions.Parts.{part, splice, byteAt, encodeAll}
+use Rattle.model.specs.Definitions.Layout.{mostPages, fuseSize, numberSize, sinceSize, frameSize, areaNumberAt, areaCountAt, areaFramesAt, areaSlotsAt}
+use Rattle.model.specs.Definitions.Layout.{stateAt, selectorAt, fuseAt, numberAt, sinceAt, slotCount, slotsSize, slotsSizeIn, areaSizeIn, placeAtIn}
+use Rattle.model.specs.Definitions.Layout.{volatileCountAtIn, framesAtIn, slotsAtIn, areaAtIn, blockSizeIn, placeAt, slotsAt, areaAt, blockSize, areaSize}
+use Rattle.model.specs.Definitions.Bank.{Area, Board, logOver, areaOver, boardOver}
+use Rattle.model.specs.Definitions.Codec.{selectorByte, encodeFrame, decodeStable, encodeLog, decodeLogIn, encodeArea, encodeAreaIn, decodeAreaIn, encodeFixed}
+use Rattle.model.specs.Definitions.Codec.{encodeFixedIn, encodeStable, encodeStableIn, encodeBoard, encodeBoardIn, decodeBoardIn}
+use Rattle.model.specs.Definitions.Older.{older, clearedBoard}
+use Rattle.model.specs.Laws.Parts.{each-part, length-part, part-join, byte-part, splice-next}
+use Rattle.fields.proofs.Lent.{lent-part}
+use Rattle.fields.proofs.Splices.{splice-triple}
+use Rattle.conversion.specs.Logs.{log-wide, clearedLog, clearedArea}
+use Rattle.model.specs.Laws.CodecBack.{AreaPasses, Readable, area-inside, bytesOf-part, frames-part, length-decodeLog, stateByte-stateOf, selectorByte-eqb}
+use Rattle.model.specs.Laws.CodecBack.{second-decodeStable}
+
+-- ---- what is known of the old bytes
+
+pub record OlderArea (pages : ℕ) (l : List ℕ) : Type 0 where
+  pub few : pages ≤ mostPages
+  pub size : length l ≡ areaSizeIn older pages
+  pub bytes : Bytes l
+  pub passes : AreaPasses older pages l
+
+pub record OlderBlock (pages : ℕ) (l : List ℕ) : Type 0 where
+  pub few : pages ≤ mostPages
+  pub size : length l ≡ blockSizeIn older pages
+  pub bytes : Bytes l
+  pub readable : Readable older pages l
+
+area-passes : (pages area : ℕ) (l : List ℕ) → OlderBlock pages l → area < 2
+    → AreaPasses older pages (part l (areaAtIn older pages area) (areaSizeIn older pages))
+area-passes pages zero l o h = o .readable .area0
+area-passes pages (suc zero) l o h = o .readable .area1
+area-passes pages (suc (suc n)) l o h = absurd (omega arith)
+
+-- ---- an area
+
+-- the log of an area or a block, read at a place and cleared
+abbrev pub logAt : ℕ → ℕ → List ℕ → List ℕ
+logAt count a l = encodeLog (clearedLog (decodeLogIn older count (part l a (slotsSizeIn older))))
+
+pub log-length : (count a : ℕ) (l : List ℕ) → count ≤ slotCount → a + slotsSizeIn older ≤ length l → length (logAt count a l) ≡ slotsSize
+log-length count a l c h = log-wide count (part l a (slotsSizeIn older)) (length-part l a (slotsSizeIn older) h) c
+
+-- number, stored count and frames are as they were
+pub area-written : (pages : ℕ) (l : List ℕ) → OlderArea pages l
+    → part l 0 (areaSlotsAt pages) ++ logAt (byteAt l areaCountAt) (areaSlotsAt pages) l ≡ encodeArea (clearedArea (decodeAreaIn older pages l))
+unfolding encodeAreaIn decodeAreaIn areaOver logOver
+area-written pages l o =
+    let n : ℕ = pages * frameSize in
+    let e : length l ≡ areaSizeIn older pages = o .size in
+    let head : part l 0 (areaSlotsAt pages) ≡ part l areaNumberAt numberSize ++ (byteAt l areaCountAt ∷ part l areaFramesAt n) =
+    ap (part l 0) {y = numberSize + (n + 1)} (omega arith)
+    ∙ sym (rw (byte-part l areaCountAt areaFramesAt n (n + 1) (omega arith) refl refl) (part-join l 0 numberSize (n + 1))) in
+    rw (
+      head,
+      bytesOf-part l areaNumberAt numberSize (o .bytes) (omega arith),
+      length-decodeLog older (byteAt l areaCountAt) (part l (areaSlotsAt pages) (slotsSizeIn older)),
+      frames-part pages l areaFramesAt (o .passes .frames) (omega arith),
+    )
+    (append-assoc (part l areaNumberAt numberSize) (byteAt l areaCountAt ∷ part l areaFramesAt n) (logAt (byteAt l areaCountAt) (areaSlotsAt pages) l))
+
+area-length : (pages : ℕ) (l : List ℕ) → OlderArea pages l → length (encodeArea (clearedArea (decodeAreaIn older pages l))) ≡ areaSize pages
+area-length pages l o =
+    rw (← area-written pages l o)
+    (simp (
+      length-append,
+      length-part l 0 (areaSlotsAt pages) (omega (arith, o .size)),
+      log-length (byteAt l areaCountAt) (areaSlotsAt pages) l (o .passes .log .few) (omega (arith, o .size)),
+    ))
+
+-- ---- a block
+
+-- an area of a block, as its own part
+pub area-part : (pages area : ℕ) (l : List ℕ) → OlderBlock pages l → area < 2
+    → OlderArea pages (part l (areaAtIn older pages area) (areaSizeIn older pages))
+area-part pages area l o h =
+    record {
+      few = o .few;
+      size = length-part l (areaAtIn older pages area) (areaSizeIn older pages) (omega (arith, area-inside older pages area h, o .size));
+      bytes = each-part l (areaAtIn older pages area) (areaSizeIn older pages) (o .bytes);
+      passes = area-passes pages area l o h;
+    }
+
+-- all before the areas: since in four bytes, the volatile log cleared
+unfoldable pub widenedWorking : ℕ → List ℕ → List ℕ
+widenedWorking pages l =
+    part l 0 sinceAt
+    ++ (bytesOf sinceSize (numberOf (part l sinceAt (older .sinceWidth)))
+    ++ (part l (placeAtIn older) (slotsAt pages - placeAt) ++ logAt (byteAt l (volatileCountAtIn older)) (slotsAtIn older pages) l))
+
+unfoldable pub widenedArea : ℕ → ℕ → List ℕ → List ℕ
+widenedArea pages area l = encodeArea (clearedArea (decodeAreaIn older pages (part l (areaAtIn older pages area) (areaSizeIn older pages))))
+
+-- ---- an area of a block, as it is lent: `&l[a..a + n]`
+
+module _ (pages area : ℕ) (l : List ℕ) {a n : ℕ} (at : a ≡ areaAtIn older pages area) (size : n ≡ areaSizeIn older pages) where
+  lent : take (a + n - a) (drop a l) ≡ part l (areaAtIn older pages area) (areaSizeIn older pages)
+  lent = lent-part l a n ∙ rw (at, size)
+
+  pub lent-area : OlderBlock pages l → area < 2 → OlderArea pages (take (a + n - a) (drop a l))
+  lent-area o h = rw lent (area-part pages area l o h)
+
+  pub lent-widened : encodeArea (clearedArea (decodeAreaIn older pages (take (a + n - a) (drop a l)))) ≡ widenedArea pages area l
+  unfolding widenedArea
+  lent-widened = rw lent
+
+-- either area may be the selected one
+stable-cleared : (second : Bool) (a0 a1 : Area)
+    → encodeStable
+    (record {
+      second = decodeStable second a0 a1 .second;
+      selected = clearedArea (decodeStable second a0 a1 .selected);
+      spare = clearedArea (decodeStable second a0 a1 .spare);
+    })
+    ≡ encodeArea (clearedArea a0) ++ encodeArea (clearedArea a1)
+unfolding decodeStable encodeStableIn
+stable-cleared true a0 a1 = refl
+stable-cleared false a0 a1 = refl
+
+-- the pieces as they are written, and as a board's bytes have them
+regroup : (h f n s p v g r : List ℕ) → ((h ++ (f ++ n)) ++ (s ++ ((p ++ v) ++ g))) ++ r ≡ (h ++ (f ++ (n ++ (s ++ p)))) ++ (v ++ (g ++ r))
+regroup h f n s p v g r = simp append-assoc
+
+module _ (pages : ℕ) (l : List ℕ) (o : OlderBlock pages l) where
+  abbrev n : ℕ
+  n = pages * frameSize
+
+  size : length l ≡ blockSizeIn older pages
+  size = o .size
+
+  front : part l 0 sinceAt ≡ (byteAt l stateAt ∷ byteAt l selectorAt ∷ []) ++ (part l fuseAt fuseSize ++ part l numberAt numberSize)
+  front =
+      sym (rw (part-join l fuseAt fuseSize numberSize, byte-part l selectorAt fuseAt (fuseSize + numberSize) (sinceAt - 1) (omega arith) refl refl)
+      (byte-part l stateAt selectorAt (sinceAt - 1) sinceAt (omega arith) refl refl))
+
+  behind : part l (placeAtIn older) (slotsAt pages - placeAt)
+      ≡ (byteAt l (placeAtIn older) ∷ byteAt l (volatileCountAtIn older) ∷ []) ++ part l (framesAtIn older) n
+  behind =
+      sym (rw (byte-part l (volatileCountAtIn older) (framesAtIn older) n (n + 1) (omega arith) refl refl)
+      (byte-part l (placeAtIn older) (volatileCountAtIn older) (n + 1) (slotsAt pages - placeAt) (omega arith) refl (omega arith)))
+
+  -- the parts side by side
+  pub working-written : (t : List ℕ) → length t ≡ blockSize pages
+      → splice
+      (splice (splice (splice t 0 (part l 0 sinceAt)) sinceAt (bytesOf sinceSize (numberOf (part l sinceAt (older .sinceWidth)))))
+      placeAt (part l (placeAtIn older) (slotsAt pages - placeAt)))
+      (slotsAt pages) (logAt (byteAt l (volatileCountAtIn older)) (slotsAtIn older pages) l)
+      ≡ splice t 0 (widenedWorking pages l)
+  unfolding widenedWorking
+  working-written t e =
+      let h : List ℕ = part l 0 sinceAt in
+      let s : List ℕ = bytesOf sinceSize (numberOf (part l sinceAt (older .sinceWidth))) in
+      let b : List ℕ = part l (placeAtIn older) (slotsAt pages - placeAt) in
+      let g : List ℕ = logAt (byteAt l (volatileCountAtIn older)) (slotsAtIn older pages) l in
+      let x : length h ≡ sinceAt = length-part l 0 sinceAt (omega (arith, size)) in
+      let y : length s ≡ sinceSize = length-bytesOf sinceSize _ in
+      let z : length b ≡ slotsAt pages - placeAt = length-part l (placeAtIn older) (slotsAt pages - placeAt) (omega (arith, size)) in
+      let u : length (h ++ s) ≡ length h + length s = length-append h s in
+      let v : length ((h ++ s) ++ b) ≡ length (h ++ s) + length b = length-append (h ++ s) b in
+      rw (
+        splice-next t 0 sinceAt h s (omega arith) (omega arith),
+        splice-next t 0 placeAt (h ++ s) b (omega arith) (omega arith),
+        splice-next t 0 (slotsAt pages) ((h ++ s) ++ b) g (omega arith) (omega arith),
+      )
+      (ap (splice t 0) (simp append-assoc))
+
+  working-length : length (widenedWorking pages l) ≡ areaAt pages 0
+  unfolding widenedWorking
+  working-length =
+      simp (
+        length-append,
+        length-bytesOf,
+        length-part l 0 sinceAt (omega (arith, size)),
+        length-part l (placeAtIn older) (slotsAt pages - placeAt) (omega (arith, size)),
+        log-length (byteAt l (volatileCountAtIn older)) (slotsAtIn older pages) l (o .readable .log .few) (omega (arith, size)),
+      )
+      (omega arith)
+
+  widened-length : (area : ℕ) → area < 2 → length (widenedArea pages area l) ≡ areaSize pages
+  unfolding widenedArea
+  widened-length area h = area-length pages _ (area-part pages area l o h)
+
+  -- the board, cleared, and its bytes part by part
+  abbrev y : Board
+  y = clearedBoard (decodeBoardIn older pages l)
+
+  fixed-cleared : encodeFixed y
+      ≡ (byteAt l stateAt ∷ byteAt l selectorAt ∷ [])
+      ++ (part l fuseAt fuseSize
+      ++ (part l numberAt numberSize
+      ++ (bytesOf sinceSize (numberOf (part l sinceAt (older .sinceWidth))) ++ (byteAt l (placeAtIn older) ∷ byteAt l (volatileCountAtIn older) ∷ []))))
+  unfolding encodeFixedIn decodeBoardIn clearedBoard boardOver logOver
+  fixed-cleared =
+      rw (
+        stateByte-stateOf (byteAt l stateAt) (o .readable .state),
+        second-decodeStable (eqb (byteAt l selectorAt) (selectorByte true)) _ _,
+        selectorByte-eqb (byteAt l selectorAt) (o .readable .selector),
+        bytesOf-part l fuseAt fuseSize (o .bytes) (omega arith),
+        bytesOf-part l numberAt numberSize (o .bytes) (omega arith),
+        length-decodeLog older (byteAt l (volatileCountAtIn older)) (part l (slotsAtIn older pages) (slotsSizeIn older)),
+      )
+
+  frames-cleared : encodeAll encodeFrame (y .working .frames) ≡ part l (framesAtIn older) n
+  unfolding decodeBoardIn clearedBoard boardOver
+  frames-cleared = frames-part pages l (framesAtIn older) (o .readable .frames) (omega arith)
+
+  log-cleared : encodeLog (y .working .log) ≡ logAt (byteAt l (volatileCountAtIn older)) (slotsAtIn older pages) l
+  unfolding decodeBoardIn clearedBoard boardOver
+  log-cleared = refl
+
+  areas-cleared : encodeStable (y .stable) ≡ widenedArea pages 0 l ++ widenedArea pages 1 l
+  unfolding decodeBoardIn clearedBoard boardOver widenedArea
+  areas-cleared = stable-cleared (eqb (byteAt l selectorAt) (selectorByte true)) _ _
+
+  block-written : widenedWorking pages l ++ (widenedArea pages 0 l ++ widenedArea pages 1 l) ≡ encodeBoard (clearedBoard (decodeBoardIn older pages l))
+  unfolding widenedWorking encodeBoardIn
+  block-written =
+      rw (fixed-cleared, frames-cleared, log-cleared, areas-cleared, front, behind)
+      (regroup (byteAt l stateAt ∷ byteAt l selectorAt ∷ []) (part l fuseAt fuseSize) (part l numberAt numberSize)
+      (bytesOf sinceSize (numberOf (part l sinceAt (older .sinceWidth)))) (byteAt l (placeAtIn older) ∷ byteAt l (volatileCountAtIn older) ∷ [])
+      (part l (framesAtIn older) n) (logAt (byteAt l (volatileCountAtIn older)) (slotsAtIn older pages) l)
+      (widenedArea pages 0 l ++ widenedArea pages 1 l))
+
+  pub parts-written : (t : List ℕ) → length t ≡ blockSize pages
+      → splice (splice (splice t 0 (widenedWorking pages l)) (areaAt pages 0) (widenedArea pages 0 l)) (areaAt pages 1) (widenedArea pages 1 l)
+      ≡ encodeBoard (clearedBoard (decodeBoardIn older pages l))
+  parts-written t e =
+      let w : length (widenedWorking pages l) ≡ areaAt pages 0 = working-length in
+      let x : length (widenedArea pages 0 l) ≡ areaSize pages = widened-length 0 (lit< tt) in
+      let z : length (widenedArea pages 1 l) ≡ areaSize pages = widened-length 1 (lit< tt) in
+      splice-triple t (widenedWorking pages l) (widenedArea pages 0 l) (widenedArea pages 1 l) (areaAt pages 0) (areaAt pages 1) w (omega arith) (omega arith)
+      ∙ block-written
+
+  pub block-wide : length (encodeBoard (clearedBoard (decodeBoardIn older pages l))) ≡ blockSize pages
+  block-wide =
+      rw (← block-written)
+      (simp (length-append, working-length, widened-length 0 (lit< tt), widened-length 1 (lit< tt)) (omega arith))

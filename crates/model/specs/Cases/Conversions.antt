@@ -1,0 +1,83 @@
+-- Document 02, F-2: an old bank byte by byte, as document 01 lays it out, what it is converted to, and what both answer. One board and one page; since is at
+-- its last value, area 1 is the selected one, each area has its own frame, and something stands in every slot past a count. Definitions only. Assumes nothing.
+use Prim.Native.Nat.{ℕ}
+use mathlib.Core.Bool.{Bool, _&&_}
+use mathlib.Core.List.{List, [], _∷_, _++_}
+use lib.ListN.{replicate}
+use lib.Dec.{eqb}
+use Rattle.model.specs.Definitions.Parts.{zeros}
+use Rattle.model.specs.Definitions.Layout.{bankSize, bankSizeIn}
+use Rattle.model.specs.Definitions.Steps.{Read}
+use Rattle.model.specs.Definitions.Calls.{Result, Accessing, callWithin, call}
+use Rattle.model.specs.Definitions.Older.{older, olderLastSince, olderBank, convert}
+use Rattle.model.specs.History.Tests.{sameBytes}
+use Rattle.model.specs.Cases.Table.{agrees}
+
+-- ---- the parts that both have
+
+-- right own, all page bytes the same
+abbrev ownFrame : ℕ → List ℕ
+ownFrame byte = 2 ∷ replicate 16 byte
+
+-- "SH", "GC" and "GO", each with page 0 and the zero byte
+abbrev shownMark : List ℕ
+shownMark = 83 ∷ 72 ∷ 0 ∷ 0 ∷ []
+
+abbrev gotCopyMark : List ℕ
+gotCopyMark = 71 ∷ 67 ∷ 0 ∷ 0 ∷ []
+
+abbrev gotOwnMark : List ℕ
+gotOwnMark = 71 ∷ 79 ∷ 0 ∷ 0 ∷ []
+
+-- head and directory; up, area 1 selected, no fuse, access number 65,537
+abbrev front : List ℕ
+front = 66 ∷ 75 ∷ 1 ∷ 1 ∷ 0 ∷ 0 ∷ 0 ∷ 1 ∷ 255 ∷ 255 ∷ 1 ∷ 0 ∷ 1 ∷ 0 ∷ []
+
+-- ---- the old bank, and the same converted
+
+-- since 65,535, place 0, one volatile record of count 65,535; the spare area 0 has one of count 772, area 1 one of count 258
+unfoldable pub oldBank : List ℕ
+oldBank =
+    front
+    ++ (255 ∷ 255 ∷ 0 ∷ 1 ∷ ownFrame 3
+    ++ (shownMark ++ (255 ∷ 255 ∷ zeros 16)
+    ++ (replicate 682 7
+    ++ (4 ∷ 3 ∷ 2 ∷ 1 ∷ 1 ∷ ownFrame 4
+    ++ (gotOwnMark ++ (4 ∷ 3 ∷ replicate 16 2)
+    ++ (replicate 682 8
+    ++ (9 ∷ 0 ∷ 0 ∷ 0 ∷ 1 ∷ ownFrame 6
+    ++ (gotCopyMark ++ (2 ∷ 1 ∷ replicate 16 5)
+    ++ replicate 682 9))))))))
+
+unfoldable pub newBank : List ℕ
+newBank =
+    front
+    ++ (255 ∷ 255 ∷ 0 ∷ 0 ∷ 0 ∷ 1 ∷ ownFrame 3
+    ++ (shownMark ++ (255 ∷ 255 ∷ 0 ∷ 0 ∷ zeros 16)
+    ++ (zeros 744
+    ++ (4 ∷ 3 ∷ 2 ∷ 1 ∷ 1 ∷ ownFrame 4
+    ++ (gotOwnMark ++ (4 ∷ 3 ∷ 0 ∷ 0 ∷ replicate 16 2)
+    ++ (zeros 744
+    ++ (9 ∷ 0 ∷ 0 ∷ 0 ∷ 1 ∷ ownFrame 6
+    ++ (gotCopyMark ++ (2 ∷ 1 ∷ 0 ∷ 0 ∷ replicate 16 5)
+    ++ zeros 744))))))))
+
+-- "Length 4 + 2P + N(2134 + 51P)" (document 01), and today's
+unfoldable pub bothLengths : Bool
+bothLengths = eqb (bankSizeIn older 1 1) 2191 && (eqb (bankSizeIn older 8 16) 23636 && (eqb (bankSize 1 1) 2385 && eqb (bankSize 8 16) 25188))
+
+-- it converts to these bytes, over any; a target one byte too short, and bytes that are no old bank, are refused and written nothing
+unfoldable pub converts : Bool
+converts =
+    agrees (0, 0, 0, 0) (convert oldBank (replicate 2385 6) .outcome)
+    && (sameBytes (convert oldBank (replicate 2385 6) .bytes) newBank
+    && (agrees (1, 0, 0, 0) (convert oldBank (replicate 2384 6) .outcome)
+    && (sameBytes (convert oldBank (replicate 2384 6) .bytes) (replicate 2384 6)
+    && (agrees (1, 0, 0, 0) (convert newBank (replicate 2385 6) .outcome) && sameBytes (convert newBank (replicate 2385 6) .bytes) (replicate 2385 6)))))
+
+-- "until its first code 4": the old one answers 4 to a read, the converted one reads
+unfoldable pub reads : Bool
+reads =
+    let t : Result = callWithin olderLastSince (Accessing 0 (Read 0 3)) (olderBank oldBank) in
+    agrees (4, 0, 0, 0) (record { answer = t .answer; stores = t .run .stores })
+    && agrees (0, 3, 0, 0) (call (Accessing 0 (Read 0 3)) newBank .outcome)

@@ -1,0 +1,268 @@
+//! Pairs of banks, an old one and its conversion, that are given the same calls. Document 02: both under the rules of
+//! the day, a converted bank answers every later call as the old one would until the old one's first code 4.
+
+use crate::asked;
+use crate::calls::{call, call_in, Answer, Call};
+use crate::check::well_formed;
+use crate::claim::Verdict;
+use crate::convert::convert;
+use crate::damage;
+use crate::fault::Fault;
+use crate::gen::{Generator, LONG_SCRIPT};
+use crate::layout::*;
+use crate::line::Line;
+use crate::made;
+use crate::older;
+use crate::pair_counters::{PairCounters, Refusal, Source};
+use crate::random::Random;
+use crate::trial::Trial;
+use crate::watch::Watch;
+
+/// One pair in so many has a board that reads until its old bank answers 4; of the others one in so many was reached.
+const LONG_EVERY: u64 = 1_000;
+const REACHED_EVERY: u64 = 3;
+
+/// A pair that differed, and how.
+pub struct Failure {
+    pub seed: u64,
+    pub why: String,
+}
+
+/// An old bank, run on its own bytes by the right engine beside its conversion.
+struct Pair<'a> {
+    old: Vec<u8>,
+    watch: Watch,
+    calls: u64,
+    fault: Fault,
+    counters: &'a mut PairCounters,
+}
+
+impl Pair<'_> {
+    fn new(old: Vec<u8>, fault: Fault, counters: &mut PairCounters) -> Pair<'_> {
+        Pair {
+            watch: Watch::of::<OLDER>(&old),
+            old,
+            calls: 0,
+            fault,
+            counters,
+        }
+    }
+
+    /// The old bank's conversion, written over any bytes.
+    fn converted(&mut self, random: &mut Random, source: Source) -> Result<Vec<u8>, String> {
+        let mut new = vec![0; Layout::of(&self.old).length()];
+        made::fill(random, &mut new);
+        let answer = convert(&self.old, &mut new, self.fault);
+        self.counters.converted(source);
+        conversion_fits(&self.old, &new, &answer)?;
+        Ok(new)
+    }
+
+    /// Gives the old bank a call that the converted one, here as it is now, has answered. False if the pair is over.
+    fn take(&mut self, call: &Call, answer: &Answer, new: &[u8]) -> Result<bool, String> {
+        self.calls += 1;
+        let before = self.counters.before(&self.old, call);
+        let wanted = call_in::<OLDER>(&mut self.old, call, Fault::None, &mut self.watch);
+        self.counters.call(before, &wanted, &self.watch);
+        let told = |what: String| format!("call {}, {}: {what}", self.calls, Line::from(*call));
+        if wanted.code == 4 {
+            return match (answer.code == 4) == self.number_is_full(call) {
+                true => Ok(false),
+                false => Err(told(format!("old {wanted:?}, converted {answer:?}"))),
+            };
+        }
+        if wanted != *answer {
+            return Err(told(format!("old {wanted:?}, converted {answer:?}")));
+        }
+        if !same_numbers(&self.old, new) {
+            return Err(told("the banks differ".into()));
+        }
+        Ok(true)
+    }
+
+    /// Then the converted bank answers 4 too; it doesn't if the old one's since alone is full.
+    fn number_is_full(&self, call: &Call) -> bool {
+        let layout = older::Layout::named_by(&self.old);
+        get32(&self.old, layout.number(call.board() as usize)) == u32::MAX
+    }
+
+    /// A conversion that must be refused leaves its target alone.
+    fn refused(&mut self, why: Refusal, old: &[u8], target: &[u8]) -> Result<(), String> {
+        let mut new = target.to_vec();
+        let answer = convert(old, &mut new, self.fault);
+        self.counters.refused(why);
+        if answer != Answer::refused(1) {
+            return Err(format!("{}: {answer:?}", why.name()));
+        }
+        if new != target {
+            return Err(format!("{}: refused, and yet written to", why.name()));
+        }
+        Ok(())
+    }
+
+    /// One conversion of each kind that is refused.
+    fn refusals(&mut self, random: &mut Random, new: &[u8]) -> Result<(), String> {
+        let mut target = vec![0; new.len()];
+        made::fill(random, &mut target);
+        let old = self.old.clone();
+        let mut damaged = old.clone();
+        damage::bytes::<OLDER>(random, &mut damaged);
+        if !older::well_formed(&damaged) {
+            self.refused(Refusal::Damaged, &damaged, &target)?;
+        }
+        let mut other = old.clone();
+        damage::length::<OLDER>(random, &mut other);
+        if other.len() != old.len() {
+            self.refused(Refusal::Length, &other, &target)?;
+        }
+        self.refused(Refusal::Newest, new, &target)?;
+        let mut wrong = new.to_vec();
+        match random.below(6) {
+            0 => wrong.truncate(old.len()),
+            1 => wrong.clear(),
+            _ => damage::length::<NEWEST>(random, &mut wrong),
+        }
+        if wrong.len() != new.len() {
+            made::fill(random, &mut wrong);
+            self.refused(Refusal::Target, &old, &wrong)?;
+        }
+        Ok(())
+    }
+}
+
+/// All that document 02 says of the target: every number kept, every slot at or past a count zero.
+fn conversion_fits(old: &[u8], new: &[u8], answer: &Answer) -> Result<(), String> {
+    if *answer != Answer::default() {
+        return Err(format!("the conversion answers {answer:?}"));
+    }
+    if !well_formed(new) {
+        return Err("the converted bank isn't well formed".into());
+    }
+    if without_leftovers::<NEWEST>(new) != new {
+        return Err("the converted bank has something in a slot past a count".into());
+    }
+    if older::narrowed(new, |_| ()) != Some(without_leftovers::<OLDER>(old)) {
+        return Err("the conversion loses a number".into());
+    }
+    Ok(())
+}
+
+/// A bank with zero in every slot at or past a count.
+fn without_leftovers<const FORM: Form>(bank: &[u8]) -> Vec<u8> {
+    let mut clean = bank.to_vec();
+    for run in Layout::<FORM>::named_by(bank).past_counts(bank) {
+        clean[run].fill(0);
+    }
+    clean
+}
+
+/// Whether the old bank, converted once more, is the other one up to slots at or past a count.
+fn same_numbers(old: &[u8], new: &[u8]) -> bool {
+    let mut again = vec![0; new.len()];
+    let answer = convert(old, &mut again, Fault::None);
+    answer.code == 0 && again == without_leftovers::<NEWEST>(new)
+}
+
+/// A bank made by hand, converted, and calls that suit it.
+fn made_by_hand(seed: u64, fault: Fault, counters: &mut PairCounters) -> Result<(), String> {
+    let mut random = Random::new(seed);
+    let mut pair = Pair::new(made::bank::<OLDER>(&mut random), fault, counters);
+    let mut new = pair.converted(&mut random, Source::Made)?;
+    pair.refusals(&mut random, &new)?;
+    let mut watch = Watch::of::<NEWEST>(&new);
+    for _ in 0..random.pick(&[5, 30, 300]) {
+        let Some(asked) = asked::fitting(&mut random, &new).call() else {
+            continue;
+        };
+        let answer = call(&mut new, &asked, fault, &mut watch);
+        if !pair.take(&asked, &answer, &new)? {
+            break;
+        }
+    }
+    Ok(())
+}
+
+/// A random script from a fresh old bank on; somewhere in it the bank is converted. The claim must hold throughout.
+fn reached(seed: u64, lines: u32, fault: Fault, counters: &mut PairCounters) -> Result<(), String> {
+    let mut random = Random::new(!seed);
+    let source = match lines {
+        LONG_SCRIPT.. => Source::LongReading,
+        _ => Source::Reached,
+    };
+    let mut generator = Generator::new(seed, lines);
+    let mut trial = Trial::new(fault);
+    let Some(Line::Make { boards, pages }) = generator.next(&trial).read() else {
+        return Err("the script's first line makes no bank".into());
+    };
+    trial.take(Some(Line::Make { boards, pages }));
+    let fresh = older::Layout {
+        boards: boards as usize,
+        pages: pages as usize,
+    };
+    let mut pair = Pair::new(made::fresh(fresh), fault, counters);
+    let converted_at = random.below(lines * 9 / 10);
+    for line in 0..lines {
+        if line == converted_at {
+            let new = pair.converted(&mut random, source)?;
+            pair.refusals(&mut random, &new)?;
+            trial.session.bank = Some(new);
+        }
+        if !one_line(&mut pair, &mut generator, &mut trial, line >= converted_at)? {
+            break;
+        }
+    }
+    Ok(())
+}
+
+/// The script's next line on both banks. False if the pair is over.
+fn one_line(
+    pair: &mut Pair,
+    generator: &mut Generator,
+    trial: &mut Trial,
+    converted: bool,
+) -> Result<bool, String> {
+    let line = generator.next(trial).read();
+    let (answer, verdict) = trial.take(line);
+    if let Verdict::ClaimBroken(why) = verdict {
+        return Err(why);
+    }
+    match (line.and_then(|line| line.call()), &trial.session.bank) {
+        (Some(asked), Some(bank)) if converted => pair.take(&asked, &answer, bank),
+        (Some(asked), _) => {
+            call_in::<OLDER>(&mut pair.old, &asked, Fault::None, &mut pair.watch);
+            Ok(true)
+        }
+        _ => Ok(true),
+    }
+}
+
+fn try_seed(seed: u64, fault: Fault, counters: &mut PairCounters) -> Result<(), String> {
+    if seed % LONG_EVERY == LONG_EVERY / 2 {
+        return reached(seed, LONG_SCRIPT, fault, counters);
+    }
+    if seed % REACHED_EVERY == 0 {
+        let lines = Random::new(seed).between(20, 1_000);
+        return reached(seed, lines, fault, counters);
+    }
+    made_by_hand(seed, fault, counters)
+}
+
+/// The first of so many pairs from a seed on that differs.
+pub fn search(seed: u64, count: u64, fault: Fault, counters: &mut PairCounters) -> Option<Failure> {
+    (seed..seed.saturating_add(count)).find_map(|seed| {
+        let why = try_seed(seed, fault, counters).err()?;
+        Some(Failure { seed, why })
+    })
+}
+
+/// The whole command; false if a pair differed.
+pub fn pairs(seed: u64, count: u64, fault: Fault) -> bool {
+    let mut counters = PairCounters::new();
+    let failure = search(seed, count, fault, &mut counters);
+    counters.print();
+    match &failure {
+        None => println!("pairs agree"),
+        Some(Failure { seed, why }) => println!("pairs differ, seed {seed}: {why}"),
+    }
+    failure.is_none()
+}
