@@ -5,7 +5,7 @@
  * Every call may be given any bytes and any numbers: what it can't use it refuses, and then it changes nothing.
  *
  * The caller promises two things. The pointer is valid for `len` bytes, to read and, where it isn't const, to write. Nobody else
- * touches these bytes until the call is back: no second thread, no interrupt, no DMA, and of two buffers neither reaches into the other.
+ * touches these bytes until the call is back: no second thread, no interrupt, no DMA, and of several buffers none reaches into another.
  *
  * Link with libbank.a. It allocates nothing and keeps nothing between calls. */
 #ifndef BANK_H
@@ -23,6 +23,7 @@ enum {
     BANK_MOST_PAGES = 16,      /* pages are 0 to pages - 1 */
     BANK_PAGE_BYTES = 16,      /* offsets are 0 to 15 */
     BANK_LONGEST_FUSE = 65534, /* fuses are 1 to 65,534 stores; 0 takes the power now */
+    BANK_MOST_CELLS = 32,      /* bank_shelf reads at most so many */
     BANK_LOG_RECORDS = 32      /* a board's log holds so many */
 };
 
@@ -33,7 +34,7 @@ enum {
  * Its bytes 2 and 3 are its numbers of boards and pages, as in today's form. */
 #define BANK_OLDER_LENGTH(boards, pages) (4 + 2 * (size_t)(pages) + (size_t)(boards) * (2134 + 51 * (size_t)(pages)))
 
-/* What a call says. Under 1 to 7 nothing was done, except that an access which ended a replay keeps that end. */
+/* What a call says. Under 1 to 7 and 10 nothing was done, except that an access which ended a replay keeps that end. */
 enum bank_codes {
     BANK_DONE = 0,           /* Done. */
     BANK_MALFORMED = 1,      /* The bytes are no bank, or bank_make was given a wrong length. Sell nothing from it: bring back a good copy, or make a
@@ -44,9 +45,12 @@ enum bank_codes {
     BANK_COUNTERS_FULL = 4,  /* Board `who` made 4,294,967,295 accesses: its access number is used up, make a new bank. (In a bank that was made by
                                 hand only the count since its last record may be used up: a checkpoint helps then.) */
     BANK_REPLAY_DIFFERS = 5, /* Board `who` replays, and this access isn't the one that its log goes on with: repeat its accesses exactly, in their order. */
-    BANK_OWNER_NOT_UP = 6,   /* The page belongs to board `who`, which is down or replays: restart it, let it repeat its accesses, then try again. */
+    BANK_OWNER_NOT_UP = 6,   /* A page that the board lacks, of several such the lowest, belongs to board `who`, which is down or replays: restart it, let it
+                                repeat its accesses, then try again. */
     BANK_LOG_FULL = 7,       /* The log of board `who` has no room: checkpoint that board, then try again. */
-    BANK_POWER_LOST = 8      /* The fuse of board `who` blew in this call. It is down; what was stored before stands, this call was not finished. Restart it. */
+    BANK_POWER_LOST = 8,     /* The fuse of board `who` blew in this call. It is down; what was stored before stands, this call was not finished:
+                                restart it. */
+    BANK_WRONG_CELLS = 10    /* bank_shelf was given no cell, more than 32, half of one, or not one byte of `out` for each. The caller is wrong: mend it. */
 };
 
 /* Every call answers one number with four fields. */
@@ -61,6 +65,11 @@ uint64_t bank_make(uint8_t *bank, size_t len, uint32_t boards, uint32_t pages);
 /* A board reads a byte of a page (the value), or writes one. It fetches the page where it must. */
 uint64_t bank_read(uint8_t *bank, size_t len, uint32_t board, uint32_t page, uint32_t offset);
 uint64_t bank_write(uint8_t *bank, size_t len, uint32_t board, uint32_t page, uint32_t offset, uint32_t value);
+
+/* A board reads up to BANK_MOST_CELLS bytes, of any pages, as one access. `cells` has two bytes for each, its page and its offset; its byte goes to the
+ * same place of `out`, so out_len is cells_len / 2. The board fetches the pages that it lacks, all or none. A cell may be asked for twice. The value is 0.
+ * Under every code but 0 `out` is as it was. A board that replays repeats the call with the same cells in the same order. */
+uint64_t bank_shelf(uint8_t *bank, size_t len, uint32_t board, const uint8_t *cells, size_t cells_len, uint8_t *out, size_t out_len);
 
 /* Stores what a board holds and empties its log: a restart begins here. */
 uint64_t bank_checkpoint(uint8_t *bank, size_t len, uint32_t board);

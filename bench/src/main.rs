@@ -6,9 +6,9 @@
 mod engines;
 mod rows;
 
-use engines::{archive, archive_convert, convert_both, packed, Pair};
-use rows::{rows, Row, Work};
-use second::calls::{call, make};
+use engines::{archive, archive_convert, archive_shelf, convert_both, packed, Pair};
+use rows::{rows, Glance, Row, Work};
+use second::calls::{call, make, Call};
 use second::convert::convert;
 use second::fault::Fault;
 use second::layout::{Layout, SLOTS};
@@ -76,6 +76,13 @@ fn measured(timed: Timed, buffers: &mut [Buffer], work: &mut Work) {
                     Timed::Sum => black_box(sum(black_box(old))),
                 };
             }),
+            Work::Glances(Glance { cells, call, out }, count) => (0..*count).for_each(|_| {
+                match timed {
+                    Timed::Archive => black_box(archive_shelf(&mut buffer.bank, 0, cells, out)),
+                    Timed::Second => black_box(second_call(buffer, call, out)),
+                    Timed::Sum => black_box(sum(black_box(&buffer.bank))),
+                };
+            }),
         }
     }
 }
@@ -85,9 +92,14 @@ fn second(buffer: &mut Buffer, line: &Line) -> u64 {
         return packed(&make(&mut buffer.bank, *boards, *pages));
     }
     let asked = line.call().expect("every line but a making asks for a call");
+    second_call(buffer, &asked, &mut [])
+}
+
+fn second_call(buffer: &mut Buffer, asked: &Call, out: &mut [u8]) -> u64 {
     packed(&call(
         &mut buffer.bank,
-        &asked,
+        asked,
+        out,
         Fault::None,
         &mut buffer.watch,
     ))
@@ -156,6 +168,11 @@ fn agrees(row: &Row) -> bool {
             lines.iter().all(|line| pair.take(line).is_ok())
         }
         Work::Conversions(old, _) => matches!(convert_both(old, &row.bank, Fault::None), Ok(0)),
+        Work::Glances(glance, count) => {
+            let line = Line::Call(glance.call.clone());
+            let mut pair = Pair::new(&row.bank, Fault::None);
+            (0..*count).all(|_| pair.take(&line).is_ok_and(|answer| answer & 255 == 0))
+        }
     }
 }
 

@@ -1,6 +1,6 @@
 //! The rows of the bench: a bank in some state, and the calls that are timed on it; or an old bank that is converted into it.
 
-use second::calls::{call, make};
+use second::calls::{call, make, Call};
 use second::check::well_formed;
 use second::fault::Fault;
 use second::gen::Generator;
@@ -21,13 +21,22 @@ pub enum Work {
     Calls(Vec<Line>),
     /// So many conversions of an old bank.
     Conversions(Vec<u8>, usize),
+    /// So many shelf calls of board 0 for these cells.
+    Glances(Glance, usize),
+}
+
+/// A shelf call with what it is lent.
+pub struct Glance {
+    pub cells: Vec<u8>,
+    pub call: Call,
+    pub out: Vec<u8>,
 }
 
 impl Work {
     pub fn calls(&self) -> usize {
         match self {
             Work::Calls(lines) => lines.len(),
-            Work::Conversions(_, count) => *count,
+            Work::Conversions(_, count) | Work::Glances(_, count) => *count,
         }
     }
 }
@@ -54,6 +63,24 @@ fn conversion(name: &'static str, bank: &[u8]) -> Row {
     }
 }
 
+/// 32 cells, spread over all pages; page and offset of each.
+fn spread(layout: Layout) -> impl Iterator<Item = (usize, usize)> {
+    (0..REPEATS).map(move |place| (place % layout.pages, place / layout.pages % PAGE))
+}
+
+fn glance(name: &'static str, bank: &[u8], count: usize) -> Row {
+    let cells: Vec<u8> = spread(Layout::of(bank))
+        .flat_map(|(page, offset)| [page as u8, offset as u8])
+        .collect();
+    let call = Call::shelf(0, cells.clone());
+    let out = call.second_buffer();
+    Row {
+        name,
+        bank: bank.to_vec(),
+        work: Work::Glances(Glance { cells, call, out }, count),
+    }
+}
+
 /// A call by its line.
 fn line(text: &str) -> Line {
     read_line(text.as_bytes()).expect("a readable line")
@@ -66,7 +93,7 @@ fn done(bank: &mut [u8], lines: impl Iterator<Item = String>) -> Vec<Line> {
         .map(|text| line(&text))
         .take_while(|line| {
             line.call()
-                .is_some_and(|asked| call(bank, &asked, Fault::None, &mut watch).code == 0)
+                .is_some_and(|asked| call(bank, &asked, &mut [], Fault::None, &mut watch).code == 0)
         })
         .collect()
 }
@@ -116,7 +143,7 @@ fn mixed(layout: Layout) -> Vec<Line> {
         pages: layout.pages as u32,
     };
     (1..)
-        .map(|seed| script(seed, wanted))
+        .map(|seed| script(seed, wanted.clone()))
         .find(|lines| !lines.is_empty())
         .unwrap_or_default()
 }
@@ -128,10 +155,10 @@ fn script(seed: u64, wanted: Line) -> Vec<Line> {
     let mut lines = Vec::new();
     for number in 0..MIXED_LINES {
         let line = generator.next(&trial).read();
-        if number == 0 && line != Some(wanted) {
+        if number == 0 && line.as_ref() != Some(&wanted) {
             return lines;
         }
-        trial.take(line);
+        trial.take(line.clone());
         lines.extend(line.filter(|line| line.call().is_some()));
     }
     lines
@@ -163,6 +190,15 @@ pub fn rows(layout: Layout) -> Vec<Row> {
         (1..boards).map(|board| format!("R {board} 0 0")),
     );
 
+    let mut all_here = fresh(layout);
+    done(
+        &mut all_here,
+        (0..layout.pages).map(|page| format!("R 0 {page} 0")),
+    );
+    let cell_reads = spread(layout)
+        .map(|(page, offset)| line(&format!("R 0 {page} {offset}")))
+        .collect();
+
     let down = full_log_and_down(layout);
     let mut replaying = down.clone();
     done(&mut replaying, std::iter::once("S 1".into()));
@@ -184,6 +220,9 @@ pub fn rows(layout: Layout) -> Vec<Row> {
             &copies_out,
             vec![line("W 0 0 0 7")],
         ),
+        row("read of a cell, pages here", &all_here, cell_reads),
+        glance("32 such cells in one call", &all_here, REPEATS),
+        glance("32 cells, pages fetched", &bank, 1),
         row("checkpoint", &bank, vec![line("C 0"); REPEATS]),
         row("restart, 32 records", &down, vec![line("S 1")]),
         row(

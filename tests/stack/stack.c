@@ -13,7 +13,8 @@ static uint8_t stack[SIZE] __attribute__((aligned(64)));
 static ucontext_t back, there;
 static uint8_t *bank;
 static uint8_t old[BANK_OLDER_LENGTH(8, 16)];
-static size_t len, old_len;
+static uint8_t cells[2 * BANK_MOST_CELLS], out[BANK_MOST_CELLS];
+static size_t len, old_len, cell_count;
 static int kind;
 static uint32_t arg[4];
 static uint64_t answer;
@@ -27,6 +28,7 @@ static void call(void) {
     case 4: answer = bank_fuse(bank, len, arg[0], arg[1]); break;
     case 5: answer = bank_restart(bank, len, arg[0]); break;
     case 6: answer = bank_convert(old, old_len, bank, len); break;
+    case 7: answer = bank_shelf(bank, len, arg[0], cells, 2 * cell_count, out, cell_count); break;
     default: answer = 0; break; /* nothing: what the measuring itself takes */
     }
 }
@@ -55,7 +57,7 @@ static uint32_t below(uint32_t n) {
 }
 
 int main(int count, char **files) {
-    static const char *names[] = {"bank_make", "bank_read", "bank_write", "bank_checkpoint", "bank_fuse", "bank_restart", "bank_convert"};
+    static const char *names[] = {"bank_make", "bank_read", "bank_write", "bank_checkpoint", "bank_fuse", "bank_restart", "bank_convert", "bank_shelf"};
     enum { KINDS = sizeof names / sizeof *names };
     size_t most[KINDS] = {0};
     len = BANK_LENGTH(8, 16);
@@ -66,8 +68,10 @@ int main(int count, char **files) {
     most[0] = used();
     for (int i = 0; i < CALLS; i++) {
         uint32_t k = below(16);
-        kind = k < 6 ? 1 : k < 12 ? 2 : k == 12 ? 3 : k == 13 || (k == 14 && below(4) == 0) ? 4 : 5;
+        kind = k < 4 ? 1 : k < 6 ? 7 : k < 12 ? 2 : k == 12 ? 3 : k == 13 || (k == 14 && below(4) == 0) ? 4 : 5;
         arg[0] = below(8), arg[1] = kind != 4 ? below(3) : k == 13 ? 1 + below(40) : 0, arg[2] = below(16), arg[3] = below(256);
+        cell_count = 1 + below(BANK_MOST_CELLS);
+        for (size_t c = 0; c < cell_count; c++) cells[2 * c] = (uint8_t)below(3), cells[2 * c + 1] = (uint8_t)below(16);
         size_t n = used();
         if (n > most[kind]) most[kind] = n;
     }

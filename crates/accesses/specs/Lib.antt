@@ -3,6 +3,5 @@ pub mod Needs
 pub mod Results
 pub mod BlockReplay
 pub mod Ends
-pub mod Directory
 pub mod Prepared
 pub mod Repeated

@@ -4,17 +4,18 @@ use Prim.Native.Nat.{ℕ, _+_, _<_}
 use native.Mathlib.Omega.{arith}
 use mathlib.Core.Bool.{Bool, true, false}
 use mathlib.Core.Option.{none, some}
-use mathlib.Core.List.{List}
+use mathlib.Core.List.{List, []}
 use lib.ListN.{length}
+use Rattle.types.specs.declared.Frame.{Frame}
 use Rattle.types.specs.declared.Outcome.{Outcome}
 use Rattle.accesses.specs.declared.ask.Ask.{Ask}
 use Rattle.types.specs.declared.Answer.the-variants.{Done, PowerLost}
 use Rattle.accesses.specs.declared.blocks.Replayed.the-variants.{Live, Last, Going}
-use Rattle.model.specs.Definitions.Layout.{pageSize}
+use Rattle.model.specs.Definitions.Answers.{code, value}
 use Rattle.model.specs.Definitions.Bank.{Board, Bank, noBoard, boardAt, onBoard}
 use Rattle.model.specs.Definitions.Codec.{encode, decode}
 use Rattle.model.specs.Definitions.WellFormed.{WellFormed}
-use Rattle.model.specs.Definitions.Steps.{Run, start, Access, valueOf}
+use Rattle.model.specs.Definitions.Steps.{Run, start, Access, readFrom, valueOf, givenOf}
 use Rattle.model.specs.Definitions.Replay.{tookDue, replayOver, endReplay, endIfOver, replayed}
 use Rattle.model.specs.Definitions.Calls.{finished, live, liveAfterEnd, replaying}
 use Rattle.model.specs.Laws.Logic.{byBool}
@@ -24,10 +25,12 @@ use Rattle.model.specs.Laws.Runs.{SameSizes, follows-endReplay}
 use Rattle.model.specs.Contracts.{InReplay, WellFormedBut}
 use Rattle.exchange.specs.Banks.{Holds, holds-wellFormed, holds-decode, holds-of}
 use Rattle.exchange.specs.Progress.{running, lostBy, Came}
+use Rattle.model.specs.Likeness.{onValue}
 use Rattle.accesses.specs.Asks.{Asks}
 use Rattle.accesses.specs.Results.{Answered, endedAs}
 use Rattle.accesses.specs.BlockReplay.{replayedBoard, replayedTo}
 use Rattle.model.specs.Laws.Moves.Stores.{endReplay-keeps}
+use Rattle.model.specs.Laws.Moves.Calls.{bytes-seen}
 
 -- steps that do the same to a board do the same to the bank
 onBoard-at : (b : ℕ) (f g : Board → Board) (k : Bank) → b < length (k .boards) → f (boardAt k b) ≡ g (boardAt k b) → onBoard b f k ≡ onBoard b g k
@@ -37,19 +40,18 @@ onBoard-at b f g k h e = rw (update-set b f (k .boards) noBoard h, update-set b 
 -- ---- how far an access came, as the code is told it
 
 module _ (a : Access) (x : Board) where
-  pub to-live : replayOver (tookDue a x) ≡ true → (Live ≡ replayedTo a x) × (tookDue a x ≡ replayedBoard a x)
+  pub to-live : replayOver (tookDue x) ≡ true → (Live ≡ replayedTo a x) × (tookDue x ≡ replayedBoard a x)
   unfolding replayedTo replayedBoard
   to-live t = (cc, cc)
 
-  pub to-last : (v : ℕ) → v ≡ valueOf a (tookDue a x .working .frames) → replayOver (tookDue a x) ≡ false → replayOver (replayed a (tookDue a x)) ≡ true
-      → (Last v ≡ replayedTo a x) × (replayed a (tookDue a x) ≡ replayedBoard a x)
-  unfolding replayedTo replayedBoard
-  to-last v e t u = (cc, cc)
+  module _ (t : replayOver (tookDue x) ≡ false) where
+    pub to-last : replayOver (replayed a (tookDue x)) ≡ true → (Last ≡ replayedTo a x) × (replayed a (tookDue x) ≡ replayedBoard a x)
+    unfolding replayedTo replayedBoard
+    to-last u = (cc, cc)
 
-  pub to-going : (v : ℕ) → v ≡ valueOf a (tookDue a x .working .frames) → replayOver (tookDue a x) ≡ false → replayOver (replayed a (tookDue a x)) ≡ false
-      → (Going v ≡ replayedTo a x) × (replayed a (tookDue a x) ≡ replayedBoard a x)
-  unfolding replayedTo replayedBoard
-  to-going v e t u = (cc, cc)
+    pub to-going : replayOver (replayed a (tookDue x)) ≡ false → (Going ≡ replayedTo a x) × (replayed a (tookDue x) ≡ replayedBoard a x)
+    unfolding replayedTo replayedBoard
+    to-going u = (cc, cc)
 
 -- ---- on the bank
 
@@ -58,69 +60,61 @@ module _ (b : ℕ) (a : Access) (k : Bank) (h : b < length (k .boards)) where
   x = boardAt k b
 
   abbrev taken : Bank
-  taken = onBoard b (tookDue a) k
+  taken = onBoard b tookDue k
 
   -- the bank that the code has after the board's block went through the access
   abbrev pub repeated : Bank
   repeated = onBoard b (replayedBoard a) k
 
-  board-taken : boardAt taken b ≡ tookDue a x
-  board-taken = boardAt-same b (tookDue a) k h
+  board-taken : boardAt taken b ≡ tookDue x
+  board-taken = boardAt-same b tookDue k h
 
-  -- the two ways of the definition, told apart by how far it came
-  pub live-over : Live ≡ replayedTo a x → replayOver (tookDue a x) ≡ true
+  -- the ways of the definition, told apart by how far it came
+  pub live-over : Live ≡ replayedTo a x → replayOver (tookDue x) ≡ true
   unfolding replayedTo
   live-over e =
-      byBool (replayOver (tookDue a x))
+      byBool (replayOver (tookDue x))
       (λ t. t)
-      (λ t. byBool (replayOver (replayed a (tookDue a x))) (λ u. let z : _≡_ {A = ℕ} 0 1 = cc in absurd (omega arith))
+      (λ t. byBool (replayOver (replayed a (tookDue x))) (λ u. let z : _≡_ {A = ℕ} 0 1 = cc in absurd (omega arith))
       (λ u. let z : _≡_ {A = ℕ} 0 1 = cc in absurd (omega arith)))
 
-  record CameLast (v : ℕ) : Type 0 where
-    on : replayOver (tookDue a x) ≡ false
-    over : replayOver (replayed a (tookDue a x)) ≡ true
-    value : v ≡ valueOf a (tookDue a x .working .frames)
+  -- the access was repeated, as the last one or not
+  pub record Repeated (last : Bool) : Type 0 where
+    pub on : replayOver (tookDue x) ≡ false
+    pub over : replayOver (replayed a (tookDue x)) ≡ last
 
-  last-over : (v : ℕ) → Last v ≡ replayedTo a x → CameLast v
+  pub last-over : Last ≡ replayedTo a x → Repeated true
   unfolding replayedTo
-  last-over v e =
-      byBool (replayOver (tookDue a x))
+  last-over e =
+      byBool (replayOver (tookDue x))
       (λ t. let z : _≡_ {A = ℕ} 0 1 = cc in absurd (omega arith))
       (λ t.
-      byBool (replayOver (replayed a (tookDue a x)))
-      (λ u. record { on = t; over = u; value = cc })
+      byBool (replayOver (replayed a (tookDue x)))
+      (λ u. record { on = t; over = u })
       (λ u. let z : _≡_ {A = ℕ} 0 1 = cc in absurd (omega arith)))
 
-  record CameOn (v : ℕ) : Type 0 where
-    on : replayOver (tookDue a x) ≡ false
-    over : replayOver (replayed a (tookDue a x)) ≡ false
-    value : v ≡ valueOf a (tookDue a x .working .frames)
-
-  going-on : (v : ℕ) → Going v ≡ replayedTo a x → CameOn v
+  pub going-on : Going ≡ replayedTo a x → Repeated false
   unfolding replayedTo
-  going-on v e =
-      byBool (replayOver (tookDue a x))
+  going-on e =
+      byBool (replayOver (tookDue x))
       (λ t. let z : _≡_ {A = ℕ} 0 1 = cc in absurd (omega arith))
       (λ t.
-      byBool (replayOver (replayed a (tookDue a x)))
+      byBool (replayOver (replayed a (tookDue x)))
       (λ u. let z : _≡_ {A = ℕ} 0 1 = cc in absurd (omega arith))
-      (λ u. record { on = t; over = u; value = cc }))
+      (λ u. record { on = t; over = u }))
 
   pub repeated-live : Live ≡ replayedTo a x → repeated ≡ taken
   unfolding replayedBoard
-  repeated-live e = let t : replayOver (tookDue a x) ≡ true = live-over e in onBoard-at b (replayedBoard a) (tookDue a) k h cc
+  repeated-live e = let t : replayOver (tookDue x) ≡ true = live-over e in onBoard-at b (replayedBoard a) tookDue k h cc
 
-  repeated-on : replayOver (tookDue a x) ≡ false → repeated ≡ onBoard b (replayed a) taken
+  pub repeated-on : replayOver (tookDue x) ≡ false → repeated ≡ onBoard b (replayed a) taken
   unfolding replayedBoard
   repeated-on t =
-      let e : replayedBoard a x ≡ replayed a (tookDue a x) = cc in
-      onBoard-at b (replayedBoard a) (λ y. replayed a (tookDue a y)) k h e ∙ sym (onBoard-onBoard b (tookDue a) (replayed a) k)
+      let e : replayedBoard a x ≡ replayed a (tookDue x) = cc in
+      onBoard-at b (replayedBoard a) (λ y. replayed a (tookDue y)) k h e ∙ sym (onBoard-onBoard b tookDue (replayed a) k)
 
-  pub repeated-last : (v : ℕ) → Last v ≡ replayedTo a x → repeated ≡ onBoard b (replayed a) taken
-  repeated-last v e = repeated-on (last-over v e .on)
-
-  board-repeated : boardAt (onBoard b (replayed a) taken) b ≡ replayed a (tookDue a x)
-  board-repeated = boardAt-same b (replayed a) taken (rw (boards-onBoard b (tookDue a) k) h) ∙ ap (replayed a) board-taken
+  board-repeated : boardAt (onBoard b (replayed a) taken) b ≡ replayed a (tookDue x)
+  board-repeated = boardAt-same b (replayed a) taken (rw (boards-onBoard b tookDue k) h) ∙ ap (replayed a) board-taken
 
   pub replaying-live : Live ≡ replayedTo a x → liveAfterEnd b a (endReplay b (running 0 repeated)) ≡ replaying b a k
   unfolding replaying start
@@ -128,38 +122,55 @@ module _ (b : ℕ) (a : Access) (k : Bank) (h : b < length (k .boards)) where
       let t : replayOver (boardAt taken b) ≡ true = rw board-taken (live-over e) in
       rw (repeated-live e) cc
 
-  pub replaying-last : (v : ℕ) → Last v ≡ replayedTo a x → finished v (endReplay b (running 0 repeated)) ≡ replaying b a k
+  -- what it read, as the definition has it
+  abbrev pub frames : List Frame
+  frames = tookDue (boardAt k b) .working .frames
+
+  pub replaying-last : Last ≡ replayedTo a x → finished (valueOf a frames) (givenOf a frames) (endReplay b (running 0 repeated)) ≡ replaying b a k
   unfolding replaying start endIfOver
-  replaying-last v e =
-      let m : CameLast v = last-over v e in
+  replaying-last e =
+      let m : Repeated true = last-over e in
       let t : replayOver (boardAt taken b) ≡ false = rw board-taken (m .on) in
       let u : replayOver (boardAt (onBoard b (replayed a) taken) b) ≡ true = rw board-repeated (m .over) in
-      let w : v ≡ valueOf a (boardAt taken b .working .frames) = rw board-taken (m .value) in
+      let w : boardAt taken b .working .frames ≡ frames = ap (λ (y : Board). y .working .frames) board-taken in
       rw (repeated-on (m .on)) cc
 
-  pub replaying-going : (v : ℕ) → Going v ≡ replayedTo a x → record { answer = Done v; run = running 0 repeated } ≡ replaying b a k
+  pub replaying-going : Going ≡ replayedTo a x
+      → record { answer = Done (valueOf a frames); run = running 0 repeated; given = givenOf a frames } ≡ replaying b a k
   unfolding replaying start endIfOver finished
-  replaying-going v e =
-      let m : CameOn v = going-on v e in
+  replaying-going e =
+      let m : Repeated false = going-on e in
       let t : replayOver (boardAt taken b) ≡ false = rw board-taken (m .on) in
       let u : replayOver (boardAt (onBoard b (replayed a) taken) b) ≡ false = rw board-repeated (m .over) in
-      let w : v ≡ valueOf a (boardAt taken b .working .frames) = rw board-taken (m .value) in
+      let w : boardAt taken b .working .frames ≡ frames = ap (λ (y : Board). y .working .frames) board-taken in
       rw (repeated-on (m .on)) cc
 
--- ---- after the end of replay
+-- ---- the answers
 
--- stores of board b alone, then the answer
-pub finished-ended : (v b : ℕ) (t : Bool) (r : Run) → lostBy b t ≡ r .lost → record { answer = endedAs v b t; run = r } ≡ finished v r
-unfolding finished endedAs lostBy
-finished-ended v b true r e = cc
-finished-ended v b false r e = cc
+-- a repeated access, and one after which the replay ended: stores of board b alone
+module _ (a : Access) (fs : List Frame) {out : List ℕ} (read : out ≡ readFrom a fs) where
+  pub answered-repeated : {s : List ℕ} (k : Bank) → s ≡ encode k
+      → Answered a s (record { answer = Done 0; stores = 0 }) 0
+      (record { answer = Done (valueOf a fs); run = running 0 k; given = givenOf a fs }) out
+  unfolding onValue value
+  answered-repeated k e = record { bytes = e; answer = refl; stores = omega arith; read = λ c. read ∙ sym (bytes-seen a fs) }
+
+  pub answered-ended : {s : List ℕ} (o : Outcome) (b : ℕ) (t : Bool) (r : Run) (m : ℕ) → Came s (0 + m) (lostBy b t) r
+      → o .answer ≡ endedAs 0 b t → o .stores ≡ m → Answered a s o 0 (finished (valueOf a fs) (givenOf a fs) r) out
+  unfolding finished endedAs lostBy onValue code value
+  answered-ended o b true r m c e f =
+      let z : finished (valueOf a fs) (givenOf a fs) r ≡ record { answer = PowerLost b; run = r; given = [] } = cc (c .lost) in
+      rw z (record { bytes = c .bytes; answer = e; stores = omega (arith, f, c .stores); read = λ i. absurd (omega arith) })
+  answered-ended o b false r m c e f =
+      let z : finished (valueOf a fs) (givenOf a fs) r ≡ record { answer = Done (valueOf a fs); run = r; given = givenOf a fs } = cc (c .lost) in
+      rw z (record { bytes = c .bytes; answer = e; stores = omega (arith, f, c .stores); read = λ i. read ∙ sym (bytes-seen a fs) })
 
 module _ (b : ℕ) (a : Access) (r : Run) where
-  pub after-lost : (c : ℕ) → some c ≡ r .lost → record { answer = PowerLost c; run = r } ≡ liveAfterEnd b a r
+  after-lost : (c : ℕ) → some c ≡ r .lost → record { answer = PowerLost c; run = r; given = [] } ≡ liveAfterEnd b a r
   unfolding liveAfterEnd
   after-lost c e = cc
 
-  pub after-on : none ≡ r .lost → live b a (running (r .stores) (r .bank)) ≡ liveAfterEnd b a r
+  after-on : none ≡ r .lost → live b a (running (r .stores) (r .bank)) ≡ liveAfterEnd b a r
   unfolding liveAfterEnd
   after-on e = let z : running (r .stores) (r .bank) ≡ r = rw e in cc
 
@@ -173,36 +184,36 @@ module _ (q : Ask) (k : Bank) (h : q .board < length (k .boards)) (w : WellForme
   ended-formed = endReplay-keeps (q .board) (running 0 k) refl h w
 
   pub ended-asks : {s : List ℕ} (boards pages : ℕ) → s ≡ encode (ended .bank) → boards ≡ length (k .boards) → pages ≡ length (k .directory)
-      → q .page < pages → q .offset < pageSize → Asks boards pages q s
-  ended-asks {s} boards pages e m p l o =
+      → Asks boards pages q s
+  ended-asks {s} boards pages e m p =
       let y : Holds s (ended .bank) = holds-wellFormed e ended-formed in
       let z : SameSizes k (ended .bank) = follows-endReplay (q .board) (running 0 k) .sizes in
       record {
         bank = holds-of y pages (q .board) (p ∙ sym (z .pages)) (rw (z .boards) h);
         count = m ∙ sym (rw (holds-decode y) (z .boards));
         formed = rw (holds-decode y) ended-formed;
-        page = l;
-        offset = o;
       }
 
   pub ended-decode : {s : List ℕ} → s ≡ encode (ended .bank) → decode s ≡ ended .bank
   ended-decode e = holds-decode (holds-wellFormed e ended-formed)
 
   -- power lost in the end's own checkpoint
-  pub ended-lost : {s : List ℕ} (o : Outcome) (m : ℕ) (t : Bool) (a : Access) → t ≡ true → Came s (0 + m) (lostBy (q .board) t) ended
-      → o .answer ≡ endedAs 0 (q .board) t → o .stores ≡ m → Answered s o 0 (liveAfterEnd (q .board) a ended)
-  unfolding endedAs lostBy
-  ended-lost o m t a z c e f =
+  pub ended-lost : {s : List ℕ} (out : List ℕ) (o : Outcome) (m : ℕ) (t : Bool) (a : Access) → t ≡ true → Came s (0 + m) (lostBy (q .board) t) ended
+      → o .answer ≡ endedAs 0 (q .board) t → o .stores ≡ m → Answered a s o 0 (liveAfterEnd (q .board) a ended) out
+  unfolding endedAs lostBy onValue code
+  ended-lost out o m t a z c e f =
       let l : some (q .board) ≡ ended .lost = rw z at (c .lost) in
       let g : o .answer ≡ PowerLost (q .board) = rw z at e in
-      rw (← after-lost (q .board) a ended (q .board) l) (record { bytes = c .bytes; answer = g; stores = omega (arith, f, c .stores) })
+      rw (← after-lost (q .board) a ended (q .board) l)
+      (record { bytes = c .bytes; answer = g; stores = omega (arith, f, c .stores); read = λ i. absurd (omega arith) })
 
   -- the access goes on
-  pub ended-live : {s y : List ℕ} (x : Outcome) (m : ℕ) (t : Bool) (a : Access) → t ≡ false → Came s (0 + m) (lostBy (q .board) t) ended
-      → ((n : ℕ) → Answered y x n (live (q .board) a (running n (decode s))))
-      → Answered y (record { answer = x .answer; stores = m + x .stores }) 0 (liveAfterEnd (q .board) a ended)
+  pub ended-live : {s y out : List ℕ} (x : Outcome) (m : ℕ) (t : Bool) (a : Access) → t ≡ false → Came s (0 + m) (lostBy (q .board) t) ended
+      → ((n : ℕ) → Answered a y x n (live (q .board) a (running n (decode s))) out)
+      → Answered a y (record { answer = x .answer; stores = m + x .stores }) 0 (liveAfterEnd (q .board) a ended) out
   unfolding lostBy
   ended-live x m t a z c f =
       let l : none ≡ ended .lost = rw z at (c .lost) in
       let v = rw (ended-decode (c .bytes)) at (f (ended .stores)) in
-      rw (← after-on (q .board) a ended l) (record { bytes = v .bytes; answer = v .answer; stores = omega (arith, v .stores, c .stores) })
+      rw (← after-on (q .board) a ended l)
+      (record { bytes = v .bytes; answer = v .answer; stores = omega (arith, v .stores, c .stores); read = v .read })

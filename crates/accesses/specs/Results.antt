@@ -1,4 +1,5 @@
--- What a call answers, as the contracts say it: an answer with its stores and the bytes left, beside the result of the definitions. Assumes nothing.
+-- What a call answers, as the contracts say it: an answer with its stores, the bytes left and the bytes read, beside the result of the definitions.
+-- Assumes nothing.
 use mathlib.Core.Path.{_≡_}
 use Prim.Native.Nat.{ℕ, _+_}
 use mathlib.Core.Bool.{Bool, true, false}
@@ -9,14 +10,19 @@ use Rattle.types.specs.declared.Answer.the-variants.{Done, PowerLost}
 use Rattle.types.specs.declared.Outcome.{Outcome}
 use Rattle.accesses.specs.declared.ask.Verdict.{Verdict}
 use Rattle.accesses.specs.declared.ask.Verdict.the-variants.{Pass, Refuse}
+use Rattle.model.specs.Definitions.Answers.{code, value}
 use Rattle.model.specs.Definitions.Codec.{encode}
+use Rattle.model.specs.Definitions.Steps.{Access}
 use Rattle.model.specs.Definitions.Calls.{Result}
+use Rattle.model.specs.History.Statement.{bytesSeen}
+use Rattle.model.specs.Likeness.{onValue}
 
--- bytes, answer and stores are those of the result, where n stores were made before
-pub record Answered (s : List ℕ) (o : Outcome) (n : ℕ) (t : Result) : Type 0 where
+-- bytes, stores and answer are those of the result, where n stores were made before, but that a value is 0 here; a done access has read its bytes
+pub record Answered (a : Access) (s : List ℕ) (o : Outcome) (n : ℕ) (t : Result) (out : List ℕ) : Type 0 where
   pub bytes : s ≡ encode (t .run .bank)
-  pub answer : o .answer ≡ t .answer
+  pub answer : o .answer ≡ onValue (λ v. 0) (t .answer)
   pub stores : n + o .stores ≡ t .run .stores
+  pub read : code (t .answer) ≡ 0 → out ≡ bytesSeen a (value (t .answer)) (t .given)
 
 -- the first test that holds, if one does
 unfoldable pub refusal : Verdict → Option Answer

@@ -1,4 +1,4 @@
-// Reads and writes of a board, on a bank that is known to be well formed: live, or repeated from the log.
+// Reads, writes and cells read of a board, on a bank that is known to be well formed: live, or repeated from the log.
 pub mod ask;
 pub mod blocks;
 pub mod live;

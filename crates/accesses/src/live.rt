@@ -1,7 +1,7 @@
 // An access of an up board: codes 6 and 7, then a fetch or copies dropped, then the access itself.
 use crate::ask::Ask;
 use crate::ask::Verdict;
-use crate::blocks::perform_value;
+use crate::blocks::perform_cells;
 use crate::need::short_board;
 use exchange::copies::drop_copies;
 use exchange::fetch::fetch;
@@ -9,31 +9,33 @@ use exchange::progress::Loss;
 use exchange::progress::Progress;
 use exchange::state::board_state;
 use fields::copies::count_copies;
+use fields::sets::has;
 use format::directory::read_copies;
 use format::directory::read_owner;
 use format::layout::block_at;
 use format::layout::block_size;
-use steps::access::lacks_right;
+use steps::access::lacking_pages;
 use steps::state::is_up;
 use types::Answer;
 use types::Outcome;
 ghost use mathlib.Core.Path.{_≡_};
 ghost use mathlib.Core.Bool.{_&&_, not, true};
-ghost use mathlib.Core.Option.{none};
+ghost use mathlib.Core.List.{map};
 ghost use Prim.Native.Nat.{ℕ, _+_, _*_, _≤_, _<_};
 ghost use lib.ListN.{length};
-ghost use Rattle.model.specs.Definitions.Parts.{member};
-ghost use Rattle.model.specs.Definitions.Layout.{pageSize, slotCount};
+ghost use Rattle.model.specs.Definitions.Parts.{firstBelow, member};
+ghost use Rattle.model.specs.Definitions.Layout.{mostPages, slotCount};
 ghost use Rattle.model.specs.Definitions.Bank.{boardAt, entryAt};
 ghost use Rattle.model.specs.Definitions.Codec.{decode};
-ghost use Rattle.model.specs.Definitions.WellFormed.{EntryOk, isUp};
-ghost use Rattle.model.specs.Definitions.Steps.{valueOf, access};
-ghost use Rattle.model.specs.Definitions.Calls.{firstOf, lackingOf, liveRefusals, prepared, performed, live};
-ghost use Rattle.model.specs.Contracts.{Space, Ready, CanAccess};
+ghost use Rattle.model.specs.Definitions.WellFormed.{WellFormed, EntryOk, isUp};
+ghost use Rattle.model.specs.Definitions.Steps.{Access, cellsAsked, cellsRead, cellByte, access, giver};
+ghost use Rattle.model.specs.Definitions.Calls.{firstOf, liveRefusals, prepared, performed, live};
+ghost use Rattle.model.specs.Contracts.{Space, Ready};
 ghost use Rattle.exchange.specs.Banks.{OfBank, Holds};
 ghost use Rattle.exchange.specs.Progress.{running, lossOf, Came};
-ghost use Rattle.accesses.specs.Asks.{asked, Asks};
+ghost use Rattle.accesses.specs.Asks.{Stands, Lacking, Goes, Passes, Asks, InRange};
 ghost use Rattle.accesses.specs.Results.{Answered, refusal};
+ghost use Rattle.accesses.specs.Needs.{foundIn};
 ghost use Rattle.accesses.specs.Prepared.{withoutOut};
 
 // Whether a board of the bank is up.
@@ -44,39 +46,63 @@ fn board_up(bank: &[u8], pages: usize, board: usize) -> bool
     is_up(board_state(bank, pages, board))
 }
 
-// Whether the access lacks its right.
-fn board_lacks(bank: &[u8], pages: usize, ask: Ask) -> bool
-    requires { ⌜ OfBank pages (ask .board) (now bank) × (ask .page < pages) ⌝ }
-    ensures { λ r. ⌜ r ≡ lackingOf (ask .board) (asked ask) (decode (now (bank .entry))) ⌝ }
+// The pages that the access lacks.
+fn board_lacks(bank: &[u8], pages: usize, ask: Ask) -> u16
+    requires { ⌜ OfBank pages (ask .board) (now bank) ⌝ }
+    ensures { λ r. ⌜ ((a : Access) → Stands pages a ask → Lacking pages a ask r (decode (now (bank .entry)))) ⌝ }
 {
     let board = ask.board;
     let a = block_at(pages, board);
     let size = block_size(pages);
-    lacks_right(&bank[a..a + size], pages, ask.page, ask.writes)
+    lacking_pages(&bank[a..a + size], pages, ask.named, ask.writes)
 }
 
-// "6: live fetch, owner not up"
-fn owner_missing(bank: &[u8], pages: usize, owner: usize, lacks: bool) -> bool
-    requires { ⌜ OfBank pages owner (now bank) ⌝ }
-    ensures { λ r. ⌜ r ≡ (lacks && not (isUp (boardAt (decode (now (bank .entry))) owner .state))) ⌝ }
+// "6: live fetch, owner not up", of one page
+fn owner_missing(bank: &[u8], pages: usize, page: usize, lacking: u16) -> bool
+    requires { ⌜ OfBank pages 0 (now bank) × WellFormed (decode (now bank)) × (page < pages) ⌝ }
+    ensures { λ r. ⌜ r ≡ (member page lacking && not (isUp (boardAt (decode (now (bank .entry))) (giver (decode (now (bank .entry))) page) .state))) ⌝ }
 {
-    if lacks {
+    if has(page, lacking) {
+        let owner = read_owner(bank, page) as usize;
         return !board_up(bank, pages, owner);
     }
     false
 }
 
-// Codes 6 and 7, in this order.
-fn live_verdict(bank: &[u8], boards: usize, pages: usize, ask: Ask) -> Verdict
-    requires { ⌜ Asks boards pages ask (now bank) ⌝ }
-    ensures { λ r. ⌜ refusal r ≡ firstOf (liveRefusals (ask .board) (asked ask) (decode (now (bank .entry)))) ⌝ }
+// "the lowest lacking page whose owner isn't up" (F-3); the number of pages where there is none.
+fn missing_page(bank: &[u8], pages: usize, lacking: u16) -> usize
+    requires { ⌜ OfBank pages 0 (now bank) × WellFormed (decode (now bank)) ⌝ }
+    ensures found { λ r. ⌜ foundIn pages r ≡ firstBelow pages
+        (λ p. member p lacking && not (isUp (boardAt (decode (now (bank .entry))) (giver (decode (now (bank .entry))) p) .state))) ⌝ }
+    ensures within { λ r. ⌜ r ≤ pages ⌝ }
 {
-    let lacks = board_lacks(bank, pages, ask);
-    let owner = read_owner(bank, ask.page);
-    if owner_missing(bank, pages, owner as usize, lacks) {
-        return Verdict::Refuse(Answer::OwnerNotUp(owner));
+    let mut page = 0;
+    while page < pages {
+        if owner_missing(bank, pages, page, lacking) {
+            return page;
+        }
+        page += 1;
     }
-    let short = short_board(bank, boards, pages, ask, lacks);
+    pages
+}
+
+// Codes 6 and 7, in this order, of an access that needs other boards, or their copies dropped; "Code 6 names the owner of the lowest lacking page whose owner isn't up" (F-3).
+fn live_verdict(bank: &[u8], boards: usize, pages: usize, ask: Ask, lacking: u16) -> Verdict
+    requires { ⌜ Asks boards pages ask (now bank) × (ask .writes ≡ true → ask .page < pages) ⌝ }
+    ensures { λ r. ⌜ ((a : Access) → Lacking pages a ask lacking (decode (now (bank .entry)))
+        → refusal r ≡ firstOf (liveRefusals (ask .board) a (decode (now (bank .entry))))) ⌝ }
+{
+    let writes = ask.writes;
+    if lacking == 0 {
+        if !writes {
+            return Verdict::Pass;
+        }
+    }
+    let missing = missing_page(bank, pages, lacking);
+    if missing < pages {
+        return Verdict::Refuse(Answer::OwnerNotUp(read_owner(bank, missing)));
+    }
+    let short = short_board(bank, boards, pages, ask, lacking);
     if short < boards {
         return Verdict::Refuse(Answer::LogFull(short as u8));
     }
@@ -96,18 +122,17 @@ fn drop_out(bank: &mut [u8], pages: usize, page: usize)
 }
 
 // What comes before the access itself: a fetch, or the copies of an owned page dropped, or nothing.
-fn prepare(bank: &mut [u8], pages: usize, ask: Ask) -> Progress
-    requires { ⌜ Asks (length (decode (now bank) .boards)) pages ask (now bank) × CanAccess (ask .board) (asked ask) (decode (now bank))
-        × (firstOf (liveRefusals (ask .board) (asked ask) (decode (now bank))) ≡ none) ⌝ }
-    ensures run { λ r. ⌜ ((n : ℕ) → Came (now (bank .exit)) (n + r .stores) (lossOf (r .loss))
-        (prepared (ask .board) (asked ask) (running n (decode (now (bank .entry)))))) ⌝ }
-    ensures few { λ r. ⌜ r .stores ≤ 2 * slotCount ⌝ }
+fn prepare(bank: &mut [u8], pages: usize, ask: Ask, lacking: u16) -> Progress
+    requires { ⌜ Asks (length (decode (now bank) .boards)) pages ask (now bank) × (ask .writes ≡ true → ask .page < pages)
+        × ((a : Access) × Passes pages a ask lacking (decode (now bank))) ⌝ }
+    ensures run { λ r. ⌜ ((a : Access) → Lacking pages a ask lacking (decode (now (bank .entry))) → (n : ℕ)
+        → Came (now (bank .exit)) (n + r .stores) (lossOf (r .loss)) (prepared (ask .board) a (running n (decode (now (bank .entry)))))) ⌝ }
+    ensures few { λ r. ⌜ r .stores ≤ mostPages * slotCount ⌝ }
 {
     let page = ask.page;
     let writes = ask.writes;
-    if board_lacks(bank, pages, ask) {
-        let owner = read_owner(bank, page) as usize;
-        return fetch(bank, pages, owner, ask.board, page, writes);
+    if lacking != 0 {
+        return fetch(bank, pages, ask.board, page, lacking, writes);
     }
     if writes {
         drop_out(bank, pages, page);
@@ -118,28 +143,38 @@ fn prepare(bank: &mut [u8], pages: usize, ask: Ask) -> Progress
     }
 }
 
-// The access itself on its board's block, and its value.
-fn perform_at(bank: &mut [u8], pages: usize, ask: Ask) -> u8
-    requires { ⌜ OfBank pages (ask .board) (now bank) × Ready (asked ask) (boardAt (decode (now bank)) (ask .board)) × (ask .page < pages)
-        × (ask .offset < pageSize) ⌝ }
-    ensures { λ r. ⌜ (r ≡ valueOf (asked ask) (boardAt (decode (now (bank .entry))) (ask .board) .working .frames))
-        × Holds (now (bank .exit)) (access (ask .board) (asked ask) (decode (now (bank .entry)))) ⌝ }
+// The access itself on its board's block, with the bytes of its cells.
+fn perform_at(bank: &mut [u8], pages: usize, ask: Ask, cells: &[u8], out: &mut [u8])
+    requires { ⌜ OfBank pages (ask .board) (now bank) × InRange pages ask (now cells) (length (now out))
+        × ((a : Access) × Stands pages a ask × Ready a (boardAt (decode (now bank)) (ask .board))) ⌝ }
+    ensures read { λ _. ⌜ now (out .exit)
+        ≡ map (cellByte (boardAt (decode (now (bank .entry))) (ask .board) .working .frames)) (cellsAsked (now (cells .entry))) ⌝ }
+    ensures did { λ _. ⌜ ((a : Access) → Stands pages a ask → Ready a (boardAt (decode (now (bank .entry))) (ask .board))
+        → Holds (now (bank .exit)) (access (ask .board) a (decode (now (bank .entry))))) ⌝ }
 {
     let board = ask.board;
     let a = block_at(pages, board);
     let size = block_size(pages);
-    perform_value(&mut bank[a..a + size], pages, ask)
+    perform_cells(&mut bank[a..a + size], pages, ask, cells, out);
 }
 
 // The access that codes 6 and 7 let pass.
-fn proceed(bank: &mut [u8], pages: usize, ask: Ask) -> Outcome
-    requires { ⌜ Asks (length (decode (now bank) .boards)) pages ask (now bank) × CanAccess (ask .board) (asked ask) (decode (now bank))
-        × (firstOf (liveRefusals (ask .board) (asked ask) (decode (now bank))) ≡ none) ⌝ }
-    ensures run { λ r. ⌜ ((n : ℕ) → Answered (now (bank .exit)) r n
-        (performed (ask .board) (asked ask) (prepared (ask .board) (asked ask) (running n (decode (now (bank .entry))))))) ⌝ }
-    ensures few { λ r. ⌜ r .stores ≤ 2 * slotCount ⌝ }
+fn proceed(
+    bank: &mut [u8],
+    pages: usize,
+    ask: Ask,
+    lacking: u16,
+    cells: &[u8],
+    out: &mut [u8],
+) -> Outcome
+    requires { ⌜ Asks (length (decode (now bank) .boards)) pages ask (now bank) × InRange pages ask (now cells) (length (now out))
+        × ((a : Access) × Passes pages a ask lacking (decode (now bank))) ⌝ }
+    ensures run { λ r. ⌜ ((a : Access) → Passes pages a ask lacking (decode (now (bank .entry))) → cellsRead a ≡ cellsAsked (now (cells .entry)) → (n : ℕ)
+        → Answered a (now (bank .exit)) r n
+        (performed (ask .board) a (prepared (ask .board) a (running n (decode (now (bank .entry)))))) (now (out .exit))) ⌝ }
+    ensures few { λ r. ⌜ r .stores ≤ mostPages * slotCount ⌝ }
 {
-    let progress = prepare(bank, pages, ask);
+    let progress = prepare(bank, pages, ask, lacking);
     let stores = progress.stores;
     let loss = progress.loss;
     match loss {
@@ -148,23 +183,34 @@ fn proceed(bank: &mut [u8], pages: usize, ask: Ask) -> Outcome
             stores,
         },
         Loss::Nobody => {
-            let value = perform_at(bank, pages, ask);
+            perform_at(bank, pages, ask, cells, out);
             Outcome {
-                answer: Answer::Done(value as u32),
+                answer: Answer::Done(0),
                 stores,
             }
         }
     }
 }
 
-pub fn live(bank: &mut [u8], boards: usize, pages: usize, ask: Ask) -> Outcome
-    requires { ⌜ Asks boards pages ask (now bank) × CanAccess (ask .board) (asked ask) (decode (now bank)) ⌝ }
-    ensures run { λ r. ⌜ ((n : ℕ) → Answered (now (bank .exit)) r n (live (ask .board) (asked ask) (running n (decode (now (bank .entry)))))) ⌝ }
-    ensures few { λ r. ⌜ r .stores ≤ 2 * slotCount ⌝ }
+// The answer of a done access has value 0 here; the bytes that it read are in the buffer.
+pub fn live(
+    bank: &mut [u8],
+    boards: usize,
+    pages: usize,
+    ask: Ask,
+    cells: &[u8],
+    out: &mut [u8],
+) -> Outcome
+    requires { ⌜ Asks boards pages ask (now bank) × InRange pages ask (now cells) (length (now out))
+        × ((a : Access) × Goes pages a ask (decode (now bank))) ⌝ }
+    ensures run { λ r. ⌜ ((a : Access) → Goes pages a ask (decode (now (bank .entry))) → cellsRead a ≡ cellsAsked (now (cells .entry)) → (n : ℕ)
+        → Answered a (now (bank .exit)) r n (live (ask .board) a (running n (decode (now (bank .entry))))) (now (out .exit))) ⌝ }
+    ensures few { λ r. ⌜ r .stores ≤ mostPages * slotCount ⌝ }
 {
-    let verdict = live_verdict(bank, boards, pages, ask);
+    let lacking = board_lacks(bank, pages, ask);
+    let verdict = live_verdict(bank, boards, pages, ask, lacking);
     match verdict {
         Verdict::Refuse(answer) => Outcome { answer, stores: 0 },
-        Verdict::Pass => proceed(bank, pages, ask),
+        Verdict::Pass => proceed(bank, pages, ask, lacking, cells, out),
     }
 }

@@ -1,30 +1,33 @@
 // Code 7: "stored + volatile + needed > 32 on some board".
 use crate::ask::Ask;
 use fields::copies::holds;
+use fields::sets::has;
 use format::directory::read_copies;
 use format::directory::read_owner;
 use format::layout::block_at;
 use format::layout::block_size;
 use steps::records::room;
 ghost use mathlib.Core.Path.{_≡_};
-ghost use Prim.Native.Nat.{ℕ, _+_, _≤_, _<_};
+ghost use mathlib.Core.Bool.{true};
+ghost use Prim.Native.Nat.{ℕ, _+_, _*_, _≤_, _<_};
 ghost use lib.Dec.{ltb};
 ghost use Rattle.model.specs.Definitions.Layout.{mostBoards, slotCount};
 ghost use Rattle.model.specs.Definitions.Bank.{Bank, boardAt, entryAt};
 ghost use Rattle.model.specs.Definitions.Codec.{decode};
 ghost use Rattle.model.specs.Definitions.WellFormed.{RoomOk};
-ghost use Rattle.model.specs.Definitions.Steps.{giver};
-ghost use Rattle.model.specs.Definitions.Calls.{fetchNeed, lackingOf, need, shortBoard};
+ghost use Rattle.model.specs.Definitions.Steps.{Access};
+ghost use Rattle.model.specs.Definitions.Calls.{fetchNeed, pageNeed, need, shortBoard};
 ghost use Rattle.model.specs.Contracts.{volatileCount, storedCount};
+ghost use Rattle.steps.specs.Asked.{got};
 ghost use Rattle.exchange.specs.Banks.{OfBank};
-ghost use Rattle.exchange.specs.Progress.{got};
-ghost use Rattle.accesses.specs.Asks.{asked, Asks};
+ghost use Rattle.accesses.specs.Asks.{Lacking, Asks};
 ghost use Rattle.accesses.specs.Needs.{heldBy, foundIn};
 
 // "other holders 1", "own write: holders 1"
 fn holder_need(copies: u8, board: usize) -> usize
     requires { ⌜ board < mostBoards ⌝ }
-    ensures { λ r. ⌜ r ≡ heldBy copies board ⌝ }
+    ensures need { λ r. ⌜ r ≡ heldBy copies board ⌝ }
+    ensures few { λ r. ⌜ r ≤ 2 ⌝ }
 {
     if holds(board, copies) {
         return 1;
@@ -35,7 +38,8 @@ fn holder_need(copies: u8, board: usize) -> usize
 // "read fetch: reader 1, owner 1; write fetch: writer 1, owner 2, other holders 1"
 fn fetch_need(writes: bool, taker: usize, owner: usize, copies: u8, board: usize) -> usize
     requires { ⌜ board < mostBoards ⌝ }
-    ensures { λ r. ⌜ ((k : Bank) (p : ℕ) → copies ≡ entryAt k p .copies → r ≡ fetchNeed (got writes) k taker owner p board) ⌝ }
+    ensures need { λ r. ⌜ ((k : Bank) (p : ℕ) → copies ≡ entryAt k p .copies → r ≡ fetchNeed (got writes) k taker owner p board) ⌝ }
+    ensures few { λ r. ⌜ r ≤ 2 ⌝ }
 {
     if board == taker {
         return 1;
@@ -52,20 +56,47 @@ fn fetch_need(writes: bool, taker: usize, owner: usize, copies: u8, board: usize
     0
 }
 
-// What a board needs in its log for an access.
-fn need(ask: Ask, lacks: bool, owner: usize, copies: u8, board: usize) -> usize
-    requires { ⌜ board < mostBoards ⌝ }
-    ensures { λ r. ⌜ ((k : Bank) → lacks ≡ lackingOf (ask .board) (asked ask) k → owner ≡ giver k (ask .page) → copies ≡ entryAt k (ask .page) .copies
-        → r ≡ need (ask .board) (asked ask) k board) ⌝ }
+// What a board needs in its log for one page: it is fetched, or an own write drops its copies, or nothing.
+fn page_need(bank: &[u8], pages: usize, ask: Ask, lacking: u16, page: usize, board: usize) -> usize
+    requires { ⌜ OfBank pages board (now bank) × (page < pages) ⌝ }
+    ensures need { λ r. ⌜ ((a : Access) → Lacking pages a ask lacking (decode (now (bank .entry)))
+        → r ≡ pageNeed (ask .board) a (decode (now (bank .entry))) board page) ⌝ }
+    ensures few { λ r. ⌜ r ≤ 2 ⌝ }
 {
     let writes = ask.writes;
-    if lacks {
+    if has(page, lacking) {
+        let owner = read_owner(bank, page) as usize;
+        let copies = read_copies(bank, page);
         return fetch_need(writes, ask.board, owner, copies, board);
     }
     if writes {
-        return holder_need(copies, board);
+        if page == ask.page {
+            return holder_need(read_copies(bank, page), board);
+        }
     }
     0
+}
+
+// "code 7 adds up the needs of all pages" (F-3). A write has one page, and an access that lacks none and writes nothing needs nothing.
+fn need(bank: &[u8], pages: usize, ask: Ask, lacking: u16, board: usize) -> usize
+    requires { ⌜ OfBank pages board (now bank) × (ask .writes ≡ true → ask .page < pages) ⌝ }
+    ensures need { λ r. ⌜ ((a : Access) → Lacking pages a ask lacking (decode (now (bank .entry)))
+        → r ≡ need (ask .board) a (decode (now (bank .entry))) board) ⌝ }
+    ensures few { λ r. ⌜ r ≤ 2 * pages ⌝ }
+{
+    let mut need = 0;
+    if ask.writes {
+        return page_need(bank, pages, ask, lacking, ask.page, board);
+    }
+    if lacking == 0 {
+        return need;
+    }
+    let mut page = 0;
+    while page < pages {
+        need += page_need(bank, pages, ask, lacking, page, board);
+        page += 1;
+    }
+    need
 }
 
 // Whether a board's log has too little room; one that needs nothing is not looked at.
@@ -83,17 +114,15 @@ fn short_of(bank: &[u8], pages: usize, board: usize, need: usize) -> bool
 }
 
 // "who: lowest such board"; the number of boards where none is short.
-pub fn short_board(bank: &[u8], boards: usize, pages: usize, ask: Ask, lacks: bool) -> usize
-    requires { ⌜ Asks boards pages ask (now bank) × (lacks ≡ lackingOf (ask .board) (asked ask) (decode (now bank))) ⌝ }
-    ensures found { λ r. ⌜ foundIn boards r ≡ shortBoard (ask .board) (asked ask) (decode (now (bank .entry))) ⌝ }
+pub fn short_board(bank: &[u8], boards: usize, pages: usize, ask: Ask, lacking: u16) -> usize
+    requires { ⌜ Asks boards pages ask (now bank) × (ask .writes ≡ true → ask .page < pages) ⌝ }
+    ensures found { λ r. ⌜ ((a : Access) → Lacking pages a ask lacking (decode (now (bank .entry)))
+        → foundIn boards r ≡ shortBoard (ask .board) a (decode (now (bank .entry)))) ⌝ }
     ensures within { λ r. ⌜ r ≤ boards ⌝ }
 {
-    let page = ask.page;
-    let owner = read_owner(bank, page) as usize;
-    let copies = read_copies(bank, page);
     let mut board = 0;
     while board < boards {
-        if short_of(bank, pages, board, need(ask, lacks, owner, copies, board)) {
+        if short_of(bank, pages, board, need(bank, pages, ask, lacking, board)) {
             return board;
         }
         board += 1;

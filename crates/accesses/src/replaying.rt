@@ -14,20 +14,21 @@ use types::Answer;
 use types::Outcome;
 ghost use mathlib.Core.Path.{_≡_};
 ghost use mathlib.Core.Bool.{false};
-ghost use mathlib.Core.Option.{none};
-ghost use Prim.Native.Nat.{ℕ, _+_, _*_, _≤_, _<_};
+ghost use mathlib.Core.List.{map};
+ghost use Prim.Native.Nat.{ℕ, _+_, _*_, _≤_};
 ghost use lib.ListN.{length};
 ghost use lib.Dec.{eqb};
 ghost use Rattle.types.specs.declared.State.the-variants.{Replaying};
-ghost use Rattle.model.specs.Definitions.Layout.{pageSize, slotCount};
+ghost use Rattle.model.specs.Definitions.Layout.{mostPages, slotCount};
 ghost use Rattle.model.specs.Definitions.Bank.{boardAt, entryAt, onBoard};
 ghost use Rattle.model.specs.Definitions.Codec.{decode};
-ghost use Rattle.model.specs.Definitions.Replay.{differs, endReplay};
+ghost use Rattle.model.specs.Definitions.Steps.{Access, cellsAsked, cellsRead, cellByte};
+ghost use Rattle.model.specs.Definitions.Replay.{tookDue, replayOver, endReplay};
 ghost use Rattle.model.specs.Definitions.Calls.{replaying, liveAfterEnd};
-ghost use Rattle.model.specs.Contracts.{WellFormedBut, InReplay, CanAccess, Entered};
+ghost use Rattle.model.specs.Contracts.{WellFormedBut, InReplay};
 ghost use Rattle.exchange.specs.Banks.{OfBank, Holds};
 ghost use Rattle.exchange.specs.Progress.{running, lostBy, Came};
-ghost use Rattle.accesses.specs.Asks.{asked, Asks};
+ghost use Rattle.accesses.specs.Asks.{Stands, GoesOn, Enters, Asks, InRange};
 ghost use Rattle.accesses.specs.Results.{Answered};
 ghost use Rattle.accesses.specs.BlockReplay.{replayedBoard, replayedTo, Repeats};
 ghost use Rattle.accesses.specs.Ends.{setFrom};
@@ -67,34 +68,43 @@ pub fn end_replay(bank: &mut [u8], pages: usize, board: usize) -> Stored
 }
 
 // The replaying board's block goes through the access.
-fn replay_at(bank: &mut [u8], pages: usize, ask: Ask) -> Replayed
-    requires { ⌜ OfBank pages (ask .board) (now bank) × Repeats pages (asked ask) (boardAt (decode (now bank)) (ask .board)) × (ask .page < pages)
-        × (ask .offset < pageSize) ⌝ }
-    ensures { λ r. ⌜ (r ≡ replayedTo (asked ask) (boardAt (decode (now (bank .entry))) (ask .board)))
-        × Holds (now (bank .exit)) (onBoard (ask .board) (replayedBoard (asked ask)) (decode (now (bank .entry)))) ⌝ }
+fn replay_at(bank: &mut [u8], pages: usize, ask: Ask, cells: &[u8], out: &mut [u8]) -> Replayed
+    requires { ⌜ OfBank pages (ask .board) (now bank) × InRange pages ask (now cells) (length (now out))
+        × ((a : Access) × Stands pages a ask × Repeats a (boardAt (decode (now bank)) (ask .board))) ⌝ }
+    ensures read { λ _. ⌜ (replayOver (tookDue (boardAt (decode (now (bank .entry))) (ask .board))) ≡ false → now (out .exit)
+        ≡ map (cellByte (tookDue (boardAt (decode (now (bank .entry))) (ask .board)) .working .frames)) (cellsAsked (now (cells .entry)))) ⌝ }
+    ensures did { λ r. ⌜ ((a : Access) → Stands pages a ask → Repeats a (boardAt (decode (now (bank .entry))) (ask .board))
+        → (r ≡ replayedTo a (boardAt (decode (now (bank .entry))) (ask .board)))
+        × Holds (now (bank .exit)) (onBoard (ask .board) (replayedBoard a) (decode (now (bank .entry))))) ⌝ }
 {
     let board = ask.board;
     let a = block_at(pages, board);
     let size = block_size(pages);
-    blocks::replay(&mut bank[a..a + size], pages, ask)
+    blocks::replay(&mut bank[a..a + size], pages, ask, cells, out)
 }
 
 // "An access whose got was the last record then goes on live", unless the end's own checkpoint blew the fuse.
-fn go_on_live(bank: &mut [u8], boards: usize, pages: usize, ask: Ask) -> Outcome
-    requires { ⌜ OfBank pages (ask .board) (now bank) × (boards ≡ length (decode (now bank) .boards)) × (ask .page < pages) × (ask .offset < pageSize)
-        × WellFormedBut (ask .board) InReplay (decode (now bank))
-        × (endReplay (ask .board) (running 0 (decode (now bank))) .lost ≡ none
-        → CanAccess (ask .board) (asked ask) (endReplay (ask .board) (running 0 (decode (now bank))) .bank)) ⌝ }
-    ensures run { λ r. ⌜ Answered (now (bank .exit)) r 0
-        (liveAfterEnd (ask .board) (asked ask) (endReplay (ask .board) (running 0 (decode (now (bank .entry)))))) ⌝ }
-    ensures few { λ r. ⌜ r .stores ≤ 2 * slotCount + pages + 2 ⌝ }
+fn go_on_live(
+    bank: &mut [u8],
+    boards: usize,
+    pages: usize,
+    ask: Ask,
+    cells: &[u8],
+    out: &mut [u8],
+) -> Outcome
+    requires { ⌜ OfBank pages (ask .board) (now bank) × (boards ≡ length (decode (now bank) .boards)) × InRange pages ask (now cells) (length (now out))
+        × WellFormedBut (ask .board) InReplay (decode (now bank)) × ((a : Access) × GoesOn pages a ask (decode (now bank))) ⌝ }
+    ensures run { λ r. ⌜ ((a : Access) → GoesOn pages a ask (decode (now (bank .entry))) → cellsRead a ≡ cellsAsked (now (cells .entry))
+        → Answered a (now (bank .exit)) r 0
+        (liveAfterEnd (ask .board) a (endReplay (ask .board) (running 0 (decode (now (bank .entry)))))) (now (out .exit))) ⌝ }
+    ensures few { λ r. ⌜ r .stores ≤ mostPages * slotCount + pages + 2 ⌝ }
 {
     let board = ask.board;
     let stored = end_replay(bank, pages, board);
     if stored.lost {
         return ended(0, board, stored);
     }
-    let outcome = live(bank, boards, pages, ask);
+    let outcome = live(bank, boards, pages, ask, cells, out);
     let answer = outcome.answer;
     Outcome {
         answer,
@@ -102,22 +112,31 @@ fn go_on_live(bank: &mut [u8], boards: usize, pages: usize, ask: Ask) -> Outcome
     }
 }
 
-pub fn replay(bank: &mut [u8], boards: usize, pages: usize, ask: Ask) -> Outcome
-    requires { ⌜ Asks boards pages ask (now bank) × Entered (ask .board) (asked ask) (decode (now bank))
-        × (boardAt (decode (now bank)) (ask .board) .state ≡ Replaying) × (differs (asked ask) (boardAt (decode (now bank)) (ask .board)) ≡ false) ⌝ }
-    ensures run { λ r. ⌜ Answered (now (bank .exit)) r 0 (replaying (ask .board) (asked ask) (decode (now (bank .entry)))) ⌝ }
-    ensures few { λ r. ⌜ r .stores ≤ 2 * slotCount + pages + 2 ⌝ }
+// As for a live access, the answer of a done one has value 0 here, and the bytes that it read are in the buffer.
+pub fn replay(
+    bank: &mut [u8],
+    boards: usize,
+    pages: usize,
+    ask: Ask,
+    cells: &[u8],
+    out: &mut [u8],
+) -> Outcome
+    requires { ⌜ Asks boards pages ask (now bank) × InRange pages ask (now cells) (length (now out))
+        × (boardAt (decode (now bank)) (ask .board) .state ≡ Replaying) × ((a : Access) × Enters pages a ask (decode (now bank))) ⌝ }
+    ensures run { λ r. ⌜ ((a : Access) → Enters pages a ask (decode (now (bank .entry))) → cellsRead a ≡ cellsAsked (now (cells .entry))
+        → Answered a (now (bank .exit)) r 0 (replaying (ask .board) a (decode (now (bank .entry)))) (now (out .exit))) ⌝ }
+    ensures few { λ r. ⌜ r .stores ≤ mostPages * slotCount + pages + 2 ⌝ }
 {
     let board = ask.board;
-    let replayed = replay_at(bank, pages, ask);
+    let replayed = replay_at(bank, pages, ask, cells, out);
     match replayed {
-        Replayed::Live => go_on_live(bank, boards, pages, ask),
-        Replayed::Last(value) => {
+        Replayed::Live => go_on_live(bank, boards, pages, ask, cells, out),
+        Replayed::Last => {
             let stored = end_replay(bank, pages, board);
-            ended(value as u32, board, stored)
+            ended(0, board, stored)
         }
-        Replayed::Going(value) => Outcome {
-            answer: Answer::Done(value as u32),
+        Replayed::Going => Outcome {
+            answer: Answer::Done(0),
             stores: 0,
         },
     }

@@ -1,10 +1,13 @@
 -- An outcome as one number, for callers in C: code, who, stores and value, each in its own digits, so that nothing is lost. Assumes nothing.
 use mathlib.Core.Path.{_≡_, refl}
-use Prim.Native.Nat.{ℕ, zero, suc, _+_, _*_, _/_, _%_, _<_}
+use Prim.Native.Nat.{ℕ, _+_, _*_, _/_, _%_, _<_}
 use native.Mathlib.Omega.{arith}
-use lib.Dec.{lit<}
+use mathlib.Core.Bool.{true, false}
+use mathlib.Core.List.{List, [], _∷_}
+use lib.Dec.{eqb, lit<}
 use Rattle.types.specs.declared.Answer.{Answer}
-use Rattle.types.specs.declared.Answer.the-variants.{Done, Malformed, OutOfRange, WrongState, CountersFull, ReplayDiffers, OwnerNotUp, LogFull, PowerLost}
+use Rattle.types.specs.declared.Answer.the-variants.{Done, Malformed, OutOfRange, WrongState, CountersFull, ReplayDiffers, OwnerNotUp, LogFull}
+use Rattle.types.specs.declared.Answer.the-variants.{PowerLost, WrongCells}
 use Rattle.types.specs.declared.Outcome.{Outcome}
 use Rattle.model.specs.Definitions.Layout.{byteValues}
 use Rattle.model.specs.Definitions.Answers.{code, value, who}
@@ -35,6 +38,7 @@ code-small (ReplayDiffers b) = lit< tt
 code-small (OwnerNotUp b) = lit< tt
 code-small (LogFull b) = lit< tt
 code-small (PowerLost b) = lit< tt
+code-small WrongCells = lit< tt
 
 digits-code : (c w s v : ℕ) → c < whoUnit → (c + whoUnit * w + storesUnit * s + valueUnit * v) % whoUnit ≡ c
 digits-code c w s v h = omega arith
@@ -66,20 +70,28 @@ packed-back o h k =
       valueRead = digits-value (code a) (who a) (o .stores) (value a) c h k;
     }
 
--- and the four fields tell the outcome. Every code from 8 on reads as PowerLost; no call answers one past 8.
+-- and the four fields tell the outcome: the answer of a code's row. Every other code reads as PowerLost; no call answers one.
+unfoldable pub answerIn : List (ℕ × Answer) → Answer → ℕ → Answer
+answerIn [] other c = other
+answerIn (r ∷ rs) other c = elim (eqb c (r .0)) [ true ↦ r .1 | false ↦ answerIn rs other c ]
+
 unfoldable pub answerOf : ℕ → ℕ → ℕ → Answer
-answerOf zero w v = Done v
-answerOf (suc zero) w v = Malformed
-answerOf (suc (suc zero)) w v = OutOfRange
-answerOf (suc (suc (suc zero))) w v = WrongState w
-answerOf (suc (suc (suc (suc zero)))) w v = CountersFull w
-answerOf (suc (suc (suc (suc (suc zero))))) w v = ReplayDiffers w
-answerOf (suc (suc (suc (suc (suc (suc zero)))))) w v = OwnerNotUp w
-answerOf (suc (suc (suc (suc (suc (suc (suc zero))))))) w v = LogFull w
-answerOf (suc (suc (suc (suc (suc (suc (suc (suc n)))))))) w v = PowerLost w
+answerOf c w v =
+    answerIn
+    ((0, Done v)
+    ∷ (1, Malformed)
+    ∷ (2, OutOfRange)
+    ∷ (3, WrongState w)
+    ∷ (4, CountersFull w)
+    ∷ (5, ReplayDiffers w)
+    ∷ (6, OwnerNotUp w)
+    ∷ (7, LogFull w)
+    ∷ (10, WrongCells)
+    ∷ [])
+    (PowerLost w) c
 
 answer-back : (a : Answer) → answerOf (code a) (who a) (value a) ≡ a
-unfolding answerOf code who value
+unfolding answerIn answerOf code who value
 answer-back (Done v) = refl
 answer-back Malformed = refl
 answer-back OutOfRange = refl
@@ -89,6 +101,7 @@ answer-back (ReplayDiffers b) = refl
 answer-back (OwnerNotUp b) = refl
 answer-back (LogFull b) = refl
 answer-back (PowerLost b) = refl
+answer-back WrongCells = refl
 
 unfoldable pub unpacked : ℕ → Outcome
 unpacked n = record { answer = answerOf (n % whoUnit) (n / whoUnit % byteValues) (n / valueUnit); stores = n / storesUnit % storesUnit }

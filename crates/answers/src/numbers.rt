@@ -1,4 +1,4 @@
-// An answer as document 01's numbers, a row for each case.
+// An answer as the documents' numbers, a row for each case.
 use types::Answer;
 use types::AnswerNumbers;
 ghost use mathlib.Core.Path.{_≡_};
@@ -23,5 +23,6 @@ pub fn numbers_of(answer: Answer) -> AnswerNumbers
         Answer::OwnerNotUp(board) => row(6, 0, board),
         Answer::LogFull(board) => row(7, 0, board),
         Answer::PowerLost(board) => row(8, 0, board),
+        Answer::WrongCells => row(10, 0, 0),
     }
 }

@@ -11,5 +11,6 @@ use Rattle.engine.specs.Contracts.{Replied}
 abbrev pub RepliedPacked : Reply → ℕ → List ℕ → Type 0
 RepliedPacked y r s = (r ≡ packed (y .outcome)) × Replied y (unpacked r) s
 
-pub replied-packed : {y : Reply} {o : Outcome} {r : ℕ} {s : List ℕ} → Replied y o s → (r ≡ packed o) × (unpacked r ≡ o) → RepliedPacked y r s
+pub replied-packed : {o p : Outcome} {r : ℕ} {s t : List ℕ} → (o ≡ p) × (s ≡ t) → (r ≡ packed o) × (unpacked r ≡ o)
+    → (r ≡ packed p) × ((unpacked r ≡ p) × (s ≡ t))
 replied-packed h e = (e .0 ∙ ap packed (h .0), (e .1 ∙ h .0, h .1))

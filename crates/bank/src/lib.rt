@@ -1,14 +1,17 @@
 // The calls for C: a bank is a pointer and a length, an answer one number (`pack`). Nothing is asked of the bytes.
 use answers::pack::pack;
 use engine::access::read;
+use engine::access::read_cells;
 use engine::access::write;
 use engine::checkpoint::checkpoint;
 use engine::convert::convert;
 use engine::fuse::fuse;
 use engine::make::make;
 use engine::restart::restart;
-ghost use Rattle.model.specs.Definitions.Steps.{Read, Write};
-ghost use Rattle.model.specs.Definitions.Calls.{make as making, call, Accessing, Checkpointing, Fusing, Restarting};
+ghost use mathlib.Core.Path.{_≡_};
+ghost use lib.ListN.{length};
+ghost use Rattle.model.specs.Definitions.Steps.{Read, Write, ReadCells};
+ghost use Rattle.model.specs.Definitions.Calls.{make as making, call, bufferAfter, Accessing, Checkpointing, Fusing, Restarting};
 ghost use Rattle.model.specs.Definitions.Older.{convert as converting};
 ghost use Rattle.bank.specs.Contracts.{RepliedPacked};
 
@@ -31,6 +34,16 @@ pub extern "C" fn bank_write(bank: &mut [u8], board: u32, page: u32, offset: u32
     ensures { λ r. ⌜ RepliedPacked (call (Accessing board (Write page offset value)) (now (bank .entry))) r (now (bank .exit)) ⌝ }
 {
     pack(write(bank, board, page, offset, value))
+}
+
+#[no_mangle]
+pub extern "C" fn bank_shelf(bank: &mut [u8], board: u32, cells: &[u8], out: &mut [u8]) -> u64
+    ensures reply { λ r. ⌜ RepliedPacked (call (Accessing board (ReadCells (now (cells .entry)) (length (now (out .entry))))) (now (bank .entry)))
+        r (now (bank .exit)) ⌝ }
+    ensures given { λ _. ⌜ now (out .exit)
+        ≡ bufferAfter (call (Accessing board (ReadCells (now (cells .entry)) (length (now (out .entry))))) (now (bank .entry))) (now (out .entry)) ⌝ }
+{
+    pack(read_cells(bank, board, cells, out))
 }
 
 #[no_mangle]

@@ -5,10 +5,11 @@ use replay::got::differs;
 use steps::access::counters_full;
 use types::PAGE_SIZE;
 ghost use mathlib.Core.Path.{_≡_};
-ghost use Prim.Native.Nat.{ℕ, _<_};
 ghost use Rattle.model.specs.Definitions.Bank.{boardAt};
 ghost use Rattle.model.specs.Definitions.Codec.{decode};
-ghost use Rattle.steps.specs.Blocks.{IsBlock, boardOf, readOrWrite};
+ghost use Rattle.model.specs.Definitions.Steps.{Access};
+ghost use Rattle.steps.specs.Asked.{Takes};
+ghost use Rattle.steps.specs.Blocks.{IsBlock, boardOf};
 ghost use Rattle.exchange.specs.Banks.{OfBank};
 ghost use Rattle.checks.specs.Admission.{numbersFit, admissionOf};
 
@@ -36,9 +37,9 @@ pub enum Admission {
 }
 
 // "since or access number at 4,294,967,295" (document 02, F-2), then of a replaying board an access that its log doesn't have.
-fn admit_block(block: &[u8], pages: usize, replaying: bool, page: usize, writes: bool) -> Admission
-    requires { ⌜ IsBlock pages (now block) × (page < pages) ⌝ }
-    ensures { λ r. ⌜ ((o v : ℕ) → r ≡ admissionOf replaying (readOrWrite writes page o v) (boardOf pages (now (block .entry)))) ⌝ }
+fn admit_block(block: &[u8], pages: usize, replaying: bool, named: u16, writes: bool) -> Admission
+    requires { ⌜ IsBlock pages (now block) ⌝ }
+    ensures { λ r. ⌜ ((a : Access) → Takes pages a writes named → r ≡ admissionOf replaying a (boardOf pages (now (block .entry)))) ⌝ }
 {
     if counters_full(block, pages) {
         return Admission::CountersFull;
@@ -46,7 +47,7 @@ fn admit_block(block: &[u8], pages: usize, replaying: bool, page: usize, writes:
     if !replaying {
         return Admission::Pass;
     }
-    if differs(block, pages, page, writes) {
+    if differs(block, pages, named, writes) {
         return Admission::Differs;
     }
     Admission::Pass
@@ -58,13 +59,13 @@ pub fn admit(
     pages: usize,
     board: usize,
     replaying: bool,
-    page: usize,
+    named: u16,
     writes: bool,
 ) -> Admission
-    requires { ⌜ OfBank pages board (now bank) × (page < pages) ⌝ }
-    ensures { λ r. ⌜ ((o v : ℕ) → r ≡ admissionOf replaying (readOrWrite writes page o v) (boardAt (decode (now (bank .entry))) board)) ⌝ }
+    requires { ⌜ OfBank pages board (now bank) ⌝ }
+    ensures { λ r. ⌜ ((a : Access) → Takes pages a writes named → r ≡ admissionOf replaying a (boardAt (decode (now (bank .entry))) board)) ⌝ }
 {
     let a = block_at(pages, board);
     let size = block_size(pages);
-    admit_block(&bank[a..a + size], pages, replaying, page, writes)
+    admit_block(&bank[a..a + size], pages, replaying, named, writes)
 }

@@ -1,6 +1,7 @@
 pub mod Contracts
 pub mod Replies
 pub mod Admissions
+pub mod Cells
 pub mod Restarts
 pub mod Making
 pub mod Converting

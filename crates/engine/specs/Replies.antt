@@ -2,7 +2,7 @@
 use mathlib.Core.Path.{_≡_, sym, ap, _∙_}
 use Prim.Native.Nat.{ℕ, _+_, _≤_}
 use mathlib.Core.Bool.{Bool, true, false, _&&_}
-use mathlib.Core.List.{List}
+use mathlib.Core.List.{List, []}
 use native.Mathlib.Omega.{arith}
 use lib.ListN.{length}
 use lib.Dec.{ltb}
@@ -16,7 +16,7 @@ use Rattle.model.specs.Definitions.Bank.{Bank, boardAt}
 use Rattle.model.specs.Definitions.Codec.{encode, decode}
 use Rattle.model.specs.Definitions.WellFormed.{isUp, isDown}
 use Rattle.model.specs.Definitions.Check.{wellFormed}
-use Rattle.model.specs.Definitions.Steps.{Run, start, step, fuseBoard, checkpoint, Read, Write}
+use Rattle.model.specs.Definitions.Steps.{Run, start, step, fuseBoard, checkpoint, Read, Write, ReadCells}
 use Rattle.model.specs.Definitions.Calls.{Result, firstOf, unless, finished, accessInRange, refusalsWithin, accessWithin, checkpointBank, fuseBank}
 use Rattle.model.specs.Definitions.Calls.{restartBank, Call, Accessing, Checkpointing, Fusing, Restarting, callBank, Reply, refused, replyOf, call}
 use Rattle.model.specs.Laws.CodecBankBack.{encode-decode}
@@ -24,8 +24,7 @@ use Rattle.model.specs.Laws.Codes.Statement.{boardNamed}
 use Rattle.model.specs.Laws.FewStores.{call-few}
 use Rattle.model.specs.Contracts.{mostStores}
 use Rattle.exchange.specs.Progress.{lostBy, Came}
-use Rattle.accesses.specs.Results.{Answered, endedAs}
-use Rattle.accesses.specs.Repeated.{finished-ended}
+use Rattle.accesses.specs.Results.{endedAs}
 use Rattle.engine.specs.Contracts.{Replied}
 use Rattle.checks.specs.declared.entry.Refusal.{Refusal}
 use Rattle.checks.specs.declared.entry.Finding.{Finding}
@@ -46,7 +45,7 @@ refused-replied e q = ((rw (e, q), rw e), rw q (omega arith))
 
 -- a call that ran to its end without a store
 abbrev pub done : Bank → Reply
-done k = record { outcome = record { answer = Done 0; stores = 0 }; bytes = encode k }
+done k = record { outcome = record { answer = Done 0; stores = 0 }; bytes = encode k; given = [] }
 
 pub done-replied : {y : Reply} {s : List ℕ} (k : Bank) → y ≡ done k → s ≡ encode k
     → Replied y (record { answer = Done 0; stores = 0 }) s × (0 ≤ mostStores)
@@ -56,28 +55,35 @@ done-replied k e q = ((rw e, rw (e, q)), omega arith)
 
 module _ (b : ℕ) (k : Bank) where
   checkpoint-wrong : ltb b (length (k .boards)) ≡ true → isUp (boardAt k b .state) ≡ false
-      → checkpointBank b k ≡ record { answer = WrongState b; run = start k }
+      → checkpointBank b k ≡ record { answer = WrongState b; run = start k; given = [] }
   unfolding checkpointBank unless firstOf
   checkpoint-wrong h u = cc
 
-  checkpoint-ran : ltb b (length (k .boards)) ≡ true → isUp (boardAt k b .state) ≡ true → checkpointBank b k ≡ finished 0 (checkpoint b (start k))
+  checkpoint-ran : ltb b (length (k .boards)) ≡ true → isUp (boardAt k b .state) ≡ true → checkpointBank b k ≡ finished 0 [] (checkpoint b (start k))
   unfolding checkpointBank unless firstOf
   checkpoint-ran h u = cc
 
   module _ (n : ℕ) where
-    fuse-out : (ltb b (length (k .boards)) && ltb n noFuse) ≡ false → fuseBank b n k ≡ record { answer = OutOfRange; run = start k }
+    fuse-out : (ltb b (length (k .boards)) && ltb n noFuse) ≡ false → fuseBank b n k ≡ record { answer = OutOfRange; run = start k; given = [] }
     unfolding fuseBank unless firstOf
     fuse-out h = cc
 
     fuse-wrong : (ltb b (length (k .boards)) && ltb n noFuse) ≡ true → isDown (boardAt k b .state) ≡ true
-        → fuseBank b n k ≡ record { answer = WrongState b; run = start k }
+        → fuseBank b n k ≡ record { answer = WrongState b; run = start k; given = [] }
     unfolding fuseBank unless firstOf
     fuse-wrong h d = cc
 
     fuse-ran : (ltb b (length (k .boards)) && ltb n noFuse) ≡ true → isDown (boardAt k b .state) ≡ false
-        → fuseBank b n k ≡ record { answer = Done 0; run = start (fuseBoard b n k) }
+        → fuseBank b n k ≡ record { answer = Done 0; run = start (fuseBoard b n k); given = [] }
     unfolding fuseBank unless firstOf finished step start
     fuse-ran h d = cc
+
+-- ---- a run of stores of one board that ends a call
+
+finished-ended : (v b : ℕ) (t : Bool) (r : Run) → lostBy b t ≡ r .lost → record { answer = endedAs v b t; run = r; given = [] } ≡ finished v [] r
+unfolding endedAs lostBy finished
+finished-ended v b true r e = cc
+finished-ended v b false r e = cc
 
 -- ---- on bytes
 
@@ -92,12 +98,12 @@ module _ (s : List ℕ) (v : wellFormed s ≡ true) where
   call-bank c = cc
 
   -- the bytes as they were
-  pub refusal : (a : Answer) → replyOf (record { answer = a; run = start (decode s) }) ≡ refused a s
+  pub refusal : (a : Answer) → replyOf (record { answer = a; run = start (decode s); given = [] }) ≡ refused a s
   unfolding replyOf refused start
   refusal a = rw (encode-decode today s v)
 
   -- a way through a call that ends in a refusal
-  pub call-refused : (c : Call) (a : Answer) → callBank c (decode s) ≡ record { answer = a; run = start (decode s) } → call c s ≡ refused a s
+  pub call-refused : (c : Call) (a : Answer) → callBank c (decode s) ≡ record { answer = a; run = start (decode s); given = [] } → call c s ≡ refused a s
   call-refused c a e = call-bank c ∙ (ap replyOf e ∙ refusal a)
 
   -- a way through a call that ends otherwise: outcome and bytes are those of its result
@@ -106,35 +112,34 @@ module _ (s : List ℕ) (v : wellFormed s ≡ true) where
   unfolding replyOf
   ran-replied c r e b a n = let z : call c s ≡ replyOf r = call-bank c ∙ ap replyOf e in replied-few c s (rw (z, a, n), b ∙ rw z)
 
-  -- the same where n stores were counted from 0
-  pub answered-replied : (c : Call) {t : List ℕ} {o : Outcome} (r : Result) → callBank c (decode s) ≡ r → Answered t o 0 r
-      → Replied (call c s) o t × (o .stores ≤ mostStores)
-  answered-replied c r e a = ran-replied c r e (a .bytes) (a .answer) (omega (arith, a .stores))
-
   -- a call whose last step was a run of stores of its board
-  pub ended-replied : (c : Call) {t : List ℕ} {o : Outcome} (v b m : ℕ) (l : Bool) {r : Run} → callBank c (decode s) ≡ finished v r
+  pub ended-replied : (c : Call) {t : List ℕ} {o : Outcome} (v b m : ℕ) (l : Bool) {r : Run} → callBank c (decode s) ≡ finished v [] r
       → Came t (0 + m) (lostBy b l) r → (o .answer ≡ endedAs v b l) × (o .stores ≡ m) → Replied (call c s) o t × (o .stores ≤ mostStores)
   ended-replied c v b m l {r} e came o =
-      ran-replied c (record { answer = endedAs v b l; run = r }) (e ∙ sym (finished-ended v b l r (came .lost))) (came .bytes) (o .0)
+      ran-replied c (record { answer = endedAs v b l; run = r; given = [] }) (e ∙ sym (finished-ended v b l r (came .lost))) (came .bytes) (o .0)
       (omega (arith, o .1, came .stores))
 
 -- "2: board ≥ N", of any call
-out-of-bank : (c : Call) (k : Bank) → ltb (boardNamed c) (length (k .boards)) ≡ false → callBank c k ≡ record { answer = OutOfRange; run = start k }
+out-of-bank : (c : Call) (k : Bank) → ltb (boardNamed c) (length (k .boards)) ≡ false
+    → callBank c k ≡ record { answer = OutOfRange; run = start k; given = [] }
 unfolding boardNamed callBank accessInRange refusalsWithin accessWithin checkpointBank fuseBank restartBank unless firstOf
 out-of-bank (Accessing b (Read p o)) k h = cc
 out-of-bank (Accessing b (Write p o v)) k h = cc
+out-of-bank (Accessing b (ReadCells cells n)) k h = cc
 out-of-bank (Checkpointing b) k h = cc
 out-of-bank (Fusing b n) k h = cc
 out-of-bank (Restarting b) k h = cc
 
 -- what every call of a board finds first: where that refuses it, so does the call
+pub found-refused : (c : Call) (s : List ℕ) {b : ℕ} → boardNamed c ≡ b → {e : Finding} {a : Refusal} → e ≡ findingOf b s → e ≡ Refused a
+    → call c s ≡ refused (refusalAnswer a) s
+found-refused c s {b} own told q =
+    refused-says b s told (λ x. call c s ≡ refused (refusalAnswer x) s) (call-malformed c s)
+    (λ v h. call-refused s v c OutOfRange (out-of-bank c (decode s) (rw own h))) q
+
 pub found-replied : (c : Call) (s : List ℕ) {b : ℕ} → boardNamed c ≡ b → {e : Finding} {a : Refusal} {o : Outcome} → e ≡ findingOf b s → e ≡ Refused a
     → o ≡ record { answer = refusalAnswer a; stores = 0 } → Replied (call c s) o s × (o .stores ≤ mostStores)
-found-replied c s {b} own told q r =
-    refused-replied
-    (refused-says b s told (λ x. call c s ≡ refused (refusalAnswer x) s) (call-malformed c s)
-    (λ v h. call-refused s v c OutOfRange (out-of-bank c (decode s) (rw own h))) q)
-    r
+found-replied c s own told q r = refused-replied (found-refused c s own told q) r
 
 -- ---- on the bytes of a bank that has the board
 
@@ -146,7 +151,7 @@ module _ {b : ℕ} {s : List ℕ} {st : State} (on : OnBoard b s st) where
   unfolding callBank
   checkpoint-refused u = call-refused s (on .formed) (Checkpointing b) (WrongState b) (checkpoint-wrong b (decode s) listed (rw (on .state) u))
 
-  pub checkpoint-done : isUp st ≡ true → callBank (Checkpointing b) (decode s) ≡ finished 0 (checkpoint b (start (decode s)))
+  pub checkpoint-done : isUp st ≡ true → callBank (Checkpointing b) (decode s) ≡ finished 0 [] (checkpoint b (start (decode s)))
   unfolding callBank
   checkpoint-done u = checkpoint-ran b (decode s) listed (rw (on .state) u)
 

@@ -2,7 +2,7 @@
 use mathlib.Core.Path.{_≡_, refl, sym, ap, _∙_}
 use Prim.Native.Nat.{ℕ, _+_, _≤_, _<_}
 use mathlib.Core.Bool.{Bool, true, false}
-use mathlib.Core.List.{List}
+use mathlib.Core.List.{List, []}
 use lib.ListN.{length}
 use lib.Dec.{ltb}
 use Rattle.types.specs.declared.State.{State}
@@ -51,7 +51,8 @@ module _ (b : ℕ) (k : Bank) where
       let z = sizes-onBoard b restarted k in
       holds-of h pages b (e ∙ sym (z .pages)) (rw (z .boards) l)
 
-  restart-wrong : ltb b (length (k .boards)) ≡ true → isDown (boardAt k b .state) ≡ false → restartBank b k ≡ record { answer = WrongState b; run = start k }
+  restart-wrong : ltb b (length (k .boards)) ≡ true → isDown (boardAt k b .state) ≡ false
+      → restartBank b k ≡ record { answer = WrongState b; run = start k; given = [] }
   unfolding restartBank unless firstOf
   restart-wrong h d = cc
 
@@ -60,7 +61,7 @@ module _ (b : ℕ) (k : Bank) where
     board-resumed = boardAt-same b restarted k l
 
     restart-going : replayOver (restarted (boardAt k b)) ≡ false
-        → restartBank b k ≡ record { answer = Done (boardAt k b .stable .selected .number); run = start resumed }
+        → restartBank b k ≡ record { answer = Done (boardAt k b .stable .selected .number); run = start resumed; given = [] }
     unfolding restartBank unless firstOf endIfOver finished start
     restart-going o =
         let u : replayOver (boardAt resumed b) ≡ false = rw board-resumed o in
@@ -68,7 +69,7 @@ module _ (b : ℕ) (k : Bank) where
         cc
 
     restart-over : replayOver (restarted (boardAt k b)) ≡ true
-        → restartBank b k ≡ finished (boardAt k b .stable .selected .number) (endReplay b (start resumed))
+        → restartBank b k ≡ finished (boardAt k b .stable .selected .number) [] (endReplay b (start resumed))
     unfolding restartBank unless firstOf endIfOver start
     restart-over o = let u : replayOver (boardAt resumed b) ≡ true = rw board-resumed o in cc
 
@@ -84,7 +85,7 @@ module _ {b : ℕ} {s : List ℕ} {st : State} (on : OnBoard b s st) where
     unfolding callBank start
     goes-replied o =
         ran-replied s (on .formed) (Restarting b)
-        (record { answer = Done (boardAt (decode s) b .stable .selected .number); run = start (resumed b (decode s)) })
+        (record { answer = Done (boardAt (decode s) b .stable .selected .number); run = start (resumed b (decode s)); given = [] })
         (restart-going b (decode s) (on .inside) (listed on) (rw (on .state) d) o) (h .bytes) (ap (λ (i : ℕ). Done i) e) refl
 
     pub ends-replied : replayOver (restarted (boardAt (decode s) b)) ≡ true → {u : List ℕ} {o : Outcome} (m : ℕ) (l : Bool)

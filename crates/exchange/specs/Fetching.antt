@@ -1,16 +1,17 @@
--- Fetches stage by stage: what the bytes hold after each, what the next stage asks for, and how the run goes on or was lost. Assumes nothing.
+-- A run and its bytes; a write fetch stage by stage: what the bytes hold after each, what the next stage asks for, and how the run goes on or was lost.
+-- Assumes nothing.
 use mathlib.Core.Path.{_≡_, refl, sym, ap, _∙_}
 use mathlib.Core.Logic.{_≢_}
 use Prim.Native.Nat.{ℕ, _<_}
 use native.Mathlib.Omega.{arith}
 use mathlib.Core.Bool.{Bool, true, false, _||_}
 use mathlib.Core.Option.{Option, none, some}
-use mathlib.Core.List.{List}
+use mathlib.Core.List.{List, [], _∷_}
 use lib.ListN.{length}
 use lib.Dec.{eqb}
 use borrow.Author.Tests.{eq-eqb}
 use Rattle.types.specs.declared.CopyOrOwn.{CopyOrOwn}
-use Rattle.types.specs.declared.CopyOrOwn.the-variants.{GotCopy, GotOwn}
+use Rattle.types.specs.declared.CopyOrOwn.the-variants.{GotOwn}
 use Rattle.types.specs.declared.Kind.the-variants.{Got, Shown}
 use Rattle.types.specs.declared.State.the-variants.{Up}
 use Rattle.model.specs.Definitions.Parts.{zeros, member}
@@ -18,13 +19,14 @@ use Rattle.model.specs.Definitions.Layout.{pageSize}
 use Rattle.model.specs.Definitions.Bank.{Bank, boardAt, entryAt}
 use Rattle.model.specs.Definitions.Codec.{decode}
 use Rattle.model.specs.Definitions.WellFormed.{EntryOk, WellFormed}
-use Rattle.model.specs.Definitions.Steps.{Run, step, frameOf, giver, show, giveCopy, passOwnership, readFetch, writeFetch}
-use Rattle.model.specs.Laws.Runs.{Changed, entryAt-changed, Follows, follows-trans, follows-step, follows-note-flush, sizes-passOwnership, sizes-giveCopy}
+use Rattle.model.specs.Definitions.Steps.{Run, step, frameOf, giver, show, passOwnership, writeFetch}
+use Rattle.model.specs.Laws.Lists.{each-head}
+use Rattle.model.specs.Laws.Runs.{Changed, entryAt-changed, Follows, follows-trans, follows-step, follows-note-flush, sizes-passOwnership}
 use Rattle.model.specs.Laws.Runs.Stores.{FlushedWith, show-changed, note-flush-changed}
 use Rattle.model.specs.Laws.Keeps.Clauses.{up-below}
 use Rattle.model.specs.Contracts.{RoomFor, Space, CanFetch}
 use Rattle.model.specs.Laws.Keeps.Rights.{entry-at}
-use Rattle.model.specs.Laws.Keeps.Fetches.{room-taker, room-shower, room-owner, room-got}
+use Rattle.model.specs.Laws.Keeps.Fetches.{page-there, owner-up, owner-other, room-taker, room-owner, room-got}
 use Rattle.exchange.specs.Banks.{Holds, OfBank, holds-bank, holds-decode, holds-wellFormed}
 use Rattle.exchange.specs.Progress.{running, Came, CanShow, getOwn}
 use Rattle.model.specs.Laws.Moves.Stores.{show-keeps}
@@ -50,38 +52,40 @@ module _ {s : List ℕ} {n : ℕ} {o : Option ℕ} {r : Run} (c : Came s n o r) 
 
 -- ---- before the first stage
 
--- code 7's room on the owner's board is enough for its shown
-room-gives : (g : CopyOrOwn) {b p : ℕ} {k : Bank} → WellFormed k → CanFetch g b p k → RoomFor 1 (boardAt k (giver k p))
-room-gives GotCopy {b} {p} {k} w c = room-shower b p (running 0 k) w c
-room-gives GotOwn {b} {p} {k} w c = omega (arith, room-owner b p (running 0 k) w c)
+-- a fetch of one page is of a page of the bank
+pub one-page : {g : CopyOrOwn} {pages b p : ℕ} {s ps : List ℕ} → OfBank pages b s → CanFetch g b ps (decode s) → ps ≡ p ∷ [] → p < pages
+one-page o c e = rw (o .count) (each-head (rw e at (c .pages)))
 
--- what a fetch asks for: page p, of owner o, by board b
-abbrev pub Ready : CopyOrOwn → ℕ → ℕ → ℕ → ℕ → List ℕ → Type 0
-Ready g pages b p o s = OfBank pages b s × WellFormed (decode s) × CanFetch g b p (decode s) × (o ≡ giver (decode s) p)
+-- what a write fetch asks for: page p, of owner o, by board b
+abbrev pub Ready : ℕ → ℕ → ℕ → ℕ → List ℕ → Type 0
+Ready pages b p o s = OfBank pages b s × WellFormed (decode s) × CanFetch GotOwn b (p ∷ []) (decode s) × (o ≡ giver (decode s) p)
 
-module _ (g : CopyOrOwn) {s : List ℕ} {pages b p o : ℕ} (ready : Ready g pages b p o s) where
+module _ {s : List ℕ} {pages b p o : ℕ} (ready : Ready pages b p o s) where
+  page-in : p < length (decode s .directory)
+  page-in = page-there b p (running 0 (decode s)) (ready .1) (ready .2)
+
   pub fetch-page : p < pages
-  fetch-page = omega (arith, ready .0 .count, ready .2 .page)
+  fetch-page = omega (arith, ready .0 .count, page-in)
 
   pub fetch-other : o ≢ b
-  fetch-other = rw (ready .3) (ready .2 .other)
+  fetch-other = rw (ready .3) (owner-other b p (running 0 (decode s)) (ready .1) (ready .2))
 
-  owner-up : boardAt (decode s) o .state ≡ Up
-  owner-up = rw (ready .3) (ready .2 .owner)
+  giver-up : boardAt (decode s) o .state ≡ Up
+  giver-up = rw (ready .3) (owner-up b p (running 0 (decode s)) (ready .1) (ready .2))
 
   pub fetch-owner : o < length (decode s .boards)
-  fetch-owner = up-below (decode s) o owner-up
+  fetch-owner = up-below (decode s) o giver-up
 
   pub fetch-of : OfBank pages o s
   fetch-of = record { bank = ready .0 .bank; count = ready .0 .count; board = fetch-owner }
 
   -- the owner's part: room for one record
   pub fetch-shows : CanShow o (decode s)
-  fetch-shows = (owner-up, rw (ready .3) (room-gives g (ready .1) (ready .2)))
+  fetch-shows = (giver-up, rw (ready .3) (omega (arith, room-owner b p (running 0 (decode s)) (ready .1) (ready .2))))
 
   -- every bank that the owner's part leaves is well formed
   pub shown-keeps : (n : ℕ) → WellFormed (show o p (running n (decode s)) .bank)
-  shown-keeps n = show-keeps o p (running n (decode s)) (ready .1) (λ e. owner-up) (λ e. fetch-shows .1) (λ e. ready .2 .page)
+  shown-keeps n = show-keeps o p (running n (decode s)) (ready .1) (λ e. giver-up) (λ e. fetch-shows .1) (λ e. page-in)
 
   -- ---- after the owner's part, with power yet
 
@@ -106,29 +110,15 @@ module _ (g : CopyOrOwn) {s : List ℕ} {pages b p o : ℕ} (ready : Ready g pag
     shown-taker = rw taker-same (ready .2 .taker)
 
     pub shown-room : RoomFor 1 (boardAt (decode l) b)
-    shown-room = rw taker-same (room-taker g b p (decode s) (ready .2))
+    shown-room = rw taker-same (room-taker b p (running 0 (decode s)) (ready .1) (ready .2))
 
--- ---- a read fetch
-
-module _ {s : List ℕ} {pages b p o : ℕ} (ready : Ready GotCopy pages b p o s) (n : ℕ) {l : List ℕ} {m : ℕ} {q : Option ℕ}
-    (ran : Came l m q (show o p (running n (decode s)))) where
-  pub read-lost : (d : ℕ) → q ≡ some d → Came l m q (readFetch b p (running n (decode s)))
-  unfolding readFetch
-  read-lost d e =
-      let t : Run = show o p (running n (decode s)) in
-      rw (← ready .3) (came-lost ran d e (follows-step (giveCopy o b p) t (sizes-giveCopy o b p (t .bank))))
-
-  pub read-given : q ≡ none → (ys : List ℕ) → Holds ys (giveCopy o b p (decode l)) → Came ys m none (readFetch b p (running n (decode s)))
-  unfolding readFetch
-  read-given e ys h = rw (← ready .3) (came-step ran e (shown-keeps GotCopy ready n) (giveCopy o b p) ys h)
-
--- ---- a write fetch
+-- ---- to its end
 
 or-holds : (a : Bool) {t : Bool} → t ≡ true → (a || t) ≡ true
 or-holds true h = refl
 or-holds false h = h
 
-module _ {s : List ℕ} {pages b p o : ℕ} (ready : Ready GotOwn pages b p o s) (n : ℕ) {l : List ℕ} {m : ℕ} {q : Option ℕ}
+module _ {s : List ℕ} {pages b p o : ℕ} (ready : Ready pages b p o s) (n : ℕ) {l : List ℕ} {m : ℕ} {q : Option ℕ}
     (ran : Came l m q (show o p (running n (decode s)))) where
   -- power was lost in the owner's part
   pub write-lost : (d : ℕ) → q ≡ some d → Came l m q (writeFetch b p (running n (decode s)))
@@ -144,7 +134,7 @@ module _ {s : List ℕ} {pages b p o : ℕ} (ready : Ready GotOwn pages b p o s)
   -- after the writer's part
   module _ (on : q ≡ none) {j : List ℕ} {t : ℕ} {y : Option ℕ} (took : Came j t y (getOwn o b p (running m (decode l)))) where
     gave : running m (decode l) ≡ show o p (running n (decode s))
-    gave = came-on ran on (shown-keeps GotOwn ready n)
+    gave = came-on ran on (shown-keeps ready n)
 
     got-formed : WellFormed (getOwn o b p (running m (decode l)) .bank)
     got-formed = rw (gave, ready .3) (got-keeps b p (running n (decode s)) (ready .1) (ready .2))
@@ -171,7 +161,7 @@ module _ {s : List ℕ} {pages b p o : ℕ} (ready : Ready GotOwn pages b p o s)
           (note-flush-changed b (Got GotOwn p) (λ k. frameOf k o p .bytes) (running m (decode l)) (sym (took .lost) ∙ still))
 
       gave-changed : Changed o (FlushedWith (Shown p) (zeros pageSize)) (decode s) (decode l)
-      gave-changed = changed GotOwn ready n ran on
+      gave-changed = changed ready n ran on
 
       pub got-of : (d : ℕ) → d < length (decode s .boards) → OfBank pages d j
       got-of d h =
@@ -182,7 +172,7 @@ module _ {s : List ℕ} {pages b p o : ℕ} (ready : Ready GotOwn pages b p o s)
           }
 
       pub got-entry : EntryOk (length (decode j .boards)) (entryAt (decode j) p)
-      got-entry = entry-at (rw (holds-decode got-bank) got-formed) p (rw (got-changed .directory, gave-changed .directory) (ready .2 .page))
+      got-entry = entry-at (rw (holds-decode got-bank) got-formed) p (rw (got-changed .directory, gave-changed .directory) (page-in ready))
 
       got-space : (d : ℕ) → d < length (decode j .boards) → d ≢ b → (eqb d o || member d (entryAt (decode j) p .copies)) ≡ true
           → Space (boardAt (decode j) d)
@@ -197,7 +187,7 @@ module _ {s : List ℕ} {pages b p o : ℕ} (ready : Ready GotOwn pages b p o s)
 
       pub got-space-owner : Space (boardAt (decode j) o)
       got-space-owner =
-          got-space o (got-of o (fetch-owner GotOwn ready) .board) (fetch-other GotOwn ready)
+          got-space o (got-of o (fetch-owner ready) .board) (fetch-other ready)
           (ap (λ (t : Bool). t || member o (entryAt (decode j) p .copies)) (eq-eqb o o refl))
 
       pub got-space-holder : (d : ℕ) → d < length (decode j .boards) → d ≢ b → member d (entryAt (decode j) p .copies) ≡ true

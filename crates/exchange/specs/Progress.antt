@@ -1,19 +1,22 @@
 -- A call in progress, as the contracts say it: how a run goes on, and what its bytes, stores and loss are. Assumes nothing.
 use mathlib.Core.Path.{_≡_}
-use Prim.Native.Nat.{ℕ}
+use Prim.Native.Nat.{ℕ, _+_, _≤_, _<_}
 use mathlib.Core.Bool.{Bool, true, false}
 use mathlib.Core.Option.{Option, none, some}
 use mathlib.Core.List.{List}
-use Rattle.types.specs.declared.CopyOrOwn.{CopyOrOwn}
+use lib.ListN.{length}
+use Rattle.words.specs.Bytes.{Each}
 use Rattle.types.specs.declared.CopyOrOwn.the-variants.{GotCopy, GotOwn}
 use Rattle.types.specs.declared.Kind.the-variants.{Got}
 use Rattle.types.specs.declared.State.the-variants.{Up}
 use Rattle.exchange.specs.declared.progress.Loss.{Loss}
 use Rattle.exchange.specs.declared.progress.Loss.the-variants.{Nobody, Board}
+use Rattle.model.specs.Definitions.Parts.{allBelow, member}
+use Rattle.model.specs.Definitions.Layout.{slotCount}
 use Rattle.model.specs.Definitions.Bank.{Bank, boardAt}
 use Rattle.model.specs.Definitions.Codec.{encode}
-use Rattle.model.specs.Definitions.Steps.{Run, step, note, flush, frameOf}
-use Rattle.model.specs.Contracts.{RoomFor}
+use Rattle.model.specs.Definitions.Steps.{Run, step, note, flush, frameOf, giver}
+use Rattle.model.specs.Contracts.{volatileCount, RoomFor, CanFetch}
 
 -- a call that goes on, after n stores
 abbrev pub running : ℕ → Bank → Run
@@ -34,11 +37,6 @@ pub record Came (s : List ℕ) (n : ℕ) (o : Option ℕ) (r : Run) : Type 0 whe
   pub stores : n ≡ r .stores
   pub lost : o ≡ r .lost
 
--- which got a fetch brings
-unfoldable pub got : Bool → CopyOrOwn
-got true = GotOwn
-got false = GotCopy
-
 -- a board that can record that it showed a page
 abbrev pub CanShow : ℕ → Bank → Type 0
 CanShow o k = (boardAt k o .state ≡ Up) × RoomFor 1 (boardAt k o)
@@ -46,3 +44,17 @@ CanShow o k = (boardAt k o .state ≡ Up) × RoomFor 1 (boardAt k o)
 -- "writer records got own and flushes": the page is the owner's
 abbrev pub getOwn : ℕ → ℕ → ℕ → Run → Run
 getOwn o w p r = flush w (step (λ k. note w (Got GotOwn p) (frameOf k o p .bytes) k) r)
+
+-- the pages of a set, rising
+abbrev pub pagesIn : ℕ → ℕ → List ℕ
+pagesIn pages set = allBelow pages (λ p. member p set)
+
+-- pages that can be shown, because some board can fetch them
+pub record CanShowAll (ps : List ℕ) (k : Bank) : Type 0 where
+  pub taker : ℕ
+  pub fetch : CanFetch GotCopy taker ps k
+
+-- pages of which board b can be given copies: boards own them, and its volatile log has a slot for each
+pub record CanGive (b : ℕ) (ps : List ℕ) (k : Bank) : Type 0 where
+  pub givers : Each (λ p. giver k p < length (k .boards)) ps
+  pub room : volatileCount (boardAt k b) + length ps ≤ slotCount

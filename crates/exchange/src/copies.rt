@@ -5,6 +5,7 @@ use crate::boards::take_own;
 use fields::copies::lowest_holder;
 use fields::copies::with_holder;
 use fields::copies::without_holder;
+use fields::sets::has;
 use format::block::read_page_frame;
 use format::directory::read_copies;
 use format::directory::read_owner;
@@ -21,10 +22,11 @@ ghost use Rattle.model.specs.Definitions.Parts.{member};
 ghost use Rattle.model.specs.Definitions.Bank.{boardAt, entryAt, onBoard};
 ghost use Rattle.model.specs.Definitions.Codec.{decode};
 ghost use Rattle.model.specs.Definitions.WellFormed.{FrameOk, EntryOk};
-ghost use Rattle.model.specs.Definitions.Steps.{frameOf, giveCopy, dropped, dropAt, dropCopies, passOwnership};
+ghost use Rattle.model.specs.Definitions.Steps.{frameOf, giveCopy, giveCopies, dropped, dropAt, dropCopies, passOwnership};
 ghost use Rattle.model.specs.Laws.Boards.{tookCopy, tookOwn};
 ghost use Rattle.model.specs.Contracts.{Space};
 ghost use Rattle.exchange.specs.Banks.{Holds, OfBank};
+ghost use Rattle.exchange.specs.Progress.{pagesIn, CanGive};
 
 // A board's frame of a page, by value.
 pub fn page_frame(bank: &[u8], pages: usize, board: usize, page: usize) -> Frame
@@ -57,6 +59,21 @@ pub fn give_copy(bank: &mut [u8], pages: usize, owner: usize, board: usize, page
     let named = read_owner(bank, page);
     let copies = read_copies(bank, page);
     write_entry(bank, page, named, with_holder(board, copies));
+}
+
+// "Only then are the copies taken, together. The got records follow each other, the later ones with count 0." (F-3)
+pub fn give_copies(bank: &mut [u8], pages: usize, board: usize, lacking: u16)
+    requires { ⌜ OfBank pages board (now bank) × CanGive board (pagesIn pages lacking) (decode (now bank)) ⌝ }
+    ensures { λ _. ⌜ Holds (now (bank .exit)) (giveCopies board (pagesIn pages lacking) (decode (now (bank .entry)))) ⌝ }
+{
+    let mut page = 0;
+    while page < pages {
+        if has(page, lacking) {
+            let owner = read_owner(bank, page) as usize;
+            give_copy(bank, pages, owner, board, page);
+        }
+        page += 1;
+    }
 }
 
 // ---- rights dropped

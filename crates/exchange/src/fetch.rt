@@ -1,27 +1,32 @@
-// Fetches: the owner's record is stored first, then the taker's, and only then does a right pass.
-use crate::copies::give_copy;
+// Fetches: the owners' records are stored first, then the taker's, and only then does a right pass.
+use crate::copies::give_copies;
 use crate::copies::page_frame;
 use crate::copies::pass_ownership;
 use crate::progress::Loss;
 use crate::progress::Progress;
 use crate::runs::log_through;
+use fields::sets::has;
+use format::directory::read_owner;
 use stores::spend::Stored;
 use types::CopyOrOwn;
 use types::Kind;
 use types::PAGE_SIZE;
 ghost use mathlib.Core.Path.{_≡_};
+ghost use mathlib.Core.Bool.{true};
+ghost use mathlib.Core.List.{[], _∷_};
 ghost use Prim.Native.Nat.{ℕ, _+_, _*_, _≤_, _<_};
 ghost use lib.ListN.{length};
 ghost use Rattle.types.specs.declared.CopyOrOwn.the-variants.{GotCopy, GotOwn};
 ghost use Rattle.types.specs.declared.State.the-variants.{Up};
-ghost use Rattle.model.specs.Definitions.Layout.{slotCount};
+ghost use Rattle.model.specs.Definitions.Layout.{mostPages, slotCount};
 ghost use Rattle.model.specs.Definitions.Bank.{boardAt};
 ghost use Rattle.model.specs.Definitions.Codec.{decode};
 ghost use Rattle.model.specs.Definitions.WellFormed.{WellFormed};
-ghost use Rattle.model.specs.Definitions.Steps.{giver, show, readFetch, writeFetch, fetch};
+ghost use Rattle.model.specs.Definitions.Steps.{giver, show, showAll, readFetch, writeFetch, fetch};
 ghost use Rattle.model.specs.Contracts.{RoomFor, CanFetch};
+ghost use Rattle.steps.specs.Asked.{got};
 ghost use Rattle.exchange.specs.Banks.{OfBank};
-ghost use Rattle.exchange.specs.Progress.{running, lostBy, lossOf, Came, got, CanShow, getOwn};
+ghost use Rattle.exchange.specs.Progress.{running, lostBy, lossOf, Came, CanShow, pagesIn, CanShowAll, getOwn};
 
 // The giver's part of every fetch: "owner records shown and flushes".
 fn show(bank: &mut [u8], pages: usize, owner: usize, page: usize) -> Stored
@@ -39,26 +44,48 @@ fn show(bank: &mut [u8], pages: usize, owner: usize, page: usize) -> Stored
     )
 }
 
-// "owner records shown and flushes; reader records got copy, gains the copy and its bit"
-fn read_fetch(bank: &mut [u8], pages: usize, owner: usize, board: usize, page: usize) -> Progress
-    requires { ⌜ OfBank pages board (now bank) × WellFormed (decode (now bank)) × CanFetch GotCopy board page (decode (now bank))
-        × (owner ≡ giver (decode (now bank)) page) ⌝ }
-    ensures run { λ r. ⌜ ((n : ℕ) → Came (now (bank .exit)) (n + r .stores) (lossOf (r .loss)) (readFetch board page (running n (decode (now (bank .entry))))))
-        ⌝ }
-    ensures few { λ r. ⌜ r .stores ≤ 2 * slotCount ⌝ }
+// "All givers record and store first, page by page." (F-3); the first that loses its power ends it.
+fn show_all(bank: &mut [u8], pages: usize, lacking: u16) -> Progress
+    requires { ⌜ OfBank pages 0 (now bank) × WellFormed (decode (now bank)) × CanShowAll (pagesIn pages lacking) (decode (now bank)) ⌝ }
+    ensures run { λ r. ⌜ ((n : ℕ) → Came (now (bank .exit)) (n + r .stores) (lossOf (r .loss))
+        (showAll (pagesIn pages lacking) (running n (decode (now (bank .entry)))))) ⌝ }
+    ensures few { λ r. ⌜ r .stores ≤ pages * slotCount ⌝ }
 {
-    let shown = show(bank, pages, owner, page);
-    if shown.lost {
-        return Progress {
-            stores: shown.stores,
-            loss: Loss::Board(owner as u8),
-        };
+    let mut stores: u32 = 0;
+    let mut page = 0;
+    while page < pages {
+        if has(page, lacking) {
+            let owner = read_owner(bank, page) as usize;
+            let shown = show(bank, pages, owner, page);
+            stores += shown.stores;
+            if shown.lost {
+                return Progress {
+                    stores,
+                    loss: Loss::Board(owner as u8),
+                };
+            }
+        }
+        page += 1;
     }
-    give_copy(bank, pages, owner, board, page);
     Progress {
-        stores: shown.stores,
+        stores,
         loss: Loss::Nobody,
     }
+}
+
+// "owner records shown and flushes; reader records got copy, gains the copy and its bit", of each page in turn
+fn read_fetch(bank: &mut [u8], pages: usize, board: usize, lacking: u16) -> Progress
+    requires { ⌜ OfBank pages board (now bank) × WellFormed (decode (now bank)) × CanFetch GotCopy board (pagesIn pages lacking) (decode (now bank)) ⌝ }
+    ensures run { λ r. ⌜ ((n : ℕ) → Came (now (bank .exit)) (n + r .stores) (lossOf (r .loss))
+        (readFetch board (pagesIn pages lacking) (running n (decode (now (bank .entry)))))) ⌝ }
+    ensures few { λ r. ⌜ r .stores ≤ pages * slotCount ⌝ }
+{
+    let shown = show_all(bank, pages, lacking);
+    let loss = shown.loss;
+    if let Loss::Nobody = loss {
+        give_copies(bank, pages, board, lacking);
+    }
+    shown
 }
 
 // The writer's part: "writer records got own and flushes", with the page of the owner, by value.
@@ -82,7 +109,7 @@ fn get_own(bank: &mut [u8], pages: usize, owner: usize, board: usize, page: usiz
 
 // "owner records shown and flushes; writer records got own and flushes; then together .."
 fn write_fetch(bank: &mut [u8], pages: usize, owner: usize, board: usize, page: usize) -> Progress
-    requires { ⌜ OfBank pages board (now bank) × WellFormed (decode (now bank)) × CanFetch GotOwn board page (decode (now bank))
+    requires { ⌜ OfBank pages board (now bank) × WellFormed (decode (now bank)) × CanFetch GotOwn board (page ∷ []) (decode (now bank))
         × (owner ≡ giver (decode (now bank)) page) ⌝ }
     ensures run { λ r. ⌜ ((n : ℕ) → Came (now (bank .exit)) (n + r .stores) (lossOf (r .loss)) (writeFetch board page (running n (decode (now (bank .entry))))))
         ⌝ }
@@ -110,23 +137,24 @@ fn write_fetch(bank: &mut [u8], pages: usize, owner: usize, board: usize, page: 
     }
 }
 
-// The fetch that brings a copy, or ownership.
+// The fetch that brings copies of the lacking pages, or ownership of the one that a write names.
 pub fn fetch(
     bank: &mut [u8],
     pages: usize,
-    owner: usize,
     board: usize,
     page: usize,
+    lacking: u16,
     writes: bool,
 ) -> Progress
-    requires { ⌜ OfBank pages board (now bank) × WellFormed (decode (now bank)) × CanFetch (got writes) board page (decode (now bank))
-        × (owner ≡ giver (decode (now bank)) page) ⌝ }
+    requires { ⌜ OfBank pages board (now bank) × WellFormed (decode (now bank))
+        × CanFetch (got writes) board (pagesIn pages lacking) (decode (now bank)) × (writes ≡ true → pagesIn pages lacking ≡ page ∷ []) ⌝ }
     ensures run { λ r. ⌜ ((n : ℕ) → Came (now (bank .exit)) (n + r .stores) (lossOf (r .loss))
-        (fetch (got writes) board page (running n (decode (now (bank .entry)))))) ⌝ }
-    ensures few { λ r. ⌜ r .stores ≤ 2 * slotCount ⌝ }
+        (fetch (got writes) board (pagesIn pages lacking) (running n (decode (now (bank .entry)))))) ⌝ }
+    ensures few { λ r. ⌜ r .stores ≤ mostPages * slotCount ⌝ }
 {
     if writes {
+        let owner = read_owner(bank, page) as usize;
         return write_fetch(bank, pages, owner, board, page);
     }
-    read_fetch(bank, pages, owner, board, page)
+    read_fetch(bank, pages, board, lacking)
 }

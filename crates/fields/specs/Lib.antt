@@ -1,2 +1,3 @@
 pub mod SlotParts
 pub mod Sets
+pub mod Cells

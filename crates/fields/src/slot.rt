@@ -82,7 +82,7 @@ fn second_mark(kind: Kind) -> u8
 }
 
 // The page that a kind carries.
-fn page_of(kind: Kind) -> u8
+pub fn page_of(kind: Kind) -> u8
     ensures { λ r. ⌜ r ≡ pageOf kind ⌝ }
 {
     match kind {

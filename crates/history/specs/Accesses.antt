@@ -11,6 +11,8 @@ use lib.ListN.{length, length-append}
 use lib.Dec.{eqb}
 use borrow.Author.Tests.{eqb-true, eq-eqb, ne-eqb}
 use Rattle.words.specs.Bytes.{Each, each-nil, each-cons}
+use Rattle.types.specs.declared.CopyOrOwn.{CopyOrOwn}
+use Rattle.types.specs.declared.CopyOrOwn.the-variants.{GotCopy, GotOwn}
 use Rattle.types.specs.declared.Right.{Right}
 use Rattle.types.specs.declared.Right.the-variants.{None, Copy, Own}
 use Rattle.types.specs.declared.Frame.{Frame}
@@ -18,19 +20,20 @@ use Rattle.types.specs.declared.State.the-variants.{Up}
 use Rattle.model.specs.Definitions.Parts.{member}
 use Rattle.model.specs.Definitions.Bank.{Entry, Board, Bank, boardAt, frameAt, onBoard, onWorking, entryIn}
 use Rattle.model.specs.Definitions.WellFormed.{WellFormed, rightIn}
-use Rattle.model.specs.Definitions.Steps.{Access, Read, Write, pageNamed, cellsRead, cellsWritten, lacks, cellByte, withBytes, valueOf, accessed, access}
+use Rattle.model.specs.Definitions.Steps.{Access, cellsRead, cellsWritten, anyCell, anyWrite, names, takes, lacks, withBytes, readFrom, accessed, access}
 use Rattle.model.specs.Definitions.Replay.{lacking, recoveryPoint}
 use Rattle.model.specs.Laws.Logic.{byBool, byEq, clash}
 use Rattle.model.specs.Laws.Lists.{each-append}
+use Rattle.model.specs.Laws.Below.{has-right}
 use Rattle.model.specs.Laws.Sets.{member-none}
 use Rattle.model.specs.Laws.Boards.{boards-onBoard, directory-onBoard, boardAt-same, boardAt-other}
 use Rattle.model.specs.Laws.Keeps.Clauses.{fits}
 use Rattle.model.specs.Contracts.{Fits}
-use Rattle.model.specs.History.Statement.{HistoryEntry, History, ofBoard, discard, zeroMemory, byteIn, bytesFrom, withNumberOf}
+use Rattle.model.specs.History.Statement.{HistoryEntry, History, ofBoard, discard, zeroMemory, byteIn, withNumberOf}
 use Rattle.history.specs.Rerun.{Rebuilt, Made, next, Accepts, Serves}
 use Rattle.history.specs.Invariant.{memoryAfter, writesPage, touchesPage, unstableWrite, settledAs, BoardInvariant, Invariant}
 use Rattle.history.specs.Entries.{ofBoard-snoc-same, ofBoard-snoc-other, discard-snoc-same, discard-snoc-other}
-use Rattle.history.specs.Unstable.{writes-named, touches-named, read-writes-none, unstableWrite-snoc-other, unstableWrite-snoc, exclusive-snoc}
+use Rattle.history.specs.Unstable.{or-true-right, writes-own, unstableWrite-snoc-other, unstableWrite-snoc, exclusive-snoc}
 use Rattle.history.specs.Memory.{memoryAfter-snoc, memoryAfter-snoc-unless, oneMemory-snoc}
 use Rattle.history.specs.Pages.{frameAt-withBytes, reads-agree}
 use Rattle.history.specs.Logging.{recoveryPoint-same, onWorking-area, more-rebuilt, more-stable, accessed-volatile}
@@ -38,7 +41,7 @@ use Rattle.history.specs.LoggedRecords.{explained-up, up-explained, coun
 
 -- the entry that an access of board b makes where its frames are fs
 unfoldable pub entryOf : ℕ → Access → List Frame → HistoryEntry
-entryOf b a fs = record { board = b; access = a; bytesRead = bytesFrom a (valueOf a fs) }
+entryOf b a fs = record { board = b; access = a; bytesRead = readFrom a fs }
 
 -- the history with one entry more
 unfoldable pub grown : ℕ → HistoryEntry → History → History
@@ -54,28 +57,21 @@ cursor-other b n f c h = cc (ne-eqb c b h)
 
 -- ---- what a board has of a page
 
--- the bytes read are those of the frames
-pub bytes-read : (a : Access) (fs : List Frame) → bytesFrom a (valueOf a fs) ≡ map (cellByte fs) (cellsRead a)
-unfolding bytesFrom valueOf cellsRead
-bytes-read (Read p o) fs = refl
-bytes-read (Write p o v) fs = refl
-
 -- an access that lacks nothing has a right, and a write the right own
-has-right : (a : Access) (r : Right) → lacks a r ≡ false → r ≢ None
+some-right : (g : CopyOrOwn) (r : Right) → lacks g r ≡ false → r ≢ None
 unfolding lacks
-has-right (Read p o) None h e = clash refl h
-has-right (Read p o) Copy h e = let z : _≡_ {A = ℕ} 0 1 = cc in omega arith
-has-right (Read p o) Own h e = let z : _≡_ {A = ℕ} 0 1 = cc in omega arith
-has-right (Write p o v) None h e = clash refl h
-has-right (Write p o v) Copy h e = clash refl h
-has-right (Write p o v) Own h e = let z : _≡_ {A = ℕ} 0 1 = cc in omega arith
+some-right GotCopy None h e = clash refl h
+some-right GotCopy Copy h e = let z : _≡_ {A = ℕ} 0 1 = cc in omega arith
+some-right GotCopy Own h e = let z : _≡_ {A = ℕ} 0 1 = cc in omega arith
+some-right GotOwn None h e = clash refl h
+some-right GotOwn Copy h e = clash refl h
+some-right GotOwn Own h e = let z : _≡_ {A = ℕ} 0 1 = cc in omega arith
 
-writes-own : (a : Access) (r : Right) (e : HistoryEntry) (p : ℕ) → e .access ≡ a → lacks a r ≡ false → writesPage e p ≡ true → r ≡ Own
+right-own : (r : Right) → lacks GotOwn r ≡ false → r ≡ Own
 unfolding lacks
-writes-own (Read q o) r e p s h w = clash w (read-writes-none e q o p s)
-writes-own (Write q o v) None e p s h w = clash refl h
-writes-own (Write q o v) Copy e p s h w = clash refl h
-writes-own (Write q o v) Own e p s h w = refl
+right-own None h = clash refl h
+right-own Copy h = clash refl h
+right-own Own h = refl
 
 -- a right comes from the directory: the owner, or a holder of a copy
 right-from : (e : Entry) (b : ℕ) → rightIn e b ≢ None → (e .owner ≡ b) ⊎ (member b (e .copies) ≡ true)
@@ -90,7 +86,10 @@ unfolding rightIn
 own-from e b h =
     byBool (eqb (e .owner) b)
     (λ t. eqb-true (e .owner) b t)
-    (λ t. byBool (member b (e .copies)) (λ m. let z : _≡_ {A = ℕ} 0 1 = cc in absurd (omega arith)) (λ m. let z : _≡_ {A = ℕ} 0 1 = cc in absurd (omega arith)))
+    (λ t.
+    byBool (member b (e .copies))
+    (λ m. let z : _≡_ {A = ℕ} 0 1 = cc in absurd (omega arith))
+    (λ m. let z : _≡_ {A = ℕ} 0 1 = cc in absurd (omega arith)))
 
 -- an up board with a right on a page has the page's memory there
 module _ {d : List Entry} {h : History} {g : Option Rebuilt} {b : ℕ} {x : Board} (q : BoardInvariant d h g b x) (w : Fits d b x) (u : x .state ≡ Up)
@@ -105,10 +104,10 @@ module _ {d : List Entry} {h : History} {g : Option Rebuilt} {b : ℕ} {x : Boar
 
 -- ---- the access
 
--- The guards of a live access of board b, which is `x`: it lacks no right; a page that it writes has no copy out; a got that is pending is this access's.
+-- The guards of a live access of board b, which is `x`: it lacks no right; a page that it writes has no copy out; the gots that are pending are this access's.
 pub record MayAccess (d : List Entry) (g : Option Rebuilt) (b : ℕ) (a : Access) (x : Board) : Type 0 where
   pub up : x .state ≡ Up
-  pub page : pageNamed a < length d
+  pub pages : (p : ℕ) → names a p ≡ true → p < length d
   pub has : lacking a (x .working .frames) ≡ false
   pub alone : (e : HistoryEntry) (p : ℕ) → e .access ≡ a → writesPage e p ≡ true → entryIn d p .copies ≡ 0
   pub shows : settledAs g x .frames ≡ x .working .frames
@@ -116,22 +115,26 @@ pub record MayAccess (d : List Entry) (g : Option Rebuilt) (b : ℕ) (a : Access
 
 module _ {d : List Entry} {h : History} {g : Option Rebuilt} {b : ℕ} {x : Board} {a : Access} (q : BoardInvariant d h g b x) (w : Fits d b x)
     (m : MayAccess d g b a x) where
-  right-named : frameAt (x .working .frames) (pageNamed a) .right ≢ None
-  unfolding lacking
-  right-named = has-right a (frameAt (x .working .frames) (pageNamed a) .right) (m .has)
+  -- a page that the access names is not lacked
+  enough : (p : ℕ) → names a p ≡ true → lacks (takes a) (frameAt (x .working .frames) p .right) ≡ false
+  enough p n = has-right a (x .working .frames) (m .has) p (rw (w .alone .fields .working .frames .count) (m .pages p n)) n
+
+  right-named : (p : ℕ) → names a p ≡ true → frameAt (x .working .frames) p .right ≢ None
+  right-named p n = some-right (takes a) (frameAt (x .working .frames) p .right) (enough p n)
 
   -- a page that the access writes is the board's
   written-owned : (p : ℕ) → writesPage (entryOf b a (x .working .frames)) p ≡ true → entryIn d p .owner ≡ b
-  unfolding lacking entryOf
+  unfolding entryOf writesPage names
   written-owned p t =
-      let n : pageNamed a ≡ p = writes-named (entryOf b a (x .working .frames)) p t in
-      let o : frameAt (x .working .frames) (pageNamed a) .right ≡ Own =
-      writes-own a (frameAt (x .working .frames) (pageNamed a) .right) (entryOf b a (x .working .frames)) p refl (m .has) t in
-      rw n at (own-from (entryIn d (pageNamed a)) b (sym (w .agreed .rights (m .up) (pageNamed a) (m .page)) ∙ o))
+      let n : names a p ≡ true = or-true-right (anyCell (cellsRead a) p) (anyWrite (cellsWritten a) p) t in
+      let o : frameAt (x .working .frames) p .right ≡ Own =
+      right-own (frameAt (x .working .frames) p .right)
+      (ap (λ (g : CopyOrOwn). lacks g (frameAt (x .working .frames) p .right)) (sym (writes-own a p t .0)) ∙ enough p n) in
+      own-from (entryIn d p) b (sym (w .agreed .rights (m .up) p (m .pages p n)) ∙ o)
 
   accepts : Accepts (settledAs g x) (Made (entryOf b a (x .working .frames)))
-  unfolding Accepts entryOf
-  accepts = (m .fits, rw (m .shows) (m .has), rw (m .shows) (bytes-read a (x .working .frames)))
+  unfolding Accepts entryOf readFrom
+  accepts = (m .fits, rw (m .shows) (m .has), rw (m .shows) refl)
 
   -- the frame of a page after the access holds the memory after its entry
   frame-after : (p : ℕ) → p < length d → frameAt (x .working .frames) p .bytes ≡ memoryAfter zeroMemory (h .entries) p
@@ -185,15 +188,14 @@ module _ {d : List Entry} {h : History} {g : Option Rebuilt} {b : ℕ} {x : Boar
   module _ {c : ℕ} {y : Board} (n : c ≢ b) (g' : Option Rebuilt) (r : BoardInvariant d h g' c y) where
     -- a page that the access touches is not one that board c wrote past its recovery point: the accessing board has a right there
     untouched : (p : ℕ) → unstableWrite c (recoveryPoint y) p (h .entries) ≡ true → touchesPage (entryOf b a (x .working .frames)) p ≡ true → b ≡ c
-    unfolding entryOf
+    unfolding entryOf touchesPage
     untouched p u t =
-        let s : pageNamed a ≡ p = touches-named (entryOf b a (x .working .frames)) p t in
-        let j : p < length d = rw s at (m .page) in
+        let j : p < length d = m .pages p t in
         let v : (entryIn d p .owner ≡ c) × (entryIn d p .copies ≡ 0) = r .unstable p j u in
         ⊎-elim
         (λ o. sym o ∙ v .0)
         (λ k. clash k (rw (v .1) (member-none b)))
-        (right-from (entryIn d p) b (λ e. right-named (w .agreed .rights (m .up) (pageNamed a) (m .page) ∙ (rw s e))))
+        (right-from (entryIn d p) b (λ e. right-named p t (w .agreed .rights (m .up) p j ∙ e)))
 
     unwritten-owned : (p : ℕ) → entryIn d p .owner ≡ c → writesPage (entryOf b a (x .working .frames)) p ≡ false
     unwritten-owned p o =
@@ -235,13 +237,13 @@ module _ {d : List Entry} {h : History} {g : Option Rebuilt} {b : ℕ} {x : Boar
 -- the bytes read are the memory's
 read-memory : (b : ℕ) (a : Access) (k : Bank) {g : ℕ → Option Rebuilt} {h : History} → Invariant g k h → b < length (k .boards)
     → MayAccess (k .directory) (g b) b a (boardAt k b)
-    → bytesFrom a (valueOf a (boardAt k b .working .frames)) ≡ map (byteIn (memoryAfter zeroMemory (h .entries))) (cellsRead a)
+    → readFrom a (boardAt k b .working .frames) ≡ map (byteIn (memoryAfter zeroMemory (h .entries))) (cellsRead a)
+unfolding readFrom
 read-memory b a k {h = h} q i m =
     let fs : List Frame = boardAt k b .working .frames in
     let t : Fits (k .directory) b (boardAt k b) = fits (q .formed) b i in
-    bytes-read a fs
-    ∙ reads-agree a fs (memoryAfter zeroMemory (h .entries))
-    (sym (right-frame (q .boards b i) t (m .up) (pageNamed a) (m .page) (right-named (q .boards b i) t m)))
+    reads-agree a fs (memoryAfter zeroMemory (h .entries))
+    (λ p n. sym (right-frame (q .boards b i) t (m .up) p (m .pages p n) (right-named (q .boards b i) t m p n)))
 
 -- A live access of board b. What was ahead of its frames, a got that this access takes, is no longer.
 pub access-invariant : (b : ℕ) (a : Access) (k : Bank) {g g' : ℕ → Option Rebuilt} {h : History} → Invariant g k h → b < length (k .boards)

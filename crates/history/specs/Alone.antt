@@ -77,12 +77,12 @@ module _ (b : ℕ) where
     unfolding heard
     heard-other n = cc
 
-    heard-live : eqb (boardNamed c) b ≡ true → (r : Run) → liveIn (accessOf c) k ≡ some r → heard b (c ∷ cs) k ≡ heardOf b none r ∷ []
+    heard-live : eqb (boardNamed c) b ≡ true → (r : Run) → liveIn (accessOf c) k ≡ some r → heard b (c ∷ cs) k ≡ heardOf b none [] r ∷ []
     unfolding heard
     heard-live n r e = cc
 
     heard-given : eqb (boardNamed c) b ≡ true → liveIn (accessOf c) k ≡ none
-        → heard b (c ∷ cs) k ≡ heardOf b (some (callBank c k .answer)) (callBank c k .run) ∷ heard b cs (callBank c k .run .bank)
+        → heard b (c ∷ cs) k ≡ heardOf b (some (callBank c k .answer)) (callBank c k .given) (callBank c k .run) ∷ heard b cs (callBank c k .run .bank)
     unfolding heard
     heard-given n e = cc
 
@@ -167,9 +167,9 @@ module _ (b : ℕ) where
   unfolding callsOf
   callsOf-nil = refl
 
-  heardOf-same : (a : Option Answer) (r s : Run) → SameRun b r s → heardOf b a r ≡ heardOf b a s
+  heardOf-same : (a : Option Answer) (given : List ℕ) (r s : Run) → SameRun b r s → heardOf b a given r ≡ heardOf b a given s
   unfolding heardOf
-  heardOf-same a r s h = cc (h .stores, same-seen (h .bank .board))
+  heardOf-same a given r s h = cc (h .stores, same-seen (h .bank .board))
 
   -- a call of the board in both banks, and what follows it
   own-call : (c : Call) (k j : Bank) → Beside k j → isReplaying (boardAt k b .state) ≡ true → eqb (boardNamed c) b ≡ true
@@ -198,11 +198,12 @@ module _ (b : ℕ) where
         → (SameResult b (callBank c k) (callBank c j) → heard b cs (callBank c k .run .bank) ≡ heard b ds (callBank c j .run .bank))
         → heard b (c ∷ cs) k ≡ heard b (c ∷ ds) j
     own-heard (gives m n s) rest =
-        let first : heardOf b (some (callBank c k .answer)) (callBank c k .run) ≡ heardOf b (some (callBank c j .answer)) (callBank c j .run) =
-        rw (s .answer) (heardOf-same (some (callBank c j .answer)) (callBank c k .run) (callBank c j .run) (s .run)) in
+        let first : heardOf b (some (callBank c k .answer)) (callBank c k .given) (callBank c k .run)
+        ≡ heardOf b (some (callBank c j .answer)) (callBank c j .given) (callBank c j .run) =
+        rw (s .answer, s .given) (heardOf-same (some (callBank c j .answer)) (callBank c j .given) (callBank c k .run) (callBank c j .run) (s .run)) in
         heard-given c cs k t x m ∙ ap₂ (λ (y : Heard) (ys : List Heard). y ∷ ys) first (rest s) ∙ sym (heard-given c ds j u x n)
     own-heard (goes r s m n g) rest =
-        heard-live c cs k t x r m ∙ ap (λ (y : Heard). y ∷ []) (heardOf-same none r s g) ∙ sym (heard-live c ds j u x s n)
+        heard-live c cs k t x r m ∙ ap (λ (y : Heard). y ∷ []) (heardOf-same none [] r s g) ∙ sym (heard-live c ds j u x s n)
 
   -- `n` bounds the calls that are left
   heard-same : (n : ℕ) (cs ds : List Call) (k j : Bank) → length cs + length ds ≤ n → Beside k j → callsOf b cs ≡ callsOf b ds
@@ -308,10 +309,12 @@ module _ (b : ℕ) (k j : Bank) (h : SameStart b k j) where
   unfolding heardFrom
   alone cs ds e o =
       let s : SameResult b (callBank (Restarting b) k) (callBank (Restarting b) j) = restarts cs ds o in
+      let c : Call = Restarting b in
       let k' : Bank = callBank (Restarting b) k .run .bank in
       let j' : Bank = callBank (Restarting b) j .run .bank in
       ap₂ (λ (y : Heard) (ys : List Heard). y ∷ ys)
-      (rw (s .answer) (heardOf-same b (some (callBank (Restarting b) j .answer)) (callBank (Restarting b) k .run) (callBank (Restarting b) j .run) (s .run)))
+      (rw (s .answer, s .given)
+      (heardOf-same b (some (callBank c j .answer)) (callBank c j .given) (callBank c k .run) (callBank c j .run) (s .run)))
       (heard-same b (length cs + length ds) cs ds k' j' (omega arith)
       (record { left = call-keeps (Restarting b) k (h .formed .0); right = call-keeps (Restarting b) j (h .formed .1); at = s .run .bank })
       e

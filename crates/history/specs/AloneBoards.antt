@@ -9,9 +9,9 @@ use Rattle.types.specs.declared.Record.{Record}
 use Rattle.model.specs.Definitions.Layout.{noFuse}
 use Rattle.model.specs.Definitions.Bank.{Log, Area, Working, Board, emptyFrame, withLog, onWorking, onSpare}
 use Rattle.model.specs.Definitions.Steps.{poweredOff, withFuse, burnt, storedSelector, restedWorking, Access, accessed}
-use Rattle.model.specs.Definitions.Replay.{loaded, recordsLeft, used, useUp, usedUp, due, differs, tookGot, tookDue, replayOver, settled, replayed}
+use Rattle.model.specs.Definitions.Replay.{loaded, recordsLeft, used, useUp, usedUp, due, differs, tookGot, tookGots, tookDue, replayOver, settled, replayed}
 use Rattle.model.specs.Laws.Logic.{byBool, byOption}
-use Rattle.history.specs.Repeating.{tookDue-none, tookDue-some}
+use Rattle.history.specs.Repeating.{took-log}
 use Rattle.history.specs.Replaying.{usedUp-log}
 use Rattle.model.specs.Moves.{Saved}
 use Rattle.model.specs.History.AloneStatement.{Seen, seen}
@@ -67,6 +67,11 @@ useUp-withLog l (r ∷ rs) w =
     (λ p k. cc (useUp-withLog l rs (used (set (w .frames) p emptyFrame) w))))
     (λ t. cc)
 
+tookGots-withLog : (l : Log) (rs : List Record) (w : Working) → tookGots rs (withLog l w) ≡ withLog l (tookGots rs w)
+unfolding tookGots tookGot used
+tookGots-withLog l [] w = refl
+tookGots-withLog l (r ∷ rs) w = tookGots-withLog l rs (tookGot r w)
+
 module _ {x y : Board} (s : Same x y) where
   left-same : recordsLeft x ≡ recordsLeft y
   unfolding recordsLeft
@@ -76,20 +81,15 @@ module _ {x y : Board} (s : Same x y) where
   unfolding due
   due-same = cc (left-same)
 
-  pub differs-same : (a : Access) → differs a x ≡ differs a y
-  unfolding differs
-  differs-same a = byOption (due x) (λ n. cc (due-same)) (λ r e. cc (due-same))
-
   pub over-same : replayOver x ≡ replayOver y
   unfolding replayOver
   over-same = cc
 
-  usedUp-same : Same (usedUp x) (usedUp y)
-  unfolding usedUp onWorking
-  usedUp-same =
-      let e : withLog (y .working .log) (x .working) ≡ withLog (y .working .log) (y .working) = cc in
-      let u : withLog (y .working .log) (useUp (recordsLeft x) (x .working)) ≡ useUp (recordsLeft y) (y .working) =
-      sym (useUp-withLog (y .working .log) (recordsLeft x) (x .working)) ∙ ap₂ useUp left-same e in
+  -- working memories that are the same but for the volatile log, which stays
+  moved-same : (f g : Working → Working) → withLog (y .working .log) (f (x .working)) ≡ g (y .working) → f (x .working) .log ≡ x .working .log
+      → Same (onWorking f x) (onWorking g y)
+  unfolding onWorking
+  moved-same f g u l =
       record {
         state = s .state;
         fuse = s .fuse;
@@ -97,11 +97,21 @@ module _ {x y : Board} (s : Same x y) where
         since = ap (λ (w : Working). w .since) u;
         place = ap (λ (w : Working). w .place) u;
         frames = ap (λ (w : Working). w .frames) u;
-        volatile = cc (usedUp-log x, usedUp-log y);
+        volatile = ap (λ (k : Log). k .records) l ∙ (s .volatile ∙ ap (λ (w : Working). w .log .records) u);
         checkpointNumber = s .checkpointNumber;
         checkpointFrames = s .checkpointFrames;
         stored = s .stored;
       }
+
+  without-log : withLog (y .working .log) (x .working) ≡ withLog (y .working .log) (y .working)
+  without-log = cc
+
+  usedUp-same : Same (usedUp x) (usedUp y)
+  unfolding usedUp onWorking
+  usedUp-same =
+      moved-same (useUp (recordsLeft x)) (useUp (recordsLeft y))
+      (sym (useUp-withLog (y .working .log) (recordsLeft x) (x .working)) ∙ ap₂ useUp left-same without-log)
+      (usedUp-log x)
 
   loaded-same : Same (loaded x) (loaded y)
   unfolding seen loaded
@@ -111,12 +121,12 @@ module _ {x y : Board} (s : Same x y) where
   unfolding seen onWorking accessed
   accessed-same a = same (cc)
 
-  pub took-same : (a : Access) → Same (tookDue a x) (tookDue a y)
-  unfolding seen tookGot used onWorking
-  took-same a =
-      byOption (due x)
-      (λ n. rw (tookDue-none a x n, tookDue-none a y (sym due-same ∙ n)) s)
-      (λ r e. rw (tookDue-some a x r e, tookDue-some a y r (sym due-same ∙ e)) (same (cc)))
+  pub took-same : Same (tookDue x) (tookDue y)
+  unfolding tookDue onWorking
+  took-same =
+      moved-same (tookGots (due x)) (tookGots (due y))
+      (sym (tookGots-withLog (y .working .log) (due x) (x .working)) ∙ ap₂ tookGots due-same without-log)
+      (took-log x)
 
   pub settled-same : (owned : ℕ → Bool) → Same (settled owned x) (settled owned y)
   unfolding seen settled
@@ -156,3 +166,8 @@ replayed-same s a = usedUp-same (accessed-same s a)
 
 pub restarted-same : {x y : Board} → Same x y → Same (usedUp (loaded x)) (usedUp (loaded y))
 restarted-same s = usedUp-same (loaded-same s)
+
+-- the same access fits
+pub differs-same : {x y : Board} → Same x y → (a : Access) → differs a x ≡ differs a y
+unfolding differs
+differs-same {x} {y} s a = cc (due-same s, s .frames, over-same (took-same s), took-same s .frames)

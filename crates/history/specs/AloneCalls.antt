@@ -13,7 +13,7 @@ use Rattle.types.specs.declared.Answer.{Answer}
 use Rattle.model.specs.Definitions.Layout.{noFuse}
 use Rattle.model.specs.Definitions.Bank.{Board, Bank, boardAt, entryAt, onBoard}
 use Rattle.model.specs.Definitions.WellFormed.{isUp, isDown, isReplaying, WellFormed}
-use Rattle.model.specs.Definitions.Steps.{Run, start, withFuse, fuseBoard, Access, Read, Write, valueOf}
+use Rattle.model.specs.Definitions.Steps.{Run, start, withFuse, fuseBoard, Access, valueOf}
 use Rattle.model.specs.Definitions.Replay.{loaded, usedUp, tookDue, replayOver, endIfOver, replayed}
 use Rattle.model.specs.Definitions.Calls.{Result, firstOf, unless, finished, accessInRange, countersFull, refusalsWithin, accessRefusals, accessWithin}
 use Rattle.model.specs.Definitions.Calls.{accessBank, checkpointBank, fuseBank, restartBank}
@@ -37,6 +37,7 @@ use Rattle.history.specs.AloneRuns.{SameAt, below-same, onBoard-same, po
 
 pub record SameResult (b : ℕ) (t u : Result) : Type 0 where
   pub answer : t .answer ≡ u .answer
+  pub given : t .given ≡ u .given
   pub run : SameRun b (t .run) (u .run)
 
 unless-same : {b : ℕ} (tests tests' : List (Bool × Answer)) (r s : Run) (go go' : Result) → tests ≡ tests' → SameRun b r s
@@ -44,20 +45,19 @@ unless-same : {b : ℕ} (tests tests' : List (Bool × Answer)) (r s : Run) (go g
 unless-same tests tests' r s go go' e h g =
     byOption (firstOf tests)
     (λ n. rw (unless-goes tests r go n, unless-goes tests' s go' (ap firstOf (sym e) ∙ n)) (g n))
-    (λ x m. rw (unless-refused tests r go m, unless-refused tests' s go' (ap firstOf (sym e) ∙ m)) (record { answer = refl; run = h }))
+    (λ x m. rw (unless-refused tests r go m, unless-refused tests' s go' (ap firstOf (sym e) ∙ m)) (record { answer = refl; given = refl; run = h }))
 
-finished-same : {b : ℕ} (v : ℕ) (r s : Run) → SameRun b r s → SameResult b (finished v r) (finished v s)
-finished-same v r s h =
+finished-same : {b : ℕ} (v : ℕ) (given : List ℕ) (r s : Run) → SameRun b r s → SameResult b (finished v given r) (finished v given s)
+finished-same v given r s h =
     byOption (r .lost)
-    (λ n. rw (finished-done v r n, finished-done v s (sym (h .lost) ∙ n)) (record { answer = refl; run = h }))
-    (λ c e. rw (finished-lost v r e, finished-lost v s (sym (h .lost) ∙ e)) (record { answer = refl; run = h }))
+    (λ n. rw (finished-done v given r n, finished-done v given s (sym (h .lost) ∙ n)) (record { answer = refl; given = refl; run = h }))
+    (λ c e. rw (finished-lost v given r e, finished-lost v given s (sym (h .lost) ∙ e)) (record { answer = refl; given = refl; run = h }))
 
 -- ==== an access
 
 inRange-same : (b : ℕ) (a : Access) (k j : Bank) → SameSizes k j → accessInRange b a k ≡ accessInRange b a j
 unfolding accessInRange
-inRange-same b (Read p o) k j s = cc
-inRange-same b (Write p o v) k j s = cc
+inRange-same b a k j s = rw (s .boards, s .pages)
 
 -- the tests on entry look at the sizes and at what is seen of the board
 refusals-same : (b : ℕ) (a : Access) (k j : Bank) → SameAt b k j → accessRefusals b a k ≡ accessRefusals b a j
@@ -72,39 +72,39 @@ unfolding goesOnLive
 live-refused b a k e = cc
 
 module _ (b : ℕ) (a : Access) (k : Bank) (e : firstOf (accessRefusals b a k) ≡ none) where
-  live-going : replayOver (boardAt (tookIn b a k) b) ≡ false → goesOnLive b a k ≡ none
+  live-going : replayOver (boardAt (tookIn b k) b) ≡ false → goesOnLive b a k ≡ none
   unfolding goesOnLive
   live-going o = cc
 
-  live-lost : replayOver (boardAt (tookIn b a k) b) ≡ true → {c : ℕ} → afterReplay b a k .lost ≡ some c → goesOnLive b a k ≡ none
+  live-lost : replayOver (boardAt (tookIn b k) b) ≡ true → {c : ℕ} → afterReplay b k .lost ≡ some c → goesOnLive b a k ≡ none
   unfolding goesOnLive
   live-lost o l = cc
 
-  live-on : replayOver (boardAt (tookIn b a k) b) ≡ true → afterReplay b a k .lost ≡ none → goesOnLive b a k ≡ some (afterReplay b a k)
+  live-on : replayOver (boardAt (tookIn b k) b) ≡ true → afterReplay b k .lost ≡ none → goesOnLive b a k ≡ some (afterReplay b k)
   unfolding goesOnLive
   live-on o l = cc
 
 -- an access goes on live exactly where the table of codes says that it is live, after a replay
 module _ (b : ℕ) (a : Access) (k : Bank) (w : WellFormed k) (t : isReplaying (boardAt k b .state) ≡ true) where
-  -- a got that it needs is due, and is the last record
-  last-says : (e : firstOf (accessRefusals b a k) ≡ none) → Says (replayOver (boardAt (tookIn b a k) b)) (LastDue a (boardAt k b))
+  -- gots that it needs are due, and are the last records
+  last-says : (e : firstOf (accessRefusals b a k) ≡ none) → Says (replayOver (boardAt (tookIn b k) b)) (LastDue a (boardAt k b))
   last-says e =
       let x : Board = boardAt k b in
       let l : b < length (k .boards) = enteredAt b a k e t w .board in
-      rw (boardAt-same b (tookDue a) k l)
+      rw (boardAt-same b tookDue k l)
       (last-due a x (replaying-place (x .state) x (replayingAt b a k e t w) (fits w b l .place)) (fails (replay-other a x) (fittingAt b a k e t w)))
 
   pub goes-live : (r : Run) → goesOnLive b a k ≡ some r → LiveOn b a k (r .bank)
   goes-live r g =
       byOption (firstOf (accessRefusals b a k))
       (λ e.
-      byBool (replayOver (boardAt (tookIn b a k) b))
+      byBool (replayOver (boardAt (tookIn b k) b))
       (λ o.
-      byOption (afterReplay b a k .lost)
+      byOption (afterReplay b k .lost)
       (λ n.
       let d : LastDue a (boardAt k b) = last-says e .0 o in
-      let same : afterReplay b a k ≡ r = cc (live-on b a k e o n) in
-      rw same at (replayEnded (replayingAt b a k e t w) (d .1) (d .2) n))
+      let same : afterReplay b k ≡ r = cc (live-on b a k e o n) in
+      rw same at (replayEnded (replayingAt b a k e t w) (d .2) (d .3) n))
       (λ c l. lost-not (live-lost b a k e o l) g))
       (λ o. lost-not (live-going b a k e o) g))
       (λ x e. lost-not (live-refused b a k e) g)
@@ -112,7 +112,7 @@ module _ (b : ℕ) (a : Access) (k : Bank) (w : WellFormed k) (t : isReplaying (
   pub live-goes : {j : Bank} → LiveOn b a k j → firstOf (accessRefusals b a k) ≡ none → (r : Run) × (goesOnLive b a k ≡ some r) × (r .bank ≡ j)
   unfolding isReplaying
   live-goes (up u) e = clash t (ap isReplaying u)
-  live-goes (replayEnded {r} u d n l) e = (afterReplay b a k, live-on b a k e (last-says e .1 (r, d, n)) l, refl)
+  live-goes (replayEnded {r} {rs} u d n l) e = (afterReplay b k, live-on b a k e (last-says e .1 (r, rs, d, n)) l, refl)
 
 -- ---- what it gives
 
@@ -137,7 +137,7 @@ module _ (b : ℕ) (a : Access) (k j : Bank) (s : SameAt b k j) (w : WellFormed 
       let f : firstOf (accessRefusals b a j) ≡ some _ = ap firstOf (sym (refusals-same b a k j s)) ∙ e in
       answered (live-refused b a k e) (live-refused b a j f)
       (rw (unless-refused (accessRefusals b a k) (start k) _ e, unless-refused (accessRefusals b a j) (start j) _ f)
-      (record { answer = refl; run = start-same s }))
+      (record { answer = refl; given = refl; run = start-same s }))
 
   module _ (e : firstOf (accessRefusals b a k) ≡ none) where
     e' : firstOf (accessRefusals b a j) ≡ none
@@ -146,54 +146,54 @@ module _ (b : ℕ) (a : Access) (k j : Bank) (s : SameAt b k j) (w : WellFormed 
     below : b < length (k .boards)
     below = enteredAt b a k e t w .board
 
-    took : SameAt b (tookIn b a k) (tookIn b a j)
-    took = onBoard-same b k j below s (tookDue a) (tookDue a) (took-same (s .board) a)
+    took : SameAt b (tookIn b k) (tookIn b j)
+    took = onBoard-same b k j below s tookDue tookDue (took-same (s .board))
 
-    below-took : b < length (tookIn b a k .boards)
-    below-took = rw (boards-onBoard b (tookDue a) k) below
+    below-took : b < length (tookIn b k .boards)
+    below-took = rw (boards-onBoard b tookDue k) below
 
-    over : replayOver (boardAt (tookIn b a k) b) ≡ replayOver (boardAt (tookIn b a j) b)
+    over : replayOver (boardAt (tookIn b k) b) ≡ replayOver (boardAt (tookIn b j) b)
     over = over-same (took .board)
 
-    ended-same : replayOver (boardAt (tookIn b a k) b) ≡ true → SameAccess b a k j
+    ended-same : replayOver (boardAt (tookIn b k) b) ≡ true → SameAccess b a k j
     unfolding afterReplay
     ended-same o =
-        let o' : replayOver (boardAt (tookIn b a j) b) ≡ true = sym over ∙ o in
+        let o' : replayOver (boardAt (tookIn b j) b) ≡ true = sym over ∙ o in
         let h : SameOwned b k j = owned (ended-idle b a k e t w o) (ended-idle b a j e' also v o') in
-        let r : SameRun b (afterReplay b a k) (afterReplay b a j) =
-        endReplay-same b (tookIn b a k) (tookIn b a j) below-took took
+        let r : SameRun b (afterReplay b k) (afterReplay b j) =
+        endReplay-same b (tookIn b k) (tookIn b j) below-took took
         (taken-inReplay b a k w (enteredAt b a k e t w) (replayingAt b a k e t w) (fittingAt b a k e t w))
         (taken-inReplay b a j v (enteredAt b a j e' also v) (replayingAt b a j e' also v) (fittingAt b a j e' also v))
-        (owned-onBoard b (tookDue a) (tookDue a) k j h) in
-        byOption (afterReplay b a k .lost)
-        (λ n. goesOn (afterReplay b a k) (afterReplay b a j) (live-on b a k e o n) (live-on b a j e' o' (sym (r .lost) ∙ n)) r)
+        (owned-onBoard b tookDue tookDue k j h) in
+        byOption (afterReplay b k .lost)
+        (λ n. goesOn (afterReplay b k) (afterReplay b j) (live-on b a k e o n) (live-on b a j e' o' (sym (r .lost) ∙ n)) r)
         (λ c l.
-        let l' : afterReplay b a j .lost ≡ some c = sym (r .lost) ∙ l in
+        let l' : afterReplay b j .lost ≡ some c = sym (r .lost) ∙ l in
         answered (live-lost b a k e o l) (live-lost b a j e' o' l')
-        (rw (access-lost b a k e t o l, access-lost b a j e' also o' l') (record { answer = refl; run = r })))
+        (rw (access-lost b a k e t o l, access-lost b a j e' also o' l') (record { answer = refl; given = refl; run = r })))
 
-    repeated-same : replayOver (boardAt (tookIn b a k) b) ≡ false → SameAccess b a k j
+    repeated-same : replayOver (boardAt (tookIn b k) b) ≡ false → SameAccess b a k j
     repeated-same o =
-        let o' : replayOver (boardAt (tookIn b a j) b) ≡ false = sym over ∙ o in
+        let o' : replayOver (boardAt (tookIn b j) b) ≡ false = sym over ∙ o in
         let m : SameAt b (repeatedIn b a k) (repeatedIn b a j) =
-        onBoard-same b (tookIn b a k) (tookIn b a j) below-took took (replayed a) (replayed a) (replayed-same (took .board) a) in
+        onBoard-same b (tookIn b k) (tookIn b j) below-took took (replayed a) (replayed a) (replayed-same (took .board) a) in
         let r : SameRun b (endIfOver b (start (repeatedIn b a k))) (endIfOver b (start (repeatedIn b a j))) =
-        endIfOver-same b (repeatedIn b a k) (repeatedIn b a j) (rw (boards-onBoard b (replayed a) (tookIn b a k)) below-took) m
-        (replayed-keeps b a k w (enteredAt b a k e t w) (replayingAt b a k e t w) (fittingAt b a k e t w))
-        (replayed-keeps b a j v (enteredAt b a j e' also v) (replayingAt b a j e' also v) (fittingAt b a j e' also v))
+        endIfOver-same b (repeatedIn b a k) (repeatedIn b a j) (rw (boards-onBoard b (replayed a) (tookIn b k)) below-took) m
+        (replayed-keeps b a k w (enteredAt b a k e t w) (replayingAt b a k e t w) (fittingAt b a k e t w) (rw (boardAt-same b tookDue k below) at o))
+        (replayed-keeps b a j v (enteredAt b a j e' also v) (replayingAt b a j e' also v) (fittingAt b a j e' also v)
+        (rw (boardAt-same b tookDue j (below-same b k j below s)) at o'))
         (λ u.
-        owned-onBoard b (replayed a) (replayed a) (tookIn b a k) (tookIn b a j)
-        (owned-onBoard b (tookDue a) (tookDue a) k j
+        owned-onBoard b (replayed a) (replayed a) (tookIn b k) (tookIn b j)
+        (owned-onBoard b tookDue tookDue k j
         (owned (over-idle b a k e t w o u) (over-idle b a j e' also v o' (sym (over-same (m .board)) ∙ u))))) in
-        let value : valueOf a (boardAt (tookIn b a k) b .working .frames) ≡ valueOf a (boardAt (tookIn b a j) b .working .frames) =
-        ap (valueOf a) (took .board .frames) in
+        let fs : boardAt (tookIn b k) b .working .frames ≡ boardAt (tookIn b j) b .working .frames = took .board .frames in
         answered (live-going b a k e o) (live-going b a j e' o')
-        (rw (access-repeated b a k e t o, access-repeated b a j e' also o', value) (finished-same _ _ _ r))
+        (rw (access-repeated b a k e t o, access-repeated b a j e' also o', fs) (finished-same _ _ _ _ r))
 
   pub access-same : SameAccess b a k j
   access-same =
       byOption (firstOf (accessRefusals b a k))
-      (λ e. byBool (replayOver (boardAt (tookIn b a k) b)) (ended-same e) (repeated-same e))
+      (λ e. byBool (replayOver (boardAt (tookIn b k) b)) (ended-same e) (repeated-same e))
       (λ x e. refused-same e)
 
 -- ==== the other calls
@@ -231,7 +231,7 @@ module _ (b : ℕ) (k j : Bank) (s : SameAt b k j) where
       (λ e.
       let range : (ltb b (length (k .boards)) && ltb n noFuse) ≡ true = not-false _ (firstOf-none _ _ _ e .here) in
       let l : b < length (k .boards) = ltb-true b (length (k .boards)) (and-left (ltb b (length (k .boards))) _ range) in
-      finished-same 0 _ _ (step-same (start k) (start j) (start-same s) (fuseBoard b n) (fuseBoard b n) (λ m. fuseBoard-same n l)))
+      finished-same 0 [] _ _ (step-same (start k) (start j) (start-same s) (fuseBoard b n) (fuseBoard b n) (λ m. fuseBoard-same n l)))
 
   -- a restart may end the replay at once
   pub restart-same : WellFormed k → WellFormed j
@@ -250,7 +250,7 @@ module _ (b : ℕ) (k j : Bank) (s : SameAt b k j) where
       let down' : boardAt j b .state ≡ Down = sym (s .board .state) ∙ down in
       let m : SameAt b (restartedIn b k) (restartedIn b j) = onBoard-same b k j l s awake awake (restarted-same (s .board)) in
       rw (s .board .checkpointNumber)
-      (finished-same (boardAt j b .stable .selected .number) (endIfOver b (start (restartedIn b k))) (endIfOver b (start (restartedIn b j)))
+      (finished-same (boardAt j b .stable .selected .number) [] (endIfOver b (start (restartedIn b k))) (endIfOver b (start (restartedIn b j)))
       (endIfOver-same b (restartedIn b k) (restartedIn b j) (rw (boards-onBoard b awake k) l) m
       (restarted-inReplay b k l down w)
       (restarted-inReplay b j l' down' v)

@@ -4,6 +4,7 @@ use mathlib.Core.Logic.{_≢_}
 use Prim.Native.Nat.{ℕ, _<_}
 use mathlib.Core.Bool.{false}
 use mathlib.Core.Option.{none}
+use mathlib.Core.List.{[]}
 use lib.ListN.{length}
 use lib.Dec.{eqb}
 use borrow.Author.Tests.{ne-eqb}
@@ -18,6 +19,7 @@ use Rattle.model.specs.Definitions.Replay.{tookDue, replayed, settled, endRepla
 use Rattle.model.specs.Definitions.Calls.{Call, callBank, live}
 use Rattle.model.specs.Contracts.{InReplay, WellFormedBut, CanAccess}
 use Rattle.model.specs.Moves.{Move, does, Phase, Begun, Noted, Fetched, Replays, Settled, Finished, MayStore, anyone, taker, ender, checkpoints, resumes}
+use Rattle.model.specs.Moves.{TakesCopy, first, behind}
 use Rattle.model.specs.Moves.{closes, Guard, notesShown, notesGot, storesRecord, storesFrame, storesHead, storesSelector, givesCopy, passesOwnership}
 use Rattle.model.specs.Moves.{dropsCopies, performs, losesPower, setsFuse, loads, repeatsAccess, takesLast, settles, Moves, still}
 use Rattle.model.specs.Laws.Logic.{byEq, byOption}
@@ -63,8 +65,8 @@ module _ (b : ℕ) {d : ℕ} {Again : Access → Type 0} (other : b ≢ d) where
   move-leaves s _ n (storesSelector c o u v) w i =
       let m : b ≢ c = λ e. i (rw e u) in
       step-leaves b _ (store c storedSelector s) (boardAt-other c _ (store c storedSelector s .bank) b m) ∙ store-leaves b c storedSelector s m
-  move-leaves s _ n (givesCopy o p g u m r) w i = step-leaves b _ s (boardAt-giveCopy-other o d p (s .bank) b other)
-  move-leaves s _ n (passesOwnership o p g v m) w i =
+  move-leaves s _ n (givesCopy a o p x c y g u m r) w i = step-leaves b _ s (boardAt-giveCopy-other o d p (s .bank) b other)
+  move-leaves s _ n (passesOwnership a o p c y g v m) w i =
       step-leaves b _ s
       (leaves-in b (sizes-passOwnership o d p (s .bank))
       (λ l.
@@ -81,7 +83,7 @@ module _ (b : ℕ) {d : ℕ} {Again : Access → Type 0} (other : b ≢ d) where
   move-leaves s _ n (setsFuse m p low high) w i = step-leaves b _ s (boardAt-other d _ (s .bank) b other)
   move-leaves s _ n (loads l down) w i = step-leaves b _ s (boardAt-other d _ (s .bank) b other)
   move-leaves s _ n (repeatsAccess a z e rep same over) w i =
-      step-leaves b _ s (boardAt-other d (replayed a) (onBoard d (tookDue a) (s .bank)) b other ∙ boardAt-other d (tookDue a) (s .bank) b other)
+      step-leaves b _ s (boardAt-other d (replayed a) (onBoard d tookDue (s .bank)) b other ∙ boardAt-other d tookDue (s .bank) b other)
   move-leaves s _ n (takesLast a e rep same over) w i = step-leaves b _ s (boardAt-other d _ (s .bank) b other)
   move-leaves s _ n (settles l rep over) w i = step-leaves b _ s (boardAt-other d _ (s .bank) b other)
 
@@ -104,7 +106,7 @@ call-leaves c b k w n idle =
 unfoldable UpIn : Phase → State → Type 0
 UpIn Begun x = x ≡ Up
 UpIn (Noted o p) x = x ≡ Up
-UpIn (Fetched o g p) x = x ≡ Up
+UpIn (Fetched a os ps) x = x ≡ Up
 UpIn (Replays e) x = ⊥
 UpIn (Settled e) x = ⊥
 UpIn (Finished e o) x = Unit
@@ -142,7 +144,7 @@ store-awake {d} {ψ} b f s n keeps u h =
     })
     (λ e z. record { idle = idle-up v; going = λ e. h (boardAt k d .state) v })
 
-off-awake : {d : ℕ} {e : Event} (s : Run) → s .lost ≡ none → d < length (s .bank .boards) → Awake d (Finished e none) (step (powerOff d) s)
+off-awake : {d : ℕ} {e : Event} (s : Run) → s .lost ≡ none → d < length (s .bank .boards) → Awake d (Finished e []) (step (powerOff d) s)
 unfolding UpIn poweredOff isReplaying
 off-awake {d} s n l =
     let e : boardAt (step (powerOff d) s .bank) d ≡ poweredOff (boardAt (s .bank) d) =
@@ -161,6 +163,11 @@ up-stays anyone x y u e = e
 up-stays taker x y u e = e
 up-stays ender x y u e = u
 
+takes-up : {a : Access} {o p : ℕ} {φ ψ : Phase} → TakesCopy a o p φ ψ → (x : State) → x ≡ Up → UpIn ψ x
+unfolding UpIn
+takes-up first x e = e
+takes-up (behind l) x e = e
+
 move-awake : {d : ℕ} {Again : Access → Type 0} {χ ψ : Phase} (s : Run) (m : Move) → s .lost ≡ none → Guard d Again (s .bank) m χ ψ → Awake d χ s
     → Awake d ψ (does m s)
 unfolding does UpIn note access onWorking storedFrame storedHead onSpare storedSelector withFuse
@@ -176,8 +183,8 @@ move-awake s _ n (storesSelector b checkpoints u v) i =
     (λ c e. rw (step-lost _ (store b storedSelector s) e) t)
 move-awake s _ n (storesSelector b resumes u v) i = absurd (i .going n)
 move-awake s _ n (storesSelector b closes u v) i = absurd (i .going n)
-move-awake {d} s _ n (givesCopy o p g u m r) i = step-awake _ s (states-giveCopy o d p (s .bank)) u (λ x e. e)
-move-awake {d} s _ n (passesOwnership o p g v m) i = step-awake _ s (states-passOwnership o d p (s .bank)) (v .up) (λ x e. e)
+move-awake {d} s _ n (givesCopy a o p x c y g u m r) i = step-awake _ s (states-giveCopy o d p (s .bank)) u (takes-up x)
+move-awake {d} s _ n (passesOwnership a o p c y g v m) i = step-awake _ s (states-passOwnership o d p (s .bank)) (v .up) (λ x e. e)
 move-awake s _ n (dropsCopies p l m) i = step-awake _ s (states-dropCopies p (s .bank)) (i .going n) (λ x e. e)
 move-awake {d} s _ n (performs a z can has out) i = step-awake _ s (states-onBoard d _ (s .bank) refl) (can .up) (λ x e. tt)
 move-awake {d} s _ n (losesPower l) i = off-awake s n l

@@ -5,7 +5,7 @@ use mathlib.Core.Logic.{_≢_}
 use Prim.Native.Nat.{ℕ, _<_}
 use mathlib.Core.Bool.{true, false}
 use mathlib.Core.Option.{Option, none, some}
-use mathlib.Core.List.{List, [], _∷_}
+use mathlib.Core.List.{List, [], _∷_, _++_}
 use lib.ListN.{length}
 use Rattle.types.specs.declared.Right.the-variants.{None, Copy}
 use Rattle.types.specs.declared.Frame.{Frame}
@@ -27,8 +27,8 @@ use Rattle.model.specs.Laws.Keeps.Clauses.{fits, up-below}
 use Rattle.model.specs.Contracts.{Fits}
 use Rattle.model.specs.Laws.Keeps.Rights.{entry-at, holder-up}
 use Rattle.model.specs.History.Statement.{History, zeroMemory}
-use Rattle.history.specs.Rerun.{Rebuilt, Logged, logged, next, LacksFor, MayLog, Accepts}
-use Rattle.history.specs.Invariant.{memoryAfter, unstableWrite, settledAs, BoardInvariant, Invariant, nobody, onlyOf}
+use Rattle.history.specs.Rerun.{Rebuilt, Logged, logged, next, LacksFor, MayLog, Joins, Accepts}
+use Rattle.history.specs.Invariant.{memoryAfter, unstableWrite, settledAs, BoardInvariant, Invariant, onlyOf}
 use Rattle.history.specs.Logging.{newRecord}
 use Rattle.history.specs.Rights.{kept-on, entry-holds, framed-holds, lost-holds, quiet-held, got-holds, onlyOf-same, onlyOf-other, no-right}
 use Rattle.history.specs.Rights.{entry-invariant}
@@ -73,43 +73,48 @@ module _ (o b p : ℕ) (k : Bank) where
   abbrev bytesGiven : List ℕ
   bytesGiven = frameOf k o p .bytes
 
-  -- the reader after the step, before its access: its frame shows the got that its log ends with
-  abbrev pub readerAhead : Rebuilt
-  readerAhead =
+  -- the reader after the step, before its access: its frame shows the got that its log ends with, behind those that are pending
+  abbrev pub readerAhead : List Record → Rebuilt
+  readerAhead ps =
       record {
         frames = boardAt (giveCopy o b p k) b .working .frames;
-        pending = newRecord (Got GotCopy p) (frameOf k o p .bytes) (boardAt k b .working) ∷ [];
+        pending = ps ++ (newRecord (Got GotCopy p) (frameOf k o p .bytes) (boardAt k b .working) ∷ []);
       }
 
   giveCopy-directory : giveCopy o b p k .directory ≡ update p (withCopy b) (k .directory)
   unfolding giveCopy withCopy onEntry onBoard note
   giveCopy-directory = refl
 
-  reader-ahead : b < length (k .boards) → readerAhead ≡ next (Logged (newRecord (Got GotCopy p) bytesGiven (boardAt k b .working)))
-      (settledAs none (boardAt k b))
-  unfolding next logged settledAs tookCopy withFrame onWorking onFrames recorded rightGot
-  reader-ahead i = rw (boardAt-giveCopy-same o b p k i)
+  reader-ahead : (g : Option Rebuilt) → b < length (k .boards) → settledAs g (boardAt k b) .frames ≡ boardAt k b .working .frames
+      → readerAhead (settledAs g (boardAt k b) .pending)
+      ≡ next (Logged (newRecord (Got GotCopy p) bytesGiven (boardAt k b .working))) (settledAs g (boardAt k b))
+  unfolding next logged tookCopy withFrame onWorking onFrames recorded rightGot
+  reader-ahead g i shows = rw (boardAt-giveCopy-same o b p k i, shows)
 
-  -- "reader records got copy, gains the copy and its bit": an up board without a right; the giver's frame holds the page's memory, on which no write is
-  -- unstable
-  pub giveCopy-invariant : {h : History} → Invariant nobody k h → boardAt k b .state ≡ Up → p < length (k .directory)
+  -- "reader records got copy, gains the copy and its bit": an up board without a right, whose got joins those that are pending; the giver's frame holds the
+  -- page's memory, on which no write is unstable
+  pub giveCopy-invariant : {g : ℕ → Option Rebuilt} {h : History} → Invariant g k h → ((c : ℕ) → c ≢ b → g c ≡ none) → boardAt k b .state ≡ Up
+      → p < length (k .directory)
       → frameOf k b p .right ≡ None
+      → settledAs (g b) (boardAt k b) .frames ≡ boardAt k b .working .frames
+      → Joins (newRecord (Got GotCopy p) (frameOf k o p .bytes) (boardAt k b .working)) (settledAs (g b) (boardAt k b) .pending)
       → frameOf k o p .bytes ≡ memoryAfter zeroMemory (h .entries) p
       → ((c : ℕ) → c < length (k .boards) → unstableWrite c (recoveryPoint (boardAt k c)) p (h .entries) ≡ false)
       → WellFormed (giveCopy o b p k)
-      → Invariant (onlyOf b readerAhead) (giveCopy o b p k) h
-  unfolding nobody entryAt frameOf Accepts MayLog LacksFor settledAs
-  giveCopy-invariant {h} q u l lacks memory quiet w =
+      → Invariant (onlyOf b (readerAhead (settledAs (g b) (boardAt k b) .pending))) (giveCopy o b p k) h
+  unfolding entryAt frameOf Accepts MayLog LacksFor
+  giveCopy-invariant {g} {h} q only u l lacks shows joins memory quiet w =
       let i : b < length (k .boards) = up-below k b u in
       let t : Fits (k .directory) b (boardAt k b) = fits (q .formed) b i in
       let out : (entryAt k p .owner ≢ b) × (member b (entryAt k p .copies) ≡ false) = no-right (q .formed) b p u l lacks in
+      let ahead : Rebuilt = readerAhead (settledAs (g b) (boardAt k b) .pending) in
       entry-invariant p (withCopy b) k (giveCopy o b p k) q w (boards-giveCopy o b p k) giveCopy-directory
       (λ c j r.
       byEq c b
       (λ e.
-      rw (e, onlyOf-same b readerAhead, reader-ahead i, boardAt-giveCopy-same o b p k i)
-      (reader-holds (q .boards b i) u p bytesGiven (refl, lacks) l (t .alone .fields .working .frames .count) (out .0) (out .1) memory))
-      (λ n. rw (boardAt-giveCopy-other o b p k c n, onlyOf-other b readerAhead c n) (quiet-holds b p r l n (quiet c j))))
+      rw (e, onlyOf-same b ahead, reader-ahead (g b) i shows, boardAt-giveCopy-same o b p k i)
+      (reader-holds (q .boards b i) u p bytesGiven (joins, rw shows lacks) l (t .alone .fields .working .frames .count) (out .0) (out .1) memory))
+      (λ n. rw (boardAt-giveCopy-other o b p k c n, onlyOf-other b ahead c n) (quiet-holds b p (rw (only c n) at r) l n (quiet c j))))
 
 -- ---- the copies of a page dropped
 

@@ -28,7 +28,7 @@ use Rattle.model.specs.Laws.Keeps.Clauses.{up-not-down, up-not-replaying, down-
 use Rattle.model.specs.History.RecoveryStatement.{SameCounters, Change, Made, Stored, Selected, Lost, Accessed, Loaded, Took, Replayed, Settled, Quiet}
 use Rattle.history.specs.Traces.{countSum-one}
 use Rattle.history.specs.Replaying.{left-counts, used-left, usedUp-number, usedUp-log, over-left, going-left}
-use Rattle.history.specs.Repeating.{DueIn, due-some, tookDue-none, tookDue-some}
+use Rattle.history.specs.Repeating.{took-induct}
 use Rattle.model.specs.Laws.Codes.Tests.{byKind}
 
 -- ==== the counters of a board
@@ -164,14 +164,12 @@ restarted-balanced : (x : Board) → x .state ≡ Down → Balanced x → Balanc
 unfolding loaded
 restarted-balanced x u h = usedUp-balanced (loaded x) refl (loaded-balanced x u h)
 
-tookDue-balanced : (a : Access) (x : Board) → x .state ≡ Replaying → Balanced x → Balanced (tookDue a x)
-unfolding tookGot used onWorking
-tookDue-balanced a x u h =
-    byOption (due x)
-    (λ e. rw (tookDue-none a x e) h)
-    (λ r e.
-    let d : DueIn (recordsLeft x) (x .working .since) r = due-some x r e in
-    rw (tookDue-some a x r e) (used-balanced x r (d .others) _ u (d .head) (d .now) h))
+tookDue-balanced : (x : Board) → x .state ≡ Replaying → Balanced x → Balanced (tookDue x)
+unfolding tookGot onWorking
+tookDue-balanced x u h =
+    took-induct (λ y. (y .state ≡ Replaying) × Balanced y)
+    (λ y r rs g p left now k q. (q .0, used-balanced y r rs _ (q .0) left now (q .1)))
+    x (u, h) .1
 
 replayed-balanced : (a : Access) (x : Board) → x .state ≡ Replaying → replayOver x ≡ false → Balanced x → Balanced (replayed a x)
 unfolding replayed onWorking accessed recordsLeft recoveryPoint
@@ -212,7 +210,7 @@ change-balanced {x} (Selected u n r e) h = rw e (selected-balanced x u n r)
 change-balanced {x} (Lost e) h = rw e (poweredOff-balanced x)
 change-balanced {x} (Accessed a u e) h = rw e (accessed-balanced a x u h)
 change-balanced {x} (Loaded u e) h = rw e (restarted-balanced x u h)
-change-balanced {x} (Took a u e) h = rw e (tookDue-balanced a x u h)
+change-balanced {x} (Took u e) h = rw e (tookDue-balanced x u h)
 change-balanced {x} (Replayed a u o e) h = rw e (replayed-balanced a x u o h)
 change-balanced {x} (Settled owned u o e) h = rw e (settled-balanced owned x u o h)
 change-balanced (Quiet s) h = quiet-balanced s h

@@ -111,18 +111,18 @@ used-step d f k {h} q i down area quiet all state used =
       ends = λ o v. (rebuilt (boardAt k d) (ofBoard d (h .entries)), ends d f k q i down area quiet all state used v (rw now at o));
     }
 
--- the last got was taken: the replay is over
-pub last-step : (d : ℕ) (a : Access) (k : Bank) {h : History} → Invariant nobody k h → d < length (k .boards) → boardAt k d .state ≢ Up
-    → boardAt k d .working .log .records ≡ [] → length (ofBoard d (h .entries)) ≡ recoveryPoint (boardAt k d) → replayOver (tookDue a (boardAt k d)) ≡ true
-    → h .cursor d ≡ boardAt k d .working .number → TookLast a (boardAt k d) (ofBoard d (h .entries)) → ReplayStep d h (h .cursor d) (onBoard d (tookDue a) k)
-last-step d a k {h} q i down quiet all over cursor last =
+-- the last gots were taken: the replay is over
+pub last-step : (d : ℕ) (k : Bank) {h : History} → Invariant nobody k h → d < length (k .boards) → boardAt k d .state ≢ Up
+    → boardAt k d .working .log .records ≡ [] → length (ofBoard d (h .entries)) ≡ recoveryPoint (boardAt k d) → replayOver (tookDue (boardAt k d)) ≡ true
+    → h .cursor d ≡ boardAt k d .working .number → TookLast (boardAt k d) (ofBoard d (h .entries)) → ReplayStep d h (h .cursor d) (onBoard d tookDue k)
+last-step d k {h} q i down quiet all over cursor last =
     let x : Board = boardAt k d in
-    let now : boardAt (onBoard d (tookDue a) k) d ≡ tookDue a x = boardAt-same d (tookDue a) k i in
+    let now : boardAt (onBoard d tookDue k) d ≡ tookDue x = boardAt-same d tookDue k i in
     record {
       goes = λ o v. clash (rw now over) o;
       ends = λ o v. (
         rebuilt x (ofBoard d (h .entries)),
-        settled-invariant d (tookDue a) k q i down (took-stable a x) (ap (λ (l : Log). l .records) (took-log a x) ∙ quiet) all (h .cursor d) v
-            (last .since) (cursor ∙ last .number) (took-number a x ∙ last .number) (ap (λ (t : Rebuilt). t .frames) (last .state)),
+        settled-invariant d tookDue k q i down (took-stable x) (ap (λ (l : Log). l .records) (took-log x) ∙ quiet) all (h .cursor d) v
+            (last .since) (cursor ∙ last .number) (took-number x ∙ last .number) (ap (λ (t : Rebuilt). t .frames) (last .state)),
       );
     }

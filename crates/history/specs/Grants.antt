@@ -6,7 +6,10 @@ use Prim.Native.Nat.{ℕ, _≤_, _<_}
 use native.Mathlib.Nat.{le-trans}
 use native.Mathlib.Omega.{arith}
 use mathlib.Core.Bool.{Bool}
-use mathlib.Core.Option.{Option, none, some}
+use mathlib.Core.Option.{none, some}
+use mathlib.Core.List.{List, [], _∷_, _++_}
+use Rattle.words.specs.Bytes.{Each, each-nil, each-cons}
+use Rattle.model.specs.Laws.Lists.{each-head, each-tail, each-imp, each-append}
 use lib.ListN.{length}
 use lib.Dec.{eqb}
 use borrow.Author.Tests.{eqb-true}
@@ -29,7 +32,8 @@ use Rattle.model.specs.Laws.Keeps.Clauses.{up-below}
 use Rattle.model.specs.Laws.Codes.Ends.{power-lost}
 use Rattle.model.specs.Moves.{Move, does, Phase, Begun, Noted, Fetched, Replays, Settled, Finished, Selects, checkpoints, resumes, closes, MayPerform, local}
 use Rattle.model.specs.Moves.{taken, Secure, Gives, Guard, notesShown, notesGot, storesRecord, storesFrame, storesHead, storesSelector, givesCopy}
-use Rattle.model.specs.Moves.{passesOwnership, dropsCopies, performs, losesPower, setsFuse, loads, repeatsAccess, takesLast, settles, Moves}
+use Rattle.model.specs.Moves.{TakesCopy, first, behind, passesOwnership, dropsCopies, performs, losesPower, setsFuse, loads, repeatsAccess, takesLast, settles}
+use Rattle.model.specs.Moves.{Moves}
 use Rattle.model.specs.Laws.Moves.{follows-does}
 use Rattle.model.specs.Laws.Moves.Formed.{FormedRun, formed-begun, induct-formed}
 use Rattle.model.specs.Laws.Moves.Calls.{call-moves}
@@ -91,8 +95,8 @@ move-number s _ n (storesSelector b o u v) z c l e =
     let g : t .lost ≡ none = step-none (onBoard b (onWorking restedWorking)) t z in
     step-number t g c _ (onBoard-number b (onWorking restedWorking) (t .bank) refl c (rw (follows-store b storedSelector s .sizes .boards) l))
     ∙ store-number s n c b storedSelector (λ x. refl) g l
-move-number {d} s _ n (givesCopy o p g u m r) z c l e = other-number s n c _ (boardAt-giveCopy-other o d p (s .bank) c e)
-move-number {d} s _ n (passesOwnership o p g v m) z c l e =
+move-number {d} s _ n (givesCopy a o p x y i g u m r) z c l e = other-number s n c _ (boardAt-giveCopy-other o d p (s .bank) c e)
+move-number {d} s _ n (passesOwnership a o p y i g v m) z c l e =
     step-number s n c _
     (ap (λ (x : Board). x .working .number) (boardAt-passOwnership-other o d p (s .bank) c l e) ∙ droppedIf-number _ p (boardAt (s .bank) c))
 move-number s _ n (dropsCopies p i m) z c l e =
@@ -102,20 +106,20 @@ move-number {d} s _ n (losesPower i) z c l e = other-number s n c _ (boardAt-pow
 move-number {d} s _ n (setsFuse m p low high) z c l e = other-number s n c _ (boardAt-other d _ (s .bank) c e)
 move-number {d} s _ n (loads i down) z c l e = other-number s n c _ (boardAt-other d _ (s .bank) c e)
 move-number {d} s _ n (repeatsAccess a y i rep same over) z c l e =
-    other-number s n c _ (boardAt-other d _ (onBoard d (tookDue a) (s .bank)) c e ∙ boardAt-other d (tookDue a) (s .bank) c e)
+    other-number s n c _ (boardAt-other d _ (onBoard d tookDue (s .bank)) c e ∙ boardAt-other d tookDue (s .bank) c e)
 move-number {d} s _ n (takesLast a i rep same over) z c l e = other-number s n c _ (boardAt-other d _ (s .bank) c e)
 move-number {d} s _ n (settles i rep over) z c l e = other-number s n c _ (boardAt-other d _ (s .bank) c e)
 
 -- ==== who gave a page away
 
 -- who gave the caller a page, as far as the call has come
-unfoldable giverSoFar : Phase → Option ℕ
-giverSoFar Begun = none
-giverSoFar (Noted o p) = none
-giverSoFar (Fetched o g p) = some o
-giverSoFar (Replays e) = none
-giverSoFar (Settled e) = none
-giverSoFar (Finished e gave) = gave
+unfoldable giversSoFar : Phase → List ℕ
+giversSoFar Begun = []
+giversSoFar (Noted o p) = []
+giversSoFar (Fetched a os ps) = os
+giversSoFar (Replays e) = []
+giversSoFar (Settled e) = []
+giversSoFar (Finished e gave) = gave
 
 -- what board o had counted in bank k is stable in bank j
 record Recoverable (o : ℕ) (k j : Bank) : Type 0 where
@@ -127,7 +131,7 @@ record Grants (d : ℕ) (k : Bank) (χ : Phase) (s : Run) : Type 0 where
   boards : length (s .bank .boards) ≡ length (k .boards)
   balanced : (c : ℕ) → c < length (k .boards) → Balanced (boardAt (s .bank) c)
   numbers : s .lost ≡ none → (c : ℕ) → c < length (k .boards) → c ≢ d → accessNumber c (s .bank) ≡ accessNumber c k
-  gave : s .lost ≡ none → (o : ℕ) → giverSoFar χ ≡ some o → Recoverable o k (s .bank)
+  gave : s .lost ≡ none → Each (λ o. Recoverable o k (s .bank)) (giversSoFar χ)
 
 -- a board that has stored all that it counted
 secure-point : (x : Board) → Secure x → Balanced x → recoveryPoint x ≡ x .working .number
@@ -139,37 +143,44 @@ giver-recoverable {k = k} s n h o p g =
     let l : o < length (k .boards) = rw (h .boards) at (up-below (s .bank) o (g .secure .up)) in
     record { below = l; stable = omega (arith, secure-point (boardAt (s .bank) o) (g .secure) (h .balanced o l), h .numbers n o l (g .other)) }
 
-performs-given : {a : Access} {gave : Option ℕ} {φ : Phase} → MayPerform a gave φ → giverSoFar φ ≡ gave
-unfolding giverSoFar
+performs-given : {a : Access} {gave : List ℕ} {φ : Phase} → MayPerform a gave φ → giversSoFar φ ≡ gave
+unfolding giversSoFar
 performs-given local = refl
 performs-given taken = refl
 
-selects-none : {d b : ℕ} {φ ψ : Phase} → Selects d b φ ψ → giverSoFar ψ ≡ none
-unfolding giverSoFar
+-- one giver more
+takes-given : {k j : Bank} {a : Access} {o p : ℕ} {φ ψ : Phase} → TakesCopy a o p φ ψ → Each (λ c. Recoverable c k j) (giversSoFar φ) → Recoverable o k j
+    → Each (λ c. Recoverable c k j) (giversSoFar ψ)
+unfolding giversSoFar
+takes-given first e r = each-cons r each-nil
+takes-given {o = o} (behind {os} l) e r = each-append os (o ∷ []) e (each-cons r each-nil)
+
+selects-none : {d b : ℕ} {φ ψ : Phase} → Selects d b φ ψ → giversSoFar ψ ≡ []
+unfolding giversSoFar
 selects-none checkpoints = refl
 selects-none resumes = refl
 selects-none closes = refl
 
 -- when a move makes a giver of a board, what the board had counted is stable already
 move-recoverable : {d : ℕ} {Again : Access → Type 0} {k : Bank} {χ ψ : Phase} (s : Run) (m : Move) → s .lost ≡ none → Guard d Again (s .bank) m χ ψ
-    → Grants d k χ s → (o : ℕ) → giverSoFar ψ ≡ some o → Recoverable o k (s .bank)
-unfolding giverSoFar
-move-recoverable s _ n (notesShown b p u m l) h o e = lost-not refl e
-move-recoverable s _ n (notesGot x p u m l r) h o e = lost-not refl e
-move-recoverable s _ n (storesRecord b x u) h o e = h .gave n o e
-move-recoverable s _ n (storesFrame b p x u) h o e = h .gave n o e
-move-recoverable s _ n (storesHead b x u) h o e = h .gave n o e
-move-recoverable s _ n (storesSelector b x u v) h o e = lost-not (selects-none x) e
-move-recoverable s _ n (givesCopy x p g u m r) h o e = let i : x ≡ o = cc in rw (← i) (giver-recoverable s n h x p g)
-move-recoverable s _ n (passesOwnership x p g v m) h o e = let i : x ≡ o = cc in rw (← i) (giver-recoverable s n h x p g)
-move-recoverable s _ n (dropsCopies p l m) h o e = lost-not refl e
-move-recoverable s _ n (performs a i can has out) h o e = h .gave n o (performs-given i ∙ e)
-move-recoverable s _ n (losesPower l) h o e = lost-not refl e
-move-recoverable s _ n (setsFuse m p low high) h o e = lost-not refl e
-move-recoverable s _ n (loads l down) h o e = lost-not refl e
-move-recoverable s _ n (repeatsAccess a z i rep same over) h o e = lost-not refl e
-move-recoverable s _ n (takesLast a i rep same over) h o e = lost-not refl e
-move-recoverable s _ n (settles l rep over) h o e = lost-not refl e
+    → Grants d k χ s → Each (λ o. Recoverable o k (s .bank)) (giversSoFar ψ)
+unfolding giversSoFar
+move-recoverable s _ n (notesShown b p u m l) h = each-nil
+move-recoverable s _ n (notesGot x p u m l r) h = each-nil
+move-recoverable s _ n (storesRecord b x u) h = h .gave n
+move-recoverable s _ n (storesFrame b p x u) h = h .gave n
+move-recoverable s _ n (storesHead b x u) h = h .gave n
+move-recoverable s _ n (storesSelector b x u v) h = rw (selects-none x) each-nil
+move-recoverable s _ n (givesCopy a o p x c i g u m r) h = takes-given x (h .gave n) (giver-recoverable s n h o p g)
+move-recoverable s _ n (passesOwnership a o p c i g v m) h = each-cons (giver-recoverable s n h o p g) each-nil
+move-recoverable s _ n (dropsCopies p l m) h = each-nil
+move-recoverable s _ n (performs a i can has out) h = rw (performs-given i) at (h .gave n)
+move-recoverable s _ n (losesPower l) h = each-nil
+move-recoverable s _ n (setsFuse m p low high) h = each-nil
+move-recoverable s _ n (loads l down) h = each-nil
+move-recoverable s _ n (repeatsAccess a z i rep same over) h = each-nil
+move-recoverable s _ n (takesLast a i rep same over) h = each-nil
+move-recoverable s _ n (settles l rep over) h = each-nil
 
 -- and no move takes that back
 move-grants : {d : ℕ} {Again : Access → Type 0} {k : Bank} {χ ψ : Phase} (s : Run) (m : Move) → s .lost ≡ none → Guard d Again (s .bank) m χ ψ
@@ -180,21 +191,23 @@ move-grants {d} {k = k} {χ = χ} {ψ = ψ} s m n g f h =
       boards = follows-does m s .sizes .boards ∙ h .boards;
       balanced = λ c l. changes-balanced (a .bank .boards c (rw (h .boards) l) .changes) (h .balanced c l);
       numbers = λ z c l e. move-number s m n g z c (rw (h .boards) l) e ∙ h .numbers n c l e;
-      gave = λ z o e.
-          let t : Recoverable o k (s .bank) = move-recoverable s m n g h o e in
+      gave = λ z.
+          each-imp (giversSoFar ψ)
+          (λ o t.
           record {
             below = t .below;
             stable = le-trans (t .stable) (changes-rise (a .bank .boards o (rw (h .boards) (t .below)) .changes) (h .balanced o (t .below)));
-          };
+          })
+          (move-recoverable s m n g h);
     }
 
 -- a phase in which nobody gave
-nobody-grants : {d : ℕ} {k : Bank} {χ ψ : Phase} (s : Run) → giverSoFar ψ ≡ none → Grants d k χ s → Grants d k ψ s
-nobody-grants s i h = record { boards = h .boards; balanced = h .balanced; numbers = h .numbers; gave = λ n o e. lost-not i e }
+nobody-grants : {d : ℕ} {k : Bank} {χ ψ : Phase} (s : Run) → giversSoFar ψ ≡ [] → Grants d k χ s → Grants d k ψ s
+nobody-grants s i h = record { boards = h .boards; balanced = h .balanced; numbers = h .numbers; gave = λ n. rw i each-nil }
 
 moves-grant : {d : ℕ} {Again : Access → Type 0} {χ : Phase} {k : Bank} {s : Run} → Moves d Again Begun (start k) χ s → WellFormed k → Counted k
     → Grants d k χ s
-unfolding start giverSoFar
+unfolding start giversSoFar
 moves-grant {d} {k = k} t w h =
     induct-formed (Grants d k)
     (λ χ ψ s m n g f v. move-grants s m n g f)
@@ -202,30 +215,27 @@ moves-grant {d} {k = k} t w h =
     (λ s. nobody-grants s refl)
     (λ χ ψ s c e i. record { boards = i .boards; balanced = i .balanced; numbers = λ n. lost-not n e; gave = λ n. lost-not n e })
     t (formed-begun d (start k) w)
-    (record { boards = refl; balanced = λ c l. h c l .balanced; numbers = λ n c l e. refl; gave = λ n o e. lost-not refl e })
+    (record { boards = refl; balanced = λ c l. h c l .balanced; numbers = λ n c l e. refl; gave = λ n. each-nil })
 
 -- ==== any call
 
-gave-stable : (c : Call) (k : Bank) → WellFormed k → Counted k → (o : ℕ) → gaveIn (eventOf c (callBank c k .answer)) k ≡ some o
-    → accessNumber o k ≤ recoveryPoint (boardAt (callBank c k .run .bank) o)
-unfolding giverSoFar eventOf gaveIn
-gave-stable c k w h o e =
+gave-stable : (c : Call) (k : Bank) → WellFormed k → Counted k
+    → Each (λ o. accessNumber o k ≤ recoveryPoint (boardAt (callBank c k .run .bank) o)) (gaveIn (eventOf c (callBank c k .answer) (callBank c k .given)) k)
+unfolding giversSoFar eventOf gaveIn
+gave-stable c k w h =
     byOption (callBank c k .run .lost)
-    (λ n. moves-grant (call-moves c k w) w h .gave n o e .stable)
-    (λ b l.
-    let p : callBank c k .answer ≡ PowerLost b = power-lost c k b .1 l in
-    let z : gaveIn (eventOf c (PowerLost b)) k ≡ some o = rw p at e in
-    lost-not refl z)
+    (λ n. each-imp _ (λ o t. t .stable) (moves-grant (call-moves c k w) w h .gave n))
+    (λ b l. rw (power-lost c k b .1 l) each-nil)
 
--- the giver of this call, if it is board b, and what b gave before
-granted-below : (o : Option ℕ) (k : Bank) (granted : ℕ → ℕ) (b n : ℕ) → granted b ≤ n → (o ≡ some b → boardAt k b .working .number ≤ n)
-    → grantedAfter o k granted b ≤ n
+-- the givers of this call, if board b is one, and what b gave before
+granted-below : (os : List ℕ) (k : Bank) (granted : ℕ → ℕ) (b n : ℕ) → granted b ≤ n → Each (λ o. o ≡ b → boardAt k b .working .number ≤ n) os
+    → grantedAfter os k granted b ≤ n
 unfolding grantedAfter withNumberOf
-granted-below none k granted b n h g = h
-granted-below (some o) k granted b n h g =
+granted-below [] k granted b n h g = h
+granted-below (o ∷ os) k granted b n h g =
     cases (λ (m : ℕ). m ≤ n) (eqb b o)
-    (λ t. let e : b ≡ o = eqb-true b o t in rw (← e) (g (ap some (sym e))))
-    (λ t. h)
+    (λ t. let e : b ≡ o = eqb-true b o t in rw (← e) (each-head g (sym e)))
+    (λ t. granted-below os k granted b n h (each-tail g))
 
 -- "the stand points are as demanded": none is below its board's access number when it last gave a page away, in this call or in one before
 pub call-grants : (c : Call) (k : Bank) (granted : ℕ → ℕ) → WellFormed k → Counted k
@@ -234,6 +244,6 @@ pub call-grants : (c : Call) (k : Bank) (granted : ℕ → ℕ) → WellFormed k
 unfolding grantsAfter
 call-grants c k granted w h g b l =
     let i : b < length (k .boards) = rw (call-advances c k w .sizes .boards) at l in
-    granted-below (gaveIn (eventOf c (callBank c k .answer)) k) k granted b (recoveryPoint (boardAt (callBank c k .run .bank) b))
+    granted-below (gaveIn (eventOf c (callBank c k .answer) (callBank c k .given)) k) k granted b (recoveryPoint (boardAt (callBank c k .run .bank) b))
     (le-trans (g b i) (recovery-rises c k w h b i))
-    (gave-stable c k w h b)
+    (each-imp _ (λ o t e. rw e at t) (gave-stable c k w h))

@@ -19,7 +19,7 @@ use Rattle.model.specs.Definitions.Parts.{member}
 use Rattle.model.specs.Definitions.Bank.{Entry, Board, Bank, boardAt, frameAt, entryIn}
 use Rattle.model.specs.Definitions.Codec.{pageOf}
 use Rattle.model.specs.Definitions.WellFormed.{WellFormed, isGot}
-use Rattle.model.specs.Definitions.Steps.{Cell, cellsRead, cellsWritten}
+use Rattle.model.specs.Definitions.Steps.{cellsWritten, anyWrite, names}
 use Rattle.model.specs.Definitions.Replay.{countSum, recoveryPoint, recordsLeft}
 use Rattle.model.specs.History.Statement.{HistoryEntry, History, ofBoard, discard, Memory, zeroMemory, written, OneMemory}
 use Rattle.history.specs.Rerun.{Rebuilt, Accepted, final, checkpointed, stableTrace, rebuilt, volatileTrace, traceLeft}
@@ -31,19 +31,11 @@ unfoldable pub memoryAfter : Memory → List HistoryEntry → Memory
 memoryAfter m [] = m
 memoryAfter m (e ∷ es) = memoryAfter (written (cellsWritten (e .access)) m) es
 
-unfoldable pub anyCell : List Cell → ℕ → Bool
-anyCell [] p = false
-anyCell (c ∷ cs) p = eqb (c .page) p || anyCell cs p
-
-unfoldable pub anyWrite : List (Cell × ℕ) → ℕ → Bool
-anyWrite [] p = false
-anyWrite (w ∷ ws) p = eqb (w .0 .page) p || anyWrite ws p
-
 unfoldable pub writesPage : HistoryEntry → ℕ → Bool
 writesPage e p = anyWrite (cellsWritten (e .access)) p
 
 unfoldable pub touchesPage : HistoryEntry → ℕ → Bool
-touchesPage e p = anyCell (cellsRead (e .access)) p || writesPage e p
+touchesPage e p = names (e .access) p
 
 -- whether board b wrote page p past the first n of its entries: a power loss at recovery point n takes that write back
 unfoldable pub unstableWrite : ℕ → ℕ → ℕ → List HistoryEntry → Bool

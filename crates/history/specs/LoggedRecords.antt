@@ -23,7 +23,7 @@ use Rattle.model.specs.Definitions.Replay.{recoveryPoint}
 use Rattle.model.specs.Laws.Logic.{byOption}
 use Rattle.model.specs.Laws.Lists.{each-imp, each-append, each-tail}
 use Rattle.model.specs.History.Statement.{HistoryEntry, History, ofBoard, discard, Memory, zeroMemory}
-use Rattle.history.specs.Rerun.{Rebuilt, Logged, logged, next, Accepts, MayLog, rebuilt, unstableEntries}
+use Rattle.history.specs.Rerun.{Rebuilt, Logged, logged, next, Joins, Accepts, MayLog, rebuilt, unstableEntries}
 use Rattle.history.specs.Invariant.{memoryAfter, CountsAgree, VolatileExplains, settledAs, Explains, isShown, BoardInvariant}
 use Rattle.history.specs.Entries.{discard-all}
 use Rattle.history.specs.Unstable.{exclusive-lower, unstableWrite-lower}
@@ -112,9 +112,9 @@ module _ {d : List Entry} {h : History} {g g' : Option Rebuilt} {b : ℕ} {x : B
 -- a shown is logged where nothing is ahead
 pub shown-holds : {d : List Entry} {h : History} {b : ℕ} {x : Board} (p : ℕ) (bytes : List ℕ) → BoardInvariant d h none b x → x .state ≡ Up
     → BoardInvariant d h none b (onWorking (recorded (Shown p) bytes) x)
-unfolding settledAs Accepts MayLog next logged onWorking recorded isShown
+unfolding settledAs Accepts Joins MayLog next logged onWorking recorded isShown
 shown-holds p bytes q u =
-    recorded-holds q u (Shown p) bytes (refl, tt) (λ o. refl) refl (λ r t j w. let z : _≡_ {A = ℕ} 0 1 = cc in absurd (omega arith))
+    recorded-holds q u (Shown p) bytes (tt, tt) (λ o. refl) refl (λ r t j w. let z : _≡_ {A = ℕ} 0 1 = cc in absurd (omega arith))
 
 -- ==== the oldest volatile record is stored
 

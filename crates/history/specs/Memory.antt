@@ -12,9 +12,9 @@ use lib.Dec.{eqb}
 use borrow.Author.Tests.{eqb-false, eq-eqb, ne-eqb}
 use Rattle.model.specs.Laws.Logic.{byBool}
 use Rattle.model.specs.Laws.Lists.{each-head, each-tail}
-use Rattle.model.specs.Definitions.Steps.{Cell, cellsRead, cellsWritten}
+use Rattle.model.specs.Definitions.Steps.{Cell, cellsRead, cellsWritten, anyCell, anyWrite, names}
 use Rattle.model.specs.History.Statement.{HistoryEntry, ofBoard, discard, Memory, byteIn, written, OneMemory}
-use Rattle.history.specs.Invariant.{memoryAfter, anyCell, anyWrite, writesPage, touchesPage, unstableWrite, OnlyBy, Exclusive}
+use Rattle.history.specs.Invariant.{memoryAfter, writesPage, touchesPage, unstableWrite, OnlyBy, Exclusive}
 use Rattle.history.specs.Entries.{byEntries}
 use Rattle.history.specs.Unstable.{or-false-left, or-false-right, or-true-left, or-true-right, writes-touches}
 
@@ -91,7 +91,7 @@ bytes-agree m m' (c ∷ cs) h =
 
 pub reads-agree : (m m' : Memory) (e : HistoryEntry) → ((p : ℕ) → touchesPage e p ≡ true → m p ≡ m' p)
     → map (byteIn m) (cellsRead (e .access)) ≡ map (byteIn m') (cellsRead (e .access))
-unfolding touchesPage
+unfolding touchesPage names anyCell anyWrite writesPage
 reads-agree m m' e h =
     bytes-agree m m' (cellsRead (e .access)) (λ p t. h p (or-true-left (anyCell (cellsRead (e .access)) p) (writesPage e p) t))
 

@@ -6,35 +6,37 @@ use Prim.Native.Nat.{ℕ, _+_, _<_}
 use native.Mathlib.Omega.{arith}
 use mathlib.Core.Bool.{true, false}
 use mathlib.Core.Option.{Option, none, some}
-use mathlib.Core.List.{List, []}
+use mathlib.Core.List.{List, [], _∷_, _++_, map, map-append}
 use lib.ListN.{length, set, getElem?}
 use native.Mathlib.Decide.{decLt}
 use lib.Dec.{eqb}
 use borrow.Author.Tests.{le-ltb, lt-ltb, eqb-true, not-false}
 use Rattle.words.specs.Bytes.{Each, each-nil, each-cons}
-use Rattle.types.specs.declared.Right.the-variants.{Own}
+use Rattle.types.specs.declared.Right.the-variants.{None, Own}
 use Rattle.types.specs.declared.Frame.{Frame}
-use Rattle.types.specs.declared.CopyOrOwn.{CopyOrOwn}
-use Rattle.types.specs.declared.CopyOrOwn.the-variants.{GotOwn}
+use Rattle.types.specs.declared.CopyOrOwn.the-variants.{GotCopy, GotOwn}
 use Rattle.types.specs.declared.Kind.{Kind}
 use Rattle.types.specs.declared.Kind.the-variants.{Got}
+use Rattle.types.specs.declared.Record.{Record}
 use Rattle.types.specs.declared.State.{State}
 use Rattle.types.specs.declared.State.the-variants.{Up, Down, Replaying}
 use Rattle.types.specs.declared.Answer.the-variants.{Done}
-use Rattle.model.specs.Definitions.Bank.{Entry, Log, Working, onSpare, Board, Bank, boardAt, entryAt, onBoard, onWorking, entryIn}
+use Rattle.model.specs.Definitions.Bank.{Entry, Log, Working, onSpare, Board, Bank, boardAt, entryAt, onBoard, onWorking, onFrames, entryIn}
+use Rattle.model.specs.Definitions.Codec.{pageOf}
 use Rattle.model.specs.Definitions.WellFormed.{WellFormed}
 use Rattle.model.specs.Definitions.Steps.{Run, start, step, poweredOff, powerOff, burnt, withFuse, store, recorded, note, movedRecord, storedRecord}
-use Rattle.model.specs.Definitions.Steps.{storedFrame, storedHead, storedSelector, restedWorking, Access, Read, Write, pageNamed, valueOf, access, frameOf}
+use Rattle.model.specs.Definitions.Steps.{storedFrame, storedHead, storedSelector, restedWorking, Access, Read, Write, ReadCells, cellsWritten, anyWrite}
+use Rattle.model.specs.Definitions.Steps.{names, takes, readFrom, access, withFrame, frameOf, giveCopy}
 use Rattle.model.specs.Definitions.Replay.{recoveryPoint, loaded, usedUp, differs, tookDue, replayOver, replayed, settle}
-use Rattle.model.specs.Definitions.Calls.{Call, callBank, copiesOut, lackingOf}
+use Rattle.model.specs.Definitions.Calls.{Call, callBank, pageWritten, copiesOut, lackingOf}
 use Rattle.model.specs.Contracts.{Entered, CanAccess}
 use Rattle.model.specs.Moves.{Move, does, Phase, Begun, Noted, Fetched, Replays, Settled, Finished, MayStore, anyone, taker, ender, Selects, checkpoints}
 use Rattle.model.specs.Moves.{resumes, closes, MayPerform, local, taken, Secure, Guard, notesShown, notesGot, storesRecord, storesFrame, storesHead}
-use Rattle.model.specs.Moves.{storesSelector, givesCopy, passesOwnership, dropsCopies, performs, losesPower, setsFuse, loads, repeatsAccess, takesLast, settles}
-use Rattle.model.specs.Moves.{Moves}
+use Rattle.model.specs.Moves.{storesSelector, givesCopy, passesOwnership, dropsCopies, performs, losesPower, setsFuse, loads, repeatsAccess, takesLast}
+use Rattle.model.specs.Moves.{settles, Moves, TakesCopy, first, behind, Gives}
 use Rattle.model.specs.Laws.Logic.{byOption, byEq, clash}
 use Rattle.model.specs.Laws.Boards.{onBoard-out, boardAt-same, boardAt-other, boards-onBoard, onBoard-onBoard, boardAt-powerOff-same, powerOff-onBoard}
-use Rattle.model.specs.Laws.Boards.{frameAt-same, tookDue-state, replayed-state}
+use Rattle.model.specs.Laws.Boards.{frameAt-same, tookDue-state, replayed-state, tookCopy, boardAt-giveCopy-same}
 use Rattle.model.specs.Laws.Runs.{lost-not, step-cases, store-cases}
 use Rattle.model.specs.Laws.Runs.Stores.{burnt-working, flushed-storedRecord}
 use Rattle.model.specs.Laws.Keeps.Clauses.{fits, onBoard-keeps, up-below, up-not-down, up-not-replaying}
@@ -43,26 +45,28 @@ use Rattle.model.specs.Laws.Keeps.Checkpoint.{storedFrame-fits, storedHead-fits
 use Rattle.model.specs.Laws.Moves.Formed.{FormedIn, FormedRun, formed-begun, selects-stores, run-formed, induct-formed}
 use Rattle.model.specs.Laws.Moves.Calls.{feeds, call-moves}
 use Rattle.model.specs.Laws.Codes.Ends.{power-lost}
-use Rattle.model.specs.Laws.Lists.{each-imp}
+use Rattle.model.specs.Laws.Lists.{each-head, each-tail, each-append}
+use Rattle.model.specs.Laws.Codes.Order.{never}
 use Rattle.model.specs.Laws.Codes.Statement.{boardNamed}
 use Rattle.model.specs.Definitions.Answers.{code}
-use Rattle.model.specs.History.Statement.{HistoryEntry, History, ofBoard, entryCount, repeats, withNumberOf, bytesFrom, withEntry, nextEntry, Event, Accessed}
+use Rattle.model.specs.History.Statement.{HistoryEntry, History, ofBoard, entryCount, repeats, withNumberOf, withEntry, nextEntry, Event, Accessed}
 use Rattle.model.specs.History.Statement.{Restarted, LostPower, Nothing, eventOf, fed, accessOf, zeroMemory}
 use Rattle.model.specs.History.Banks.{historyAfter}
-use Rattle.history.specs.Rerun.{Rebuilt, Serves}
+use Rattle.history.specs.Rerun.{Rebuilt, Serves, Joins}
 use Rattle.history.specs.Invariant.{CountsAgree, Explains, ReplayExplains, BoardInvariant, Invariant, memoryAfter, writesPage, settledAs, nobody, onlyOf}
 use Rattle.history.specs.View.{SameView, view-holds}
 use Rattle.history.specs.Lift.{onBoard-invariant}
 use Rattle.history.specs.PowerLoss.{lostAt}
 use Rattle.history.specs.Traces.{next-exists, next-none}
-use Rattle.history.specs.Unstable.{read-writes-none, writes-named}
+use Rattle.history.specs.Unstable.{writes-own}
 use Rattle.history.specs.Rights.{quiet-page, onlyOf-same, onlyOf-other}
 use Rattle.history.specs.Copies.{readerAhead, giveCopy-invariant, dropCopies-invariant}
-use Rattle.history.specs.Ownership.{writerAhead, gotOwn-invariant, taker-frames, passOwnership-invariant}
+use Rattle.history.specs.Ownership.{writerAhead, gotOwn-invariant, taker-frames, taker-since, passOwnership-invariant}
+use Rattle.history.specs.Logging.{newRecord}
 use Rattle.history.specs.Replaying.{restarted-allUsed, usedUp-number, usedUp-log}
 use Rattle.history.specs.Repeating.{Repeated, took-last, took-below, repeated, replayed-number, replayed-stable, replayed-log}
 use Rattle.history.specs.LoggedRecords.{counts-up, owner-frame}
-use Rattle.history.specs.Accesses.{entryOf, grown, bytes-read, cursor-same, cursor-other, MayAccess, access-invariant}
+use Rattle.history.specs.Accesses.{entryOf, grown, cursor-same, cursor-other, MayAccess, access-invariant}
 use Rattle.history.specs.Restarts.{moved, cursors-invariant}
 use Rattle.history.specs.CallsInProgress.{RunMeets, OnlyAhead, nobody-ahead, step-meets, MayLosePower, may-lose, loses-power, burnt-view, all-stable}
 use Rattle.history.specs.CallsInProgress.{none-unstable, storedRecord-invariant, shown-invariant}
@@ -73,7 +77,7 @@ use Rattle.history.specs.Endings.{ReplayStep, used-step, last-step}
 
 -- "each repeated read answered 0 gave its line's byte", of what a call feeds to the history
 unfoldable pub Agrees : Event → History → Type 0
-Agrees (Accessed b a v) h = (e : HistoryEntry) → nextEntry b h ≡ some e → e .bytesRead ≡ bytesFrom a v
+Agrees (Accessed b a bytes) h = (e : HistoryEntry) → nextEntry b h ≡ some e → e .bytesRead ≡ bytes
 Agrees (Restarted b v) h = Unit
 Agrees (LostPower b) h = Unit
 Agrees Nothing h = Unit
@@ -90,13 +94,18 @@ module _ (d : ℕ) (h : History) where
     pub ahead : Rebuilt
     pub holds : Invariant (onlyOf d ahead) k h
     pub frames : ahead .frames ≡ set (boardAt k d .working .frames) p (record { right = Own; bytes = frameOf k o p .bytes })
-    pub pending : Each (λ r. r .kind ≡ Got GotOwn p) (ahead .pending)
+    pub got : Record
+    pub kind : got .kind ≡ Got GotOwn p
+    pub pending : ahead .pending ≡ got ∷ []
 
-  pub record PageFetched (g : CopyOrOwn) (p : ℕ) (k : Bank) : Type 0 where
+  -- the gots of the pages fetched are pending, in their order, and no access was counted since
+  pub record PagesFetched (a : Access) (ps : List ℕ) (k : Bank) : Type 0 where
     pub ahead : Rebuilt
     pub holds : Invariant (onlyOf d ahead) k h
     pub frames : ahead .frames ≡ boardAt k d .working .frames
-    pub pending : Each (λ r. r .kind ≡ Got g p) (ahead .pending)
+    pub pending : Each (λ r. Serves a (r .kind)) (ahead .pending)
+    pub pages : map (λ (r : Record). pageOf (r .kind)) (ahead .pending) ≡ ps
+    pub since : boardAt k d .working .since ≡ 0
 
   pub record ReplayGoes (e : Event) (k : Bank) : Type 0 where
     pub sets : SetsCursor d h e
@@ -114,7 +123,7 @@ module _ (d : ℕ) (h : History) where
   unfoldable pub HoldsIn : Phase → Bank → Type 0
   HoldsIn Begun k = Invariant nobody k h
   HoldsIn (Noted o p) k = GotNoted o p k
-  HoldsIn (Fetched o g p) k = PageFetched g p k
+  HoldsIn (Fetched a os ps) k = PagesFetched a ps k
   HoldsIn (Replays e) k = ReplayGoes e k
   HoldsIn (Settled e) k = ReplayEnded e k
   HoldsIn (Finished e o) k = CallOver e k
@@ -145,7 +154,7 @@ opens {d} {b} {h} k (taker {o} {p}) q =
       holds = q .holds;
       only = onlyOf-other d (q .ahead);
       again = λ j s i.
-          record { ahead = q .ahead; holds = i; frames = rw (s d, s o) (q .frames); pending = q .pending };
+          record { ahead = q .ahead; holds = i; frames = rw (s d, s o) (q .frames); got = q .got; kind = q .kind; pending = q .pending };
       lost = λ n j u i. i;
     }
 opens {d} {b} {h} k (ender {e}) q =
@@ -204,7 +213,7 @@ stored-meets {d} {h} {φ} b f s n w l same o i =
 
 -- a board that repeats nothing makes a new entry
 fed-new : (b : ℕ) (a : Access) (k : Bank) (fs : List Frame) (h : History) → h .cursor b ≡ length (ofBoard b (h .entries))
-    → fed (Accessed b a (valueOf a fs)) k h ≡ grown b (entryOf b a fs) h
+    → fed (Accessed b a (readFrom a fs)) k h ≡ grown b (entryOf b a fs) h
 unfolding fed grown entryOf withEntry repeats entryCount
 fed-new b a k fs h e = cc (le-ltb (h .cursor b) (length (ofBoard b (h .entries))) (omega arith))
 
@@ -219,16 +228,16 @@ no-entry b h e n c =
 -- where no copy is out, none is of a page that is written
 no-copies : (a : Access) (k : Bank) (e : HistoryEntry) (p : ℕ) → copiesOut a k ≡ false → e .access ≡ a → writesPage e p ≡ true
     → entryIn (k .directory) p .copies ≡ 0
-unfolding copiesOut entryAt pageNamed
-no-copies (Read q o) k e p n s w = clash w (read-writes-none e q o p s)
+unfolding copiesOut entryAt writesPage anyWrite cellsWritten pageWritten
+no-copies (Read q o) k e p n s w = let z : _≡_ {A = ℕ} 0 1 = cc in absurd (omega arith)
 no-copies (Write q o v) k e p n s w =
-    let z : pageNamed (e .access) ≡ p = writes-named e p w in
-    let y : q ≡ p = ap pageNamed (sym s) ∙ z in
+    let y : pageWritten (Write q o v) ≡ p = writes-own (Write q o v) p (rw s at w) .1 in
     ap (λ (i : ℕ). entryIn (k .directory) i .copies) (sym y) ∙ eqb-true (entryAt k q .copies) 0 (not-false (eqb (entryAt k q .copies) 0) n)
+no-copies (ReadCells cells outLength) k e p n s w = let z : _≡_ {A = ℕ} 0 1 = cc in absurd (omega arith)
 
 performed-over : {g : ℕ → Option Rebuilt} {h : History} (d : ℕ) (a : Access) (k : Bank) → Invariant g k h → OnlyAhead g d → d < length (k .boards)
     → MayAccess (k .directory) (g d) d a (boardAt k d) → WellFormed (access d a k)
-    → CallOver d h (Accessed d a (valueOf a (boardAt k d .working .frames))) (access d a k)
+    → CallOver d h (Accessed d a (readFrom a (boardAt k d .working .frames))) (access d a k)
 unfolding nobody Agrees
 performed-over {g} {h} d a k q only l m w =
     let fs : List Frame = boardAt k d .working .frames in
@@ -238,24 +247,24 @@ performed-over {g} {h} d a k q only l m w =
       agrees = λ e n. no-entry d h e n at-end;
     }
 
-begins-over : {d : ℕ} {a : Access} {gave : Option ℕ} {φ : Phase} {h : History} (k : Bank) → MayPerform a gave φ → HoldsIn d h φ k
+begins-over : {d : ℕ} {a : Access} {gave : List ℕ} {φ : Phase} {h : History} (k : Bank) → MayPerform a gave φ → HoldsIn d h φ k
     → CanAccess d a k → lackingOf d a k ≡ false → copiesOut a k ≡ false → WellFormed (access d a k)
-    → CallOver d h (Accessed d a (valueOf a (boardAt k d .working .frames))) (access d a k)
+    → CallOver d h (Accessed d a (readFrom a (boardAt k d .working .frames))) (access d a k)
 unfolding HoldsIn lackingOf settledAs nobody Serves
 begins-over {d} {a} k local q can has out w =
     performed-over d a k q (nobody-ahead d) (up-below k d (can .up))
-    (record { up = can .up; page = can .page; has = has; alone = λ e p s t. no-copies a k e p out s t; shows = refl; fits = each-nil })
+    (record { up = can .up; pages = can .pages; has = has; alone = λ e p s t. no-copies a k e p out s t; shows = refl; fits = each-nil })
     w
 begins-over {d} {a} k taken q can has out w =
     performed-over d a k (q .holds) (onlyOf-other d (q .ahead)) (up-below k d (can .up))
     (rw (onlyOf-same d (q .ahead))
     (record {
       up = can .up;
-      page = can .page;
+      pages = can .pages;
       has = has;
       alone = λ e p s t. no-copies a k e p out s t;
       shows = q .frames;
-      fits = each-imp (q .ahead .pending) (λ r e. rw e (refl, refl)) (q .pending);
+      fits = q .pending;
     }))
     w
 
@@ -351,7 +360,7 @@ module _ (d : ℕ) (a : Access) (k : Bank) {h : History} (q : Invariant nobody k
   not-up u = up-not-replaying u rep
 
   -- the due got was the last record: nothing is fed to the history yet
-  last-goes : replayOver (tookDue a x) ≡ true → ReplayGoes d h Nothing (onBoard d (tookDue a) k)
+  last-goes : replayOver (tookDue x) ≡ true → ReplayGoes d h Nothing (onBoard d tookDue k)
   unfolding fed moved Agrees
   last-goes o =
       record {
@@ -361,41 +370,41 @@ module _ (d : ℕ) (a : Access) (k : Bank) {h : History} (q : Invariant nobody k
               feeds = λ j v. cursors-invariant j (moved d (h .cursor d) h) (h .cursor) v (λ c l. inl (sym (cursor-again d h c)));
               agrees = tt;
             };
-        step = last-step d a k q (i .board) not-up quiet (counts .1) o (counts .0) (took-last a x fit es explains (counts .1) o);
+        step = last-step d k q (i .board) not-up quiet (counts .1) o (counts .0) (took-last x es explains (counts .1) o);
       }
 
   -- the replay goes on: the access repeats its next entry
-  module _ (o : replayOver (tookDue a x) ≡ false) (premise : (e : HistoryEntry) → nextEntry d h ≡ some e → e .access ≡ a) where
+  module _ (o : replayOver (tookDue x) ≡ false) (premise : (e : HistoryEntry) → nextEntry d h ≡ some e → e .access ≡ a) where
     below : h .cursor d < length es
-    below = rw (counts .0) (took-below a x fit es explains (counts .1) o)
+    below = rw (counts .0) (took-below x es explains (counts .1) o)
 
     again : (e : HistoryEntry) → nextEntry d h ≡ some e → Repeated a x es e
     unfolding nextEntry
-    again e n = repeated a x fit es explains (counts .1) o e (rw (counts .0) at n) (premise e n)
+    again e n = repeated x es explains (counts .1) a o e (rw (counts .0) at n) (premise e n)
 
     -- it is no new entry
-    fed-again : (v : ℕ) (j : Bank) → fed (Accessed d a v) j h ≡ moved d (replayed a (tookDue a x) .working .number) h
+    fed-again : (bytes : List ℕ) (j : Bank) → fed (Accessed d a bytes) j h ≡ moved d (replayed a (tookDue x) .working .number) h
     unfolding fed withEntry moved repeats entryCount
-    fed-again v j =
-        let n : replayed a (tookDue a x) .working .number ≡ h .cursor d + 1 = replayed-number a x ∙ ap (λ (m : ℕ). m + 1) (sym (counts .0)) in
+    fed-again bytes j =
+        let n : replayed a (tookDue x) .working .number ≡ h .cursor d + 1 = replayed-number x a ∙ ap (λ (m : ℕ). m + 1) (sym (counts .0)) in
         cc (lt-ltb (h .cursor d) (length es) below, n)
 
-    repeated-goes : ReplayGoes d h (Accessed d a (valueOf a (tookDue a x .working .frames))) (onBoard d (replayed a) (onBoard d (tookDue a) k))
-    unfolding Agrees nextEntry
+    repeated-goes : ReplayGoes d h (Accessed d a (readFrom a (tookDue x .working .frames))) (onBoard d (replayed a) (onBoard d tookDue k))
+    unfolding Agrees nextEntry readFrom
     repeated-goes =
         let next : (e : HistoryEntry) × (getElem? es (h .cursor d) ≡ some e) = next-exists es (h .cursor d) below in
         record {
           sets =
               record {
-                cursor = replayed a (tookDue a x) .working .number;
-                feeds = λ j v. rw (fed-again (valueOf a (tookDue a x .working .frames)) j) v;
-                agrees = λ e n. again e n .bytes ∙ sym (bytes-read a (tookDue a x .working .frames));
+                cursor = replayed a (tookDue x) .working .number;
+                feeds = λ j v. rw (fed-again (readFrom a (tookDue x .working .frames)) j) v;
+                agrees = λ e n. again e n .bytes;
               };
           step =
-              rw (onBoard-onBoard d (tookDue a) (replayed a) k)
-              (used-step d (λ y. replayed a (tookDue a y)) k q (i .board) not-up (replayed-stable a x)
-              (ap (λ (l : Log). l .records) (replayed-log a x) ∙ quiet) (counts .1)
-              (replayed-state a (tookDue a x) ∙ tookDue-state a x ∙ rep) (again (next .0) (next .1) .after));
+              rw (onBoard-onBoard d tookDue (replayed a) k)
+              (used-step d (λ y. replayed a (tookDue y)) k q (i .board) not-up (replayed-stable x a)
+              (ap (λ (l : Log). l .records) (replayed-log x a) ∙ quiet) (counts .1)
+              (replayed-state a (tookDue x) ∙ tookDue-state x ∙ rep) (again (next .0) (next .1) .after));
         }
 
 -- ==== each move
@@ -417,8 +426,93 @@ selected-holds-in h k checkpoints q j i = i
 selected-holds-in h k resumes q j i = q .sets .feeds j i
 selected-holds-in h k closes q j i = record { holds = q .sets .feeds j i; agrees = q .sets .agrees }
 
-waits-holds : {d : ℕ} {h : History} (e : Event) (s : Run) → replayOver (boardAt (s .bank) d) ≡ false → FormedRun d (Finished e none) s
-    → RunMeets (HoldsIn d h (Replays e)) h s → RunMeets (HoldsIn d h (Finished e none)) h s
+-- what a copy finds in its phase: the gots that are pending, if any, are of lower pages
+record Copying (d : ℕ) (h : History) (a : Access) (p : ℕ) (k : Bank) : Type 0 where
+  ahead : ℕ → Option Rebuilt
+  holds : Invariant ahead k h
+  only : OnlyAhead ahead d
+  shows : settledAs (ahead d) (boardAt k d) .frames ≡ boardAt k d .working .frames
+  pending : Each (λ r. Serves a (r .kind)) (settledAs (ahead d) (boardAt k d) .pending)
+  lower : Each (λ (r : Record). pageOf (r .kind) < p) (settledAs (ahead d) (boardAt k d) .pending)
+  since : settledAs (ahead d) (boardAt k d) .pending ≢ [] → boardAt k d .working .since ≡ 0
+
+lower-pages : (p : ℕ) (rs : List Record) (ps : List ℕ) → map (λ (r : Record). pageOf (r .kind)) rs ≡ ps → Each (λ q. q < p) ps
+    → Each (λ (r : Record). pageOf (r .kind) < p) rs
+lower-pages p [] ps e l = each-nil
+lower-pages p (r ∷ rs) [] e l = never (cc)
+lower-pages p (r ∷ rs) (q ∷ ps) e l =
+    let i : pageOf (r .kind) ≡ q = cc in
+    let here : pageOf (r .kind) < p = rw i (each-head l) in
+    each-cons here (lower-pages p rs ps (cc) (each-tail l))
+
+copying : {d : ℕ} {h : History} {a : Access} {o p : ℕ} {φ ψ : Phase} (k : Bank) → TakesCopy a o p φ ψ → HoldsIn d h φ k → Copying d h a p k
+unfolding HoldsIn settledAs nobody
+copying {d} k first q =
+    record {
+      ahead = nobody;
+      holds = q;
+      only = nobody-ahead d;
+      shows = refl;
+      pending = each-nil;
+      lower = each-nil;
+      since = λ n. absurd (n refl);
+    }
+copying {d} {p = p} k (behind {os} {ps} l) q =
+    record {
+      ahead = onlyOf d (q .ahead);
+      holds = q .holds;
+      only = onlyOf-other d (q .ahead);
+      shows = rw (onlyOf-same d (q .ahead)) (q .frames);
+      pending = rw (onlyOf-same d (q .ahead)) (q .pending);
+      lower = rw (onlyOf-same d (q .ahead)) (lower-pages p (q .ahead .pending) ps (q .pages) l);
+      since = λ n. q .since;
+    }
+
+-- the got joins what is pending
+copy-joins : {d : ℕ} {h : History} {a : Access} {p : ℕ} (k : Bank) (bytes : List ℕ) → Copying d h a p k → (ps : List Record)
+    → Each (λ (r : Record). pageOf (r .kind) < p) ps → (ps ≢ [] → boardAt k d .working .since ≡ 0)
+    → Joins (newRecord (Got GotCopy p) bytes (boardAt k d .working)) ps
+unfolding Joins pageOf
+copy-joins k bytes c [] lower since = tt
+copy-joins k bytes c (q ∷ qs) lower since = (since (λ e. never (cc)), refl, lower)
+
+takes-now : {d o p : ℕ} {a : Access} {φ ψ : Phase} → TakesCopy a o p φ ψ → (f : Bank → Bank) (s : Run) → s .lost ≡ none → FormedRun d ψ (step f s)
+    → WellFormed (f (s .bank))
+unfolding FormedIn
+takes-now first f s n v = step-now f s n v
+takes-now (behind l) f s n v = step-now f s n v
+
+-- the copy is taken: its got is pending behind the others
+module _ {d : ℕ} (h : History) (a : Access) (o p : ℕ) (k : Bank) (copy : takes a ≡ GotCopy) (named : names a p ≡ true) (g : Gives o d p k)
+    (u : boardAt k d .state ≡ Up) (none-yet : frameOf k d p .right ≡ None) (formed : WellFormed (giveCopy o d p k)) where
+  copied : (c : Copying d h a p k) (ps : List ℕ) → map (λ (r : Record). pageOf (r .kind)) (settledAs (c .ahead d) (boardAt k d) .pending) ≡ ps
+      → PagesFetched d h a (ps ++ (p ∷ [])) (giveCopy o d p k)
+  unfolding Serves pageOf tookCopy withFrame onWorking onFrames recorded
+  copied c ps e =
+      let qs : List Record = settledAs (c .ahead d) (boardAt k d) .pending in
+      let bytes : List ℕ = frameOf k o p .bytes in
+      let own : Record = newRecord (Got GotCopy p) bytes (boardAt k d .working) in
+      record {
+        ahead = readerAhead o d p k qs;
+        holds =
+            giveCopy-invariant o d p k (c .holds) (c .only) u (g .page) none-yet (c .shows) (copy-joins k bytes c qs (c .lower) (c .since))
+            (owner-bytes k o p (c .holds) (g .page) (g .owner) (g .secure .up))
+            (quiet-page k (c .holds) p (g .page) (rw (g .owner) (none-unstable o h (boardAt k o) p (secure-point o k (c .holds) (g .secure)))))
+            formed;
+        frames = refl;
+        pending = each-append qs (own ∷ []) (c .pending) (each-cons (named, sym copy) each-nil);
+        pages = map-append (λ (r : Record). pageOf (r .kind)) qs (own ∷ []) ∙ ap (λ (rs : List ℕ). rs ++ (p ∷ [])) e;
+        since = rw (boardAt-giveCopy-same o d p k (up-below k d u)) refl;
+      }
+
+  copied-holds : {φ ψ : Phase} → TakesCopy a o p φ ψ → HoldsIn d h φ k → HoldsIn d h ψ (giveCopy o d p k)
+  unfolding HoldsIn settledAs nobody copying
+  copied-holds first q = copied (copying {a = a} {o = o} {p = p} k first q) [] refl
+  copied-holds (behind {os} {ps} l) q =
+      copied (copying {a = a} {o = o} {p = p} k (behind {os = os} {ps = ps} l) q) ps (rw (onlyOf-same d (q .ahead)) (q .pages))
+
+waits-holds : {d : ℕ} {h : History} (e : Event) (s : Run) → replayOver (boardAt (s .bank) d) ≡ false → FormedRun d (Finished e []) s
+    → RunMeets (HoldsIn d h (Replays e)) h s → RunMeets (HoldsIn d h (Finished e [])) h s
 unfolding HoldsIn FormedIn
 waits-holds {d} {h} e s o v q =
     record {
@@ -431,7 +525,7 @@ waits-holds {d} {h} e s o v q =
 module _ (d : ℕ) (h : History) {Again : Access → Type 0} (premise : (a : Access) → Again a → (e : HistoryEntry) → nextEntry d h ≡ some e → e .access ≡ a) where
   move-holds : {χ ψ : Phase} (s : Run) (m : Move) → s .lost ≡ none → Guard d Again (s .bank) m χ ψ → FormedRun d χ s → FormedRun d ψ (does m s)
       → RunMeets (HoldsIn d h χ) h s → RunMeets (HoldsIn d h ψ) h (does m s)
-  unfolding does HoldsIn FormedIn settle nobody fed lostAt frameOf storedFrame storedHead movedRecord onSpare Agrees
+  unfolding does HoldsIn FormedIn settle nobody fed lostAt frameOf storedFrame storedHead movedRecord onSpare Agrees Serves pageOf
   move-holds s _ n (notesShown b p u m l) w v q = step-meets _ s q (λ e i. shown-invariant b p (s .bank) i u m l)
   move-holds s _ n (notesGot o p u m l r) w v q =
       let k : Bank = s .bank in
@@ -442,7 +536,9 @@ module _ (d : ℕ) (h : History) {Again : Access → Type 0} (premise : (a : Acc
         ahead = writerAhead d p bytes k;
         holds = gotOwn-invariant d p bytes k i u l r (step-now _ s n v);
         frames = rw (note-frames d (Got GotOwn p) bytes k d, note-frames d (Got GotOwn p) bytes k o);
-        pending = each-cons refl each-nil;
+        got = newRecord (Got GotOwn p) bytes (boardAt k d .working);
+        kind = refl;
+        pending = refl;
       })
   move-holds s _ n (storesRecord b o u) w v q =
       let x : Opened d h b _ (s .bank) = opens (s .bank) o (q .going n) in
@@ -470,25 +566,15 @@ module _ (d : ℕ) (h : History) {Again : Access → Type 0} (premise : (a : Acc
       {J = λ j. Invariant nobody (onBoard b (onWorking restedWorking) j) (x .past)}
       (λ f. selector-rests b (x .only) k (x .holds) u saved f))
       (λ e i. selected-holds-in h k z (q .going n) (onBoard b (onWorking restedWorking) (store b storedSelector s .bank)) i)
-  move-holds s _ n (givesCopy o p g u m r) w v q =
-      let k : Bank = s .bank in
-      step-meets _ s q
-      (λ e i.
-      record {
-        ahead = readerAhead o d p k;
-        holds =
-            giveCopy-invariant o d p k i u (g .page) r (owner-bytes k o p i (g .page) (g .owner) (g .secure .up))
-            (quiet-page k i p (g .page) (rw (g .owner) (none-unstable o h (boardAt k o) p (secure-point o k i (g .secure)))))
-            (step-now _ s n v);
-        frames = refl;
-        pending = each-cons refl each-nil;
-      })
-  move-holds s _ n (passesOwnership o p g y m) w v q =
+  move-holds s _ n (givesCopy a o p x c y g u m r) w v q =
+      step-meets _ s q (λ e i. copied-holds h a o p (s .bank) c y g u r (takes-now x _ s n v) x i)
+  move-holds s _ n (passesOwnership a o p c z g y m) w v q =
       let k : Bank = s .bank in
       step-meets _ s q
       (λ e i.
       let l : d < length (k .boards) = up-below k d (y .up) in
       let there : p < length (boardAt k d .working .frames) = rw (fits (i .holds .formed) d l .alone .fields .working .frames .count) (g .page) in
+      let serves : Serves a (i .got .kind) = rw (i .kind) (z, sym c) in
       record {
         ahead = i .ahead;
         holds =
@@ -499,7 +585,9 @@ module _ (d : ℕ) (h : History) {Again : Access → Type 0} (premise : (a : Acc
             (rw (i .frames) (frameAt-same (boardAt k d .working .frames) p (record { right = Own; bytes = frameOf k o p .bytes }) there))
             (step-now _ s n v);
         frames = i .frames ∙ sym (taker-frames o d p k l);
-        pending = i .pending;
+        pending = rw (i .pending) (each-cons serves each-nil);
+        pages = rw (i .pending, i .kind);
+        since = taker-since o d p k l ∙ y .since;
       })
   move-holds s _ n (dropsCopies p l m) w v q =
       step-meets _ s q (λ e i. dropCopies-invariant p (s .bank) i l (λ c t. refl) (step-now _ s n v))
@@ -545,7 +633,7 @@ PremiseOn c k h =
     → e .access ≡ a
 
 module _ (c : Call) (k : Bank) {h : History} (q : Invariant nobody k h) (premise : PremiseOn c k h) where
-  call-meets : RunMeets (HoldsIn (boardNamed c) h (feeds c k (callBank c k .answer))) h (callBank c k .run)
+  call-meets : RunMeets (HoldsIn (boardNamed c) h (feeds c k (callBank c k .answer) (callBank c k .given))) h (callBank c k .run)
   unfolding start
   call-meets = moves-hold (boardNamed c) h (λ a z e n. premise (boardNamed c) a e (z .0) (z .1) (z .2) n) (call-moves c k (q .formed)) refl q
 
@@ -557,7 +645,7 @@ module _ (c : Call) (k : Bank) {h : History} (q : Invariant nobody k h) (premise
       (λ b e. rw (power-lost c k b .1 e) (call-meets .lost b e))
 
   -- a call that is done: a repeated access gave the bytes of its entry
-  pub call-repeats : (v : ℕ) → callBank c k .answer ≡ Done v → Agrees (eventOf c (Done v)) h
+  pub call-repeats : (v : ℕ) → callBank c k .answer ≡ Done v → Agrees (eventOf c (Done v) (callBank c k .given)) h
   unfolding HoldsIn
   call-repeats v d =
       byOption (callBank c k .run .lost)

@@ -29,7 +29,7 @@ use Rattle.model.specs.Laws.Boards.{frameAt-same, droppedIf, ownedBy, tookOwn, 
 use Rattle.model.specs.Laws.Keeps.Clauses.{fits, up-below}
 use Rattle.model.specs.Laws.Keeps.Rights.{holder-up}
 use Rattle.model.specs.History.Statement.{HistoryEntry, History, ofBoard, zeroMemory}
-use Rattle.history.specs.Rerun.{Rebuilt, logged, next, LacksFor, MayLog, Accepts, rebuilt}
+use Rattle.history.specs.Rerun.{Rebuilt, logged, next, LacksFor, MayLog, Joins, Accepts, rebuilt}
 use Rattle.history.specs.Invariant.{memoryAfter, unstableWrite, isShown, settledAs, BoardInvariant, Invariant, nobody, onlyOf}
 use Rattle.history.specs.Lift.{onBoard-invariant}
 use Rattle.history.specs.Memory.{memoryAfter-discard}
@@ -54,12 +54,12 @@ pub gotOwn-invariant : (w p : ℕ) (bytes : List ℕ) (k : Bank) {h : History} �
     → frameOf k w p .right ≢ Own
     → WellFormed (note w (Got GotOwn p) bytes k)
     → Invariant (onlyOf w (writerAhead w p bytes k)) (note w (Got GotOwn p) bytes k) h
-unfolding note nobody entryAt frameOf Accepts MayLog LacksFor settledAs next logged rightGot
+unfolding note nobody entryAt frameOf Accepts Joins MayLog LacksFor settledAs next logged rightGot
 gotOwn-invariant w p bytes k q u l lacks formed =
     onBoard-invariant w (onWorking (recorded (Got GotOwn p) bytes)) k q formed (onlyOf-other w (writerAhead w p bytes k))
     (λ i r.
     rw (onlyOf-same w (writerAhead w p bytes k))
-    (got-holds r u GotOwn p bytes (refl, lacks) (not-owner (q .formed) w p u l lacks)))
+    (got-holds r u GotOwn p bytes (tt, lacks) (not-owner (q .formed) w p u l lacks)))
 
 -- ---- the page passes
 
@@ -101,6 +101,10 @@ module _ (o w p : ℕ) (k : Bank) where
       → boardAt (passOwnership o w p k) w .working .frames ≡ set (boardAt k w .working .frames) p (record { right = Own; bytes = frameOf k o p .bytes })
   unfolding tookOwn withFrame onWorking onFrames
   taker-frames i = rw (boardAt-passOwnership-same o w p k i)
+
+  pub taker-since : w < length (k .boards) → boardAt (passOwnership o w p k) w .working .since ≡ boardAt k w .working .since
+  unfolding tookOwn withFrame onWorking onFrames
+  taker-since i = rw (boardAt-passOwnership-same o w p k i)
 
   -- "then together owner and all copy holders but the writer record dropped and lose the right, the writer gains right own and the page": two up boards.
   -- The owner has no unstable write on the page; the writer's log is stored whole, with all its entries, and explains the owner's bytes.

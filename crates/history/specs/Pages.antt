@@ -15,9 +15,10 @@ use Rattle.types.specs.declared.Kind.the-variants.{Got, Shown, Dropped}
 use Rattle.types.specs.declared.Record.{Record}
 use Rattle.model.specs.Definitions.Bank.{emptyFrame, frameAt}
 use Rattle.model.specs.Definitions.Codec.{pageOf}
-use Rattle.model.specs.Definitions.Steps.{Access, Read, Write, pageNamed, Cell, cellsRead, cellsWritten, cellByte, withByte, withBytes}
+use Rattle.model.specs.Definitions.Steps.{Access, Cell, names, cellsRead, cellsWritten, cellByte, withByte, withBytes}
 use Rattle.model.specs.Laws.Logic.{clash, byEq}
-use Rattle.model.specs.Laws.Lists.{each-head, each-tail, each-append}
+use Rattle.model.specs.Laws.Lists.{each-head, each-tail, each-append, each-imp}
+use Rattle.model.specs.Laws.Below.{read-named}
 use Rattle.model.specs.History.Statement.{HistoryEntry, Memory, byteIn, written}
 use Rattle.history.specs.Rerun.{Rebuilt, TraceItem, Made, Logged, trace, logged, next, final}
 use Rattle.history.specs.Invariant.{memoryAfter, isShown}
@@ -81,11 +82,9 @@ unfolding cellByte byteIn
 cells-agree [] fs m e = refl
 cells-agree (c ∷ cs) fs m e = rw (each-head e, cells-agree cs fs m (each-tail e))
 
-pub reads-agree : (a : Access) (fs : List Frame) (m : Memory) → m (pageNamed a) ≡ frameAt fs (pageNamed a) .bytes
+pub reads-agree : (a : Access) (fs : List Frame) (m : Memory) → ((p : ℕ) → names a p ≡ true → m p ≡ frameAt fs p .bytes)
     → map (cellByte fs) (cellsRead a) ≡ map (byteIn m) (cellsRead a)
-unfolding cellsRead pageNamed
-reads-agree (Read p o) fs m h = cells-agree (record { page = p; offset = o } ∷ []) fs m (each-cons h each-nil)
-reads-agree (Write p o v) fs m h = refl
+reads-agree a fs m h = cells-agree (cellsRead a) fs m (each-imp (cellsRead a) (λ c t. h (c .page) t) (read-named a))
 
 -- ---- the number of frames
 

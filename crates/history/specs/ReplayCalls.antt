@@ -6,7 +6,7 @@ use Prim.Native.Nat.{ℕ, zero, suc, _+_, _<_}
 use native.Mathlib.Omega.{arith}
 use mathlib.Core.Bool.{Bool, true, false, _&&_, not}
 use mathlib.Core.Option.{none, some}
-use mathlib.Core.List.{List, []}
+use mathlib.Core.List.{List, [], _∷_}
 use lib.ListN.{length}
 use lib.Dec.{eqb, ltb}
 use borrow.Author.Tests.{eq-eqb, ne-eqb, ltb-true, not-false}
@@ -17,15 +17,15 @@ use Rattle.types.specs.declared.Answer.{Answer}
 use Rattle.types.specs.declared.Answer.the-variants.{Done, PowerLost}
 use Rattle.model.specs.Definitions.Bank.{Working, Stable, Board, Bank, boardAt, onBoard, onWorking}
 use Rattle.model.specs.Definitions.WellFormed.{isUp, isDown, isReplaying, WellFormed}
-use Rattle.model.specs.Definitions.Steps.{Run, start, step, poweredOff, withFuse, fuseBoard, checkpoint, Access, valueOf}
+use Rattle.model.specs.Definitions.Steps.{Run, start, step, poweredOff, withFuse, fuseBoard, checkpoint, Access, valueOf, givenOf}
 use Rattle.model.specs.Definitions.Replay.{loaded, usedUp, tookDue, replayOver, settled, endReplay, endIfOver, replayed, recoveryPoint}
 use Rattle.model.specs.Definitions.Answers.{code}
 use Rattle.model.specs.Definitions.Calls.{Result, firstOf, unless, finished, refusalsWithin, accessRefusals, accessWithin, checkpointBank, fuseBank}
 use Rattle.model.specs.Definitions.Calls.{restartBank, Call, Accessing, Checkpointing, Fusing, Restarting, callBank}
 use Rattle.model.specs.Laws.Logic.{byBool, byOption, byEq, casesOption, clash, and-left}
-use Rattle.model.specs.Laws.Codes.Statement.{boardNamed, Due, NeedsGot}
+use Rattle.model.specs.Laws.Codes.Statement.{boardNamed, Due, NeedsGots}
 use Rattle.model.specs.Laws.Keeps.Clauses.{up-not-replaying, down-not-replaying, replaying-place, fits}
-use Rattle.model.specs.Laws.Boards.{boards-onBoard, boardAt-same, boardAt-powerOff-same}
+use Rattle.model.specs.Laws.Boards.{tookDue-state, boards-onBoard, boardAt-same, boardAt-powerOff-same}
 use Rattle.model.specs.Laws.Keeps.Live.{first-in, NoneOf, isUp-up, isDown-down, firstOf-none}
 use Rattle.model.specs.Definitions.Layout.{noFuse}
 use Rattle.model.specs.Laws.Runs.{endReplay-self, finished-run}
@@ -36,7 +36,6 @@ use Rattle.model.specs.Laws.Codes.Tests.{replay-other, LastDue, last-due}
 use Rattle.model.specs.History.Statement.{accessOf}
 use Rattle.history.specs.Replaying.{usedUp-number}
 use Rattle.history.specs.Repeating.{replayed-number, replayed-stable}
-use Rattle.history.specs.Counters.Steps.{took-state}
 use Rattle.history.specs.Recovery.{CountedBoard, Counted}
 use Rattle.history.specs.Bystanders.{call-leaves}
 use Rattle.history.specs.ReplayAccess.{unless-refused, finished-lost, finished-done, if-over, if-going, tookIn, repeatedIn, access-repeated, ended-idle}
@@ -90,8 +89,8 @@ pub data After (b : ℕ) (c : Call) (k : Bank) : Type 0 where
   endsExactly : (a : Access) (v : ℕ) → accessOf c ≡ some (b, a) → callBank c k .answer ≡ Done v
       → boardAt k b .working .number + 1 ≡ recoveryPoint (boardAt k b) → endsInGot (boardAt k b) ≡ false
       → isReplaying (boardAt (callBank c k .run .bank) b .state) ≡ false → After b c k
-  endsEntering : (a : Access) (r : Record) → accessOf c ≡ some (b, a) → Due (boardAt k b) r [] → NeedsGot a (boardAt k b .working .frames) (r .kind)
-      → boardAt k b .working .number ≡ recoveryPoint (boardAt k b) → endsInGot (boardAt k b) ≡ true
+  endsEntering : (a : Access) (r : Record) (rs : List Record) → accessOf c ≡ some (b, a) → Due (boardAt k b) (r ∷ rs) []
+      → NeedsGots a (boardAt k b .working .frames) (r ∷ rs) → boardAt k b .working .number ≡ recoveryPoint (boardAt k b) → endsInGot (boardAt k b) ≡ true
       → isReplaying (boardAt (callBank c k .run .bank) b .state) ≡ false → After b c k
 
 -- nothing of the board changes but its fuse
@@ -141,16 +140,22 @@ module _ (b : ℕ) (a : Access) (k : Bank) (w : WellFormed k) (h : Counted k) (r
   unfolding refusalsWithin code
   refused-code y e =
       first-in RefusedOnEntry (accessRefusals b a k) y
-      (each-cons (omega arith, omega arith)
-      (each-cons (omega arith, omega arith) (each-cons (omega arith, omega arith) (each-cons (omega arith, omega arith) each-nil))))
+      (each-cons (inl (omega arith, omega arith))
+      (each-cons (inr refl)
+      (each-cons (inl (omega arith, omega arith)) (each-cons (inl (omega arith, omega arith)) (each-cons (inl (omega arith, omega arith)) each-nil)))))
       e
+
+  -- it is not done
+  refused-not : (y : Answer) → RefusedOnEntry y → code y ≢ 0
+  refused-not y (inl z) n = absurd (omega (arith, z .0))
+  refused-not y (inr z) n = absurd (omega arith)
 
   refused-after : (y : Answer) → firstOf (accessRefusals b a k) ≡ some y → After b c k
   unfolding callBank accessWithin start
   refused-after y e =
-      let q : callBank c k ≡ record { answer = y; run = start k } = unless-refused (accessRefusals b a k) (start k) _ e in
+      let q : callBank c k ≡ record { answer = y; run = start k; given = [] } = unless-refused (accessRefusals b a k) (start k) _ e in
       let z : RefusedOnEntry y = refused-code y e in
-      same-after b c k rep (rw q (not-done b c y (ne-eqb (code y) 0 (λ n. absurd (omega arith))))) (λ d i. rw q z)
+      same-after b c k rep (rw q (not-done b c y (ne-eqb (code y) 0 (refused-not y z)))) (λ d i. rw q z)
       (unmoved b k (callBank c k .run .bank) (ap (λ (t : Result). boardAt (t .run .bank) b) q))
 
   module _ (e : firstOf (accessRefusals b a k) ≡ none) where
@@ -160,33 +165,36 @@ module _ (b : ℕ) (a : Access) (k : Bank) (w : WellFormed k) (h : Counted k) (r
     counted : CountedBoard x
     counted = h b below
 
-    took-board : boardAt (tookIn b a k) b ≡ tookDue a x
-    took-board = boardAt-same b (tookDue a) k below
+    took-board : boardAt (tookIn b k) b ≡ tookDue x
+    took-board = boardAt-same b tookDue k below
 
-    repeated-board : boardAt (repeatedIn b a k) b ≡ replayed a (tookDue a x)
+    repeated-board : boardAt (repeatedIn b a k) b ≡ replayed a (tookDue x)
     repeated-board =
-        boardAt-same b (replayed a) (tookIn b a k) (rw (boards-onBoard b (tookDue a) k) below) ∙ ap (replayed a) took-board
+        boardAt-same b (replayed a) (tookIn b k) (rw (boards-onBoard b tookDue k) below) ∙ ap (replayed a) took-board
 
-    -- the due got was the last record
-    entered-after : replayOver (boardAt (tookIn b a k) b) ≡ true → After b c k
+    -- the due gots were the last records
+    entered-after : replayOver (boardAt (tookIn b k) b) ≡ true → After b c k
     unfolding callBank accessOf
     entered-after o =
         let place : x .working .place < length (x .stable .selected .log .records) =
         replaying-place (x .state) x rep (fits w b below .place) in
         let d : LastDue a x =
         last-due a x place (fails (replay-other a x) (fittingAt b a k e replays w)) .0 (rw took-board at o) in
-        let l : (x .working .number ≡ recoveryPoint x) × (endsInGot x ≡ true) = due-last x (d .0) counted rep (d .1) in
-        endsEntering a (d .0) refl (d .1) (d .2) (l .0) (l .1) (ended-idle b a k e replays w o)
+        let l : (x .working .number ≡ recoveryPoint x) × (endsInGot x ≡ true) = due-last x (d .0) (d .1) counted rep (d .2) in
+        endsEntering a (d .0) (d .1) refl (d .2) (d .3) (l .0) (l .1) (ended-idle b a k e replays w o)
 
     -- the access is repeated
-    module _ (o : replayOver (boardAt (tookIn b a k) b) ≡ false) where
+    module _ (o : replayOver (boardAt (tookIn b k) b) ≡ false) where
       abbrev value : ℕ
-      value = valueOf a (boardAt (tookIn b a k) b .working .frames)
+      value = valueOf a (boardAt (tookIn b k) b .working .frames)
+
+      abbrev given : List ℕ
+      given = givenOf a (boardAt (tookIn b k) b .working .frames)
 
       abbrev run : Run
       run = endIfOver b (start (repeatedIn b a k))
 
-      gave : callBank c k ≡ finished value run
+      gave : callBank c k ≡ finished value given run
       unfolding callBank
       gave = access-repeated b a k e replays o
 
@@ -194,32 +202,32 @@ module _ (b : ℕ) (a : Access) (k : Bank) (w : WellFormed k) (h : Counted k) (r
       over-after : replayOver (boardAt (repeatedIn b a k) b) ≡ true → After b c k
       unfolding callBank accessOf start
       over-after u =
-          let o' : replayOver (tookDue a x) ≡ false = rw took-board at o in
-          let u' : replayOver (replayed a (tookDue a x)) ≡ true = rw repeated-board at u in
+          let o' : replayOver (tookDue x) ≡ false = rw took-board at o in
+          let u' : replayOver (replayed a (tookDue x)) ≡ true = rw repeated-board at u in
           byOption (run .lost)
           (λ n.
-          endsExactly a value refl (ap (λ (t : Result). t .answer) (gave ∙ finished-done value run n))
+          endsExactly a value refl (ap (λ (t : Result). t .answer) (gave ∙ finished-done value given run n))
           (over-number a x counted rep o' u') (over-ends a x counted rep o' u')
           (over-idle b a k e replays w o u))
           (λ d l.
           let self : d ≡ b =
           endReplay-self b (start (repeatedIn b a k)) d refl (ap (λ (t : Run). t .lost) (sym (if-over b (start (repeatedIn b a k)) u)) ∙ l) in
-          let lost : callBank c k .answer ≡ PowerLost d = ap (λ (t : Result). t .answer) (gave ∙ finished-lost value run l) in
+          let lost : callBank c k .answer ≡ PowerLost d = ap (λ (t : Result). t .answer) (gave ∙ finished-lost value given run l) in
           isCut (subst (λ (d : ℕ). boardAt (callBank c k .run .bank) d .state ≡ Down) self (loses-power c k w d .0 lost .after)))
 
       -- or it goes on
       going-after : replayOver (boardAt (repeatedIn b a k) b) ≡ false → After b c k
       unfolding accessOf start replayed usedUp onWorking
       going-after u =
-          let q : callBank c k ≡ record { answer = Done value; run = start (repeatedIn b a k) } =
-          gave ∙ ap (finished value) (if-going b (start (repeatedIn b a k)) u) ∙ finished-done value (start (repeatedIn b a k)) refl in
-          let y : boardAt (callBank c k .run .bank) b ≡ replayed a (tookDue a x) = ap (λ (t : Result). boardAt (t .run .bank) b) q ∙ repeated-board in
+          let q : callBank c k ≡ record { answer = Done value; run = start (repeatedIn b a k); given = given } =
+          gave ∙ ap (finished value given) (if-going b (start (repeatedIn b a k)) u) ∙ finished-done value given (start (repeatedIn b a k)) refl in
+          let y : boardAt (callBank c k .run .bank) b ≡ replayed a (tookDue x) = ap (λ (t : Result). boardAt (t .run .bank) b) q ∙ repeated-board in
           let d : doneBy b c (callBank c k .answer) ≡ 1 = ap (λ (t : Result). doneBy b c (t .answer)) q ∙ done-one b c a value refl in
           oneMore a value refl (ap (λ (t : Result). t .answer) q)
           (record {
-            state = ap (λ (z : Board). z .state) y ∙ took-state a x ∙ rep;
-            number = ap (λ (z : Board). z .working .number) y ∙ replayed-number a x ∙ ap (λ (m : ℕ). x .working .number + m) (sym d);
-            selected = ap (λ (z : Board). z .stable .selected) y ∙ ap (λ (z : Stable). z .selected) (replayed-stable a x);
+            state = ap (λ (z : Board). z .state) y ∙ tookDue-state x ∙ rep;
+            number = ap (λ (z : Board). z .working .number) y ∙ replayed-number x a ∙ ap (λ (m : ℕ). x .working .number + m) (sym d);
+            selected = ap (λ (z : Board). z .stable .selected) y ∙ ap (λ (z : Stable). z .selected) (replayed-stable x a);
           })
 
       repeated-after : After b c k
@@ -228,7 +236,7 @@ module _ (b : ℕ) (a : Access) (k : Bank) (w : WellFormed k) (h : Counted k) (r
   access-after : After b c k
   access-after =
       byOption (firstOf (accessRefusals b a k))
-      (λ e. byBool (replayOver (boardAt (tookIn b a k) b)) (entered-after e) (repeated-after e))
+      (λ e. byBool (replayOver (boardAt (tookIn b k) b)) (entered-after e) (repeated-after e))
       refused-after
 
 -- ---- the other calls of the board
@@ -236,10 +244,10 @@ module _ (b : ℕ) (a : Access) (k : Bank) (w : WellFormed k) (h : Counted k) (r
 module _ (b : ℕ) (k : Bank) (rep : boardAt k b .state ≡ Replaying) where
   -- a call that is refused leaves the bank
   plain-after : (P : Bank → Type 0) (tests : List (Bool × Answer)) (v : ℕ) (r : Run) → P k → (firstOf tests ≡ none → P (r .bank))
-      → P (unless tests (start k) (finished v r) .run .bank)
+      → P (unless tests (start k) (finished v [] r) .run .bank)
   unfolding unless start
   plain-after P tests v r p q =
-      casesOption (λ (t : Result). P (t .run .bank)) (firstOf tests) (λ e. rw (finished-run v r) (q e)) (λ y e. p)
+      casesOption (λ (t : Result). P (t .run .bank)) (firstOf tests) (λ e. rw (finished-run v [] r) (q e)) (λ y e. p)
 
   stays : Unmoved b k k
   stays = unmoved b k k refl
@@ -328,23 +336,23 @@ module _ (b : ℕ) (k : Bank) (l : b < length (k .boards)) (down : boardAt k b .
   over-restarted v done o =
       let r : Run = endReplay b (start (restartedIn b k)) in
       let m : b < length (restartedIn b k .boards) = rw (boards-onBoard b (λ x. usedUp (loaded x)) k) l in
-      let e : restartBank b k ≡ finished number r = restart-goes b k l down ∙ ap (finished number) (if-over b (start (restartedIn b k)) o) in
+      let e : restartBank b k ≡ finished number [] r = restart-goes b k l down ∙ ap (finished number []) (if-over b (start (restartedIn b k)) o) in
       let c : (number ≡ recoveryPoint (boardAt k b)) × (endsInGot (boardAt k b) ≡ false) =
       restart-over (boardAt k b) (h b l) down (rw awake-board at o) in
       byOption (r .lost)
       (λ n.
       endsAtOnce
-      (ap (λ (t : Result). boardAt (t .run .bank) b .state) (e ∙ finished-done number r n)
+      (ap (λ (t : Result). boardAt (t .run .bank) b .state) (e ∙ finished-done number [] r n)
       ∙ endReplay-changed b (start (restartedIn b k)) n .this m .state)
       (c .0)
       (c .1))
-      (λ d n. let z : PowerLost d ≡ Done v = sym (ap (λ (t : Result). t .answer) (e ∙ finished-lost number r n)) ∙ done in never (cc))
+      (λ d n. let z : PowerLost d ≡ Done v = sym (ap (λ (t : Result). t .answer) (e ∙ finished-lost number [] r n)) ∙ done in never (cc))
 
   going-restarted : replayOver (boardAt (restartedIn b k) b) ≡ false → Restarted b k
   unfolding callBank start usedUp loaded onWorking
   going-restarted o =
-      let e : restartBank b k ≡ record { answer = Done number; run = start (restartedIn b k) } =
-      restart-goes b k l down ∙ ap (finished number) (if-going b (start (restartedIn b k)) o) ∙ finished-done number (start (restartedIn b k)) refl in
+      let e : restartBank b k ≡ record { answer = Done number; run = start (restartedIn b k); given = [] } =
+      restart-goes b k l down ∙ ap (finished number []) (if-going b (start (restartedIn b k)) o) ∙ finished-done number [] (start (restartedIn b k)) refl in
       let y : boardAt (restartBank b k .run .bank) b ≡ usedUp (loaded (boardAt k b)) = ap (λ (t : Result). boardAt (t .run .bank) b) e ∙ awake-board in
       begins
       (ap (λ (z : Board). z .state) y)

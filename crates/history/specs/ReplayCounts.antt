@@ -1,15 +1,14 @@
 -- A replay counts: while it goes on accesses are missing, or the last record is a got that is due; and it ends where none is missing. Of one board, from its
 -- counters and the order of its records. Assumes nothing.
 use mathlib.Core.Path.{_≡_, refl, sym, ap, _∙_}
-use mathlib.Core.Logic.{inl, inr}
-use Prim.Native.Nat.{ℕ, zero, suc, _+_, _≤_, _<_}
+use mathlib.Core.Logic.{_≢_, inl, inr}
+use Prim.Native.Nat.{ℕ, zero, suc, _+_, _≤_}
 use native.Mathlib.Omega.{arith}
 use mathlib.Core.Bool.{true, false}
-use mathlib.Core.List.{List, [], _∷_}
+use mathlib.Core.List.{List, [], _∷_, append-nil}
 use lib.ListN.{drop, set, drop-of-length-le}
 use lib.Dec.{eqb}
 use Rattle.types.specs.declared.Frame.{Frame}
-use Rattle.types.specs.declared.Kind.the-variants.{Got}
 use Rattle.types.specs.declared.Record.{Record}
 use Rattle.types.specs.declared.State.the-variants.{Down, Replaying}
 use Rattle.model.specs.Definitions.Bank.{Working, Stable, Board, emptyFrame, onWorking}
@@ -17,8 +16,8 @@ use Rattle.model.specs.Definitions.WellFormed.{isGot}
 use Rattle.model.specs.Definitions.Steps.{Access, accessed}
 use Rattle.model.specs.Definitions.Replay.{loaded, recordsLeft, used, useUp, usedUp, tookDue, replayOver, replayed, countSum, recoveryPoint}
 use Rattle.model.specs.Laws.Logic.{byBool}
-use Rattle.model.specs.Laws.Runs.Stores.{recordsOf}
-use Rattle.model.specs.Laws.Codes.Statement.{Due}
+use Rattle.model.specs.Laws.Codes.Statement.{Together, all, got, Due}
+use Rattle.model.specs.Laws.Codes.Order.{never}
 use Rattle.history.specs.Invariant.{NextWaits}
 use Rattle.model.specs.History.RecoveryStatement.{Took, Replayed, Loaded}
 use Rattle.history.specs.Logging.{recoveryPoint-same}
@@ -26,8 +25,8 @@ use Rattle.model.specs.Laws.Codes.Tests.{byKind}
 use Rattle.history.specs.Replaying.{left-counts, used-left, usedUp-number, over-left, going-left}
 use Rattle.history.specs.Repeating.{took-stable, replayed-number, replayed-stable}
 use Rattle.history.specs.Counters.{Balanced, change-balanced}
-use Rattle.history.specs.Counters.Spacing.{nextCount, Spaced, spaced-left, Orderly}
-use Rattle.history.specs.Counters.Steps.{took-state}
+use Rattle.history.specs.Counters.Spacing.{nextCount, nextGot, Spaced, left-spaced}
+use Rattle.model.specs.Laws.Boards.{tookDue-state}
 use Rattle.history.specs.Recovery.{CountedBoard, replay-over}
 use Rattle.model.specs.History.ReplayEndsStatement.{lastIsGot, endsInGot}
 
@@ -51,18 +50,15 @@ module _ (x : Board) (r : Record) (rs : List Record) (left : recordsLeft x ≡ r
 
 -- ==== while it goes on
 
--- behind a got that is left an access is counted
-spaced-behind : (n : ℕ) (ps : List Record) (r q : Record) (rs : List Record) → Spaced ps 1 → drop n ps ≡ r ∷ q ∷ rs → isGot (r .kind) ≡ true → 0 < q .count
-unfolding Spaced nextCount
-spaced-behind zero ps r q rs h e g = let s : Spaced (r ∷ q ∷ rs) 1 = rw e at h in s .0 g
-spaced-behind (suc n) [] r q rs h e g = let z : _≡_ {A = ℕ} 0 1 = cc in absurd (omega arith)
-spaced-behind (suc n) (p ∷ ps) r q rs h e g = spaced-behind n ps r q rs (h .1) e g
-
-left-behind : (x : Board) (r q : Record) (rs : List Record) → Orderly ⊥ x → recordsLeft x ≡ r ∷ q ∷ rs → isGot (r .kind) ≡ true → 0 < q .count
-unfolding recordsOf recordsLeft
-left-behind x r q rs h e g =
-    let ps : List Record = x .stable .selected .log .records in
-    spaced-behind (x .working .place) ps r q rs (spaced-left ps (x .working .log .records) 1 (h .spaced)) e g
+-- gots without an access between them: the last record is a got
+gots-last : (r : Record) (rs : List Record) → Spaced (r ∷ rs) 1 → isGot (r .kind) ≡ true → countSum rs ≡ 0 → lastIsGot (r ∷ rs) ≡ true
+unfolding Spaced nextCount nextGot lastIsGot countSum
+gots-last r [] s g z = g
+gots-last r (q ∷ qs) s g z =
+    elim (s .0 g) [
+      | inl n ↦ gots-last q qs (s .1) n (omega arith)
+      | inr n ↦ absurd (omega arith)
+    ]
 
 -- accesses are missing, or one that needs the last record
 pub record Standing (x : Board) : Type 0 where
@@ -71,17 +67,12 @@ pub record Standing (x : Board) : Type 0 where
 
 standing-due : (x : Board) (r : Record) (rs : List Record) → CountedBoard x → x .state ≡ Replaying → recordsLeft x ≡ r ∷ rs → x .working .since ≡ r .count
     → isGot (r .kind) ≡ true → Standing x
-unfolding lastIsGot countSum
-standing-due x r [] h u left now got =
+standing-due x r rs h u left now isgot =
     record {
-      below = omega (arith, h .balanced .replaying u, left-counts x r [] left);
-      last = λ e. left-ends x r [] left ∙ got;
-    }
-standing-due x r (q ∷ qs) h u left now got =
-    let c : 0 < q .count = left-behind x r q qs (h .orderly) left got in
-    record {
-      below = omega (arith, h .balanced .replaying u, left-counts x r (q ∷ qs) left);
-      last = λ e. absurd (omega (arith, h .balanced .replaying u, left-counts x r (q ∷ qs) left));
+      below = omega (arith, h .balanced .replaying u, left-counts x r rs left);
+      last = λ e.
+          left-ends x r rs left
+          ∙ gots-last r rs (rw left at (left-spaced x (h .orderly))) isgot (omega (arith, e, h .balanced .replaying u, left-counts x r rs left));
     }
 
 standing-of : (x : Board) (rs : List Record) → CountedBoard x → x .state ≡ Replaying → recordsLeft x ≡ rs → NextWaits rs (x .working .since) → Standing x
@@ -97,13 +88,24 @@ standing-of x (r ∷ rs) h u left (inr g) = standing-due x r rs h u left (g .0) 
 pub standing : (x : Board) → CountedBoard x → x .state ≡ Replaying → Standing x
 standing x h u = standing-of x (recordsLeft x) h u refl (h .orderly .waits (λ p. p) u)
 
--- the last record is a got that is due: no access is missing but the one that needs it
-pub due-last : (x : Board) (r : Record) → CountedBoard x → x .state ≡ Replaying → Due x r [] → (x .working .number ≡ recoveryPoint x) × (endsInGot x ≡ true)
-unfolding recordsLeft lastIsGot countSum isGot
-due-last x r h u d =
-    let left : recordsLeft x ≡ r ∷ [] = d .next in
-    let k : r .kind ≡ Got (d .got .0) (d .got .1) = d .got .2 in
-    (omega (arith, h .balanced .replaying u, left-counts x r [] left, d .count), left-ends x r [] left ∙ cc)
+-- gots that go together count nothing but what came before the first
+together-counts : (n : ℕ) (rs : List Record) → Together n rs [] → rs ≢ [] → (countSum rs ≡ n) × (lastIsGot rs ≡ true)
+unfolding countSum lastIsGot isGot
+together-counts n [] (all d) some = absurd (some refl)
+together-counts n (r ∷ []) (got i c t) some = (omega (arith, c), rw (i .2))
+together-counts n (r ∷ q ∷ rs) (got i c t) some =
+    let z : (countSum (q ∷ rs) ≡ 0) × (lastIsGot (q ∷ rs) ≡ true) = together-counts 0 (q ∷ rs) t (λ e. never (cc)) in
+    (omega (arith, c, z .0), z .1)
+
+-- the last records are gots that are due: no access is missing but the one that needs them
+pub due-last : (x : Board) (r : Record) (rs : List Record) → CountedBoard x → x .state ≡ Replaying → Due x (r ∷ rs) []
+    → (x .working .number ≡ recoveryPoint x) × (endsInGot x ≡ true)
+unfolding recordsLeft
+due-last x r rs h u d =
+    let left : recordsLeft x ≡ r ∷ rs = d .next ∙ append-nil (r ∷ rs) in
+    let z : (countSum (r ∷ rs) ≡ x .working .since) × (lastIsGot (r ∷ rs) ≡ true) =
+    together-counts (x .working .since) (r ∷ rs) (d .group) (λ e. never (cc)) in
+    (omega (arith, h .balanced .replaying u, ap countSum left, z .0), left-ends x r rs left ∙ z .1)
 
 -- ==== where no record is left
 
@@ -137,27 +139,27 @@ usedUp-last x o = useUp-last (recordsLeft x) x refl (over-left (usedUp x) o)
 
 -- ---- after an access
 
-module _ (a : Access) (x : Board) (h : CountedBoard x) (u : x .state ≡ Replaying) (going : replayOver (tookDue a x) ≡ false)
-    (over : replayOver (replayed a (tookDue a x)) ≡ true) where
+module _ (a : Access) (x : Board) (h : CountedBoard x) (u : x .state ≡ Replaying) (going : replayOver (tookDue x) ≡ false)
+    (over : replayOver (replayed a (tookDue x)) ≡ true) where
   abbrev y : Board
-  y = tookDue a x
+  y = tookDue x
 
   -- none is missing any more
   pub over-number : x .working .number + 1 ≡ recoveryPoint x
   unfolding replayed usedUp onWorking
   over-number =
-      let v : y .state ≡ Replaying = took-state a x ∙ u in
+      let v : y .state ≡ Replaying = tookDue-state x ∙ u in
       let z : Board = replayed a y in
-      let b : Balanced z = change-balanced (Replayed a v going refl) (change-balanced (Took a u refl) (h .balanced)) in
-      let p : recoveryPoint z ≡ recoveryPoint x = recoveryPoint-same x z (ap (λ (t : Stable). t .selected) (replayed-stable a x)) in
-      sym (replayed-number a x) ∙ replay-over z b v over ∙ p
+      let b : Balanced z = change-balanced (Replayed a v going refl) (change-balanced (Took u refl) (h .balanced)) in
+      let p : recoveryPoint z ≡ recoveryPoint x = recoveryPoint-same x z (ap (λ (t : Stable). t .selected) (replayed-stable x a)) in
+      sym (replayed-number x a) ∙ replay-over z b v over ∙ p
 
   pub over-ends : endsInGot x ≡ false
   unfolding endsInGot replayed onWorking accessed recordsLeft
   over-ends =
       let g : (r : Record) × (rs : List Record) × (recordsLeft y ≡ r ∷ rs) = going-left y going in
       let l : lastIsGot (recordsLeft y) ≡ false = usedUp-last (onWorking (accessed a) y) over in
-      ap (λ (t : Stable). lastIsGot (t .selected .log .records)) (sym (took-stable a x))
+      ap (λ (t : Stable). lastIsGot (t .selected .log .records)) (sym (took-stable x))
       ∙ left-ends y (g .0) (g .1) (g .2) ∙ ap lastIsGot (sym (g .2)) ∙ l
 
 -- ---- after a restart that uses up all records

@@ -22,7 +22,8 @@ use Rattle.model.specs.Laws.Logic.{clash, byEq, byState}
 use Rattle.model.specs.Laws.Boards.{boardAt-out, byBoard}
 use Rattle.model.specs.Laws.Runs.{lost-not}
 use Rattle.model.specs.Laws.Keeps.Clauses.{up-not-down, up-not-replaying, down-not-replaying}
-use Rattle.model.specs.History.Statement.{History, ofBoard, entryCount, repeats, System, accessOf, after, Premises, afterSeen, PremiseSeen, PremisesSeen, runOf}
+use Rattle.model.specs.History.Statement.{History, ofBoard, entryCount, repeats, System, accessOf, after, Premises, afterSeen, PremiseSeen, PremisesSeen}
+use Rattle.model.specs.History.Statement.{runOf}
 use Rattle.history.specs.Invariant.{CountsAgree, Invariant, nobody}
 use Rattle.history.specs.Logging.{recoveryPoint-same}
 use Rattle.history.specs.Recovery.{CountedBoard, call-counted}
@@ -42,7 +43,7 @@ still u (waits g n) = g
 still u (oneMore a v n d g) = g
 still u (isCut d) = down-not-replaying d u
 still u (endsExactly a v n d m e f) = clash (ap isReplaying u) f
-still u (endsEntering a r n d x m e f) = clash (ap isReplaying u) f
+still u (endsEntering a r rs n d x m e f) = clash (ap isReplaying u) f
 
 stays-first : (b : ℕ) (cs : List Call) (t : System) → StaysReplaying b cs t → boardIn b t .state ≡ Replaying
 unfolding StaysReplaying
@@ -190,8 +191,8 @@ module _ (b : ℕ) (t : System) (s : Stands t) (v : ℕ) (done : answerIn (Resta
             | endsExactly a z n d e f o ↦
                 exactly a z n (answer-now ∙ d) (sym ends-now ∙ f) (omega (arith, number-now, point-now))
                 (repeats-below b k (stands-now .invariant) (place .state) (omega arith))
-            | endsEntering a z n d i e f o ↦
-                entering a z n (sym ends-now ∙ f) (omega (arith, number-now, point-now)) d i
+            | endsEntering a z zs n d i e f o ↦
+                entering a z zs n (sym ends-now ∙ f) (omega (arith, number-now, point-now)) d i
                 (repeats-none b k (stands-now .invariant) (place .state) e)
           ]
 
@@ -210,7 +211,7 @@ module _ (b : ℕ) (t : System) (s : Stands t) (v : ℕ) (done : answerIn (Resta
         λ u.
             elim (ended-now u) [
               | exactly a z n d f e i ↦ rw (d, done-one b c a z n) e
-              | entering a r n f e d i j ↦ clash f plain
+              | entering a r rs n f e d i j ↦ clash f plain
             ],
         λ e.
             byState (boardIn b (after c now) .state)
@@ -243,7 +244,7 @@ module _ (b : ℕ) (t : System) (s : Stands t) (v : ℕ) (done : answerIn (Resta
             | oneMore d z n i g ↦ no-more d z full n i g
             | isCut d ↦ down-not-replaying d w
             | endsExactly d z n i f g o ↦ clash (ap isReplaying w) o
-            | endsEntering d z n i f g j o ↦ clash (ap isReplaying w) o
+            | endsEntering d z zs n i f g j o ↦ clash (ap isReplaying w) o
           ]
 
   -- ---- at once

@@ -97,7 +97,7 @@ module _ (x : Board) (r : Record) (rs : List Record) (head : recordsLeft x ≡ r
   unfolding countSum
   left-counts = ap countSum head
 
-  left-fits : SinceFits (recordsLeft x) (x .working .since) → x .working .since ≤ r .count
+  pub left-fits : SinceFits (recordsLeft x) (x .working .since) → x .working .since ≤ r .count
   unfolding SinceFits
   left-fits h = rw head at h
 

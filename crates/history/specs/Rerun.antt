@@ -1,8 +1,8 @@
 -- What a board's memory rebuilds: the entries that it made and the records that it logged, in the order in which they came, run again from its checkpoint.
 -- Definitions for the invariant. Assumes nothing.
 use mathlib.Core.Path.{_≡_}
-use Prim.Native.Nat.{ℕ, _+_, _-_}
-use mathlib.Core.Bool.{false}
+use Prim.Native.Nat.{ℕ, _+_, _-_, _<_}
+use mathlib.Core.Bool.{true, false}
 use mathlib.Core.List.{List, [], _∷_, _++_, map}
 use lib.ListN.{set, take, drop}
 use Rattle.words.specs.Bytes.{Each}
@@ -15,11 +15,12 @@ use Rattle.types.specs.declared.Kind.{Kind}
 use Rattle.types.specs.declared.Kind.the-variants.{Got, Shown, Dropped}
 use Rattle.types.specs.declared.Record.{Record}
 use Rattle.model.specs.Definitions.Bank.{Board, emptyFrame, frameAt}
-use Rattle.model.specs.Definitions.Steps.{Access, pageNamed, cellsRead, cellsWritten, cellByte, withBytes, takes}
+use Rattle.model.specs.Definitions.Codec.{pageOf}
+use Rattle.model.specs.Definitions.Steps.{Access, names, cellsRead, cellsWritten, cellByte, withBytes, takes}
 use Rattle.model.specs.Definitions.Replay.{lacking, rightGot, countSum, recoveryPoint, recordsLeft}
 use Rattle.model.specs.History.Statement.{HistoryEntry}
 
--- the frames so far, and the gots that the next entry takes together (today one at most)
+-- the frames so far, and the gots that the next entry takes together
 pub record Rebuilt : Type 0 where
   pub frames : List Frame
   pub pending : List Record
@@ -51,9 +52,9 @@ unfoldable pub next : TraceItem → Rebuilt → Rebuilt
 next (Made e) t = record { frames = withBytes (cellsWritten (e .access)) (t .frames); pending = [] }
 next (Logged r) t = logged (r .kind) r t
 
--- a got that an access takes: its page and its kind
+-- a got that an access takes: a page that it names, and its kind
 unfoldable pub Serves : Access → Kind → Type 0
-Serves a (Got g p) = (p ≡ pageNamed a) × (g ≡ takes a)
+Serves a (Got g p) = (names a p ≡ true) × (g ≡ takes a)
 Serves a (Shown p) = ⊥
 Serves a (Dropped p) = ⊥
 
@@ -67,12 +68,17 @@ MayLog (Got g p) fs = LacksFor g (frameAt fs p .right)
 MayLog (Shown p) fs = Unit
 MayLog (Dropped p) fs = Unit
 
+-- a record behind gots that are pending joins them: a got copy with count 0, of a page above theirs
+unfoldable pub Joins : Record → List Record → Type 0
+Joins r [] = Unit
+Joins r (q ∷ qs) = (r .count ≡ 0) × (r .kind ≡ Got GotCopy (pageOf (r .kind))) × Each (λ s. pageOf (s .kind) < pageOf (r .kind)) (q ∷ qs)
+
 unfoldable pub Accepts : Rebuilt → TraceItem → Type 0
 Accepts t (Made e) =
     Each (λ r. Serves (e .access) (r .kind)) (t .pending)
     × (lacking (e .access) (t .frames) ≡ false)
     × (e .bytesRead ≡ map (cellByte (t .frames)) (cellsRead (e .access)))
-Accepts t (Logged r) = (t .pending ≡ []) × MayLog (r .kind) (t .frames)
+Accepts t (Logged r) = Joins r (t .pending) × MayLog (r .kind) (t .frames)
 
 -- ---- all items
 

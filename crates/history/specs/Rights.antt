@@ -30,7 +30,7 @@ use Rattle.model.specs.Laws.Boards.{frameAt-same, frameAt-other, rightIn-owner,
 use Rattle.model.specs.Laws.Keeps.Clauses.{up-below}
 use Rattle.model.specs.Laws.Keeps.Rights.{entryIn-same, entryIn-other}
 use Rattle.model.specs.History.Statement.{HistoryEntry, History, ofBoard, discard, zeroMemory}
-use Rattle.history.specs.Rerun.{Rebuilt, Logged, logged, next, Accepts, MayLog, rebuilt}
+use Rattle.history.specs.Rerun.{Rebuilt, Logged, logged, next, Joins, Accepts, MayLog, rebuilt}
 use Rattle.history.specs.Invariant.{memoryAfter, unstableWrite, settledAs, isShown, BoardInvariant, Invariant, onlyOf}
 use Rattle.history.specs.Pages.{frameAt-logged}
 use Rattle.history.specs.Logging.{recoveryPoint-same, rebuilt-same, stable-same, volatile-same, newRecord}
@@ -173,12 +173,12 @@ module _ {d : List Entry} {h : History} {g : Option Rebuilt} {b : ℕ} {x : Boar
 -- an up board logs a dropped and empties its frame, where the directory gives it no right
 dropped-holds : {d : List Entry} {h : History} {b : ℕ} {x : Board} (p : ℕ) → BoardInvariant d h none b x → x .state ≡ Up → p < length d
     → length (x .working .frames) ≡ length d → entryIn d p .owner ≢ b → member b (entryIn d p .copies) ≡ false → BoardInvariant d h none b (dropped p x)
-unfolding dropped settledAs Accepts MayLog next logged onWorking recorded withFrame onFrames pageOf
+unfolding dropped settledAs Accepts Joins MayLog next logged onWorking recorded withFrame onFrames pageOf
 dropped-holds {d} {h} {b} {x} p q u l s lost m =
     let y : Board = onWorking (recorded (Dropped p) (zeros pageSize)) x in
     let t : Rebuilt = record { frames = set (x .working .frames) p emptyFrame; pending = [] } in
     let r : BoardInvariant d h (some t) b y =
-    recorded-holds q u (Dropped p) (zeros pageSize) (refl, tt) (λ o. absurd (lost o)) refl
+    recorded-holds q u (Dropped p) (zeros pageSize) (tt, tt) (λ o. absurd (lost o)) refl
     (λ c i j e o. cc (frameAt-other (x .working .frames) p c emptyFrame (λ n. lost (rw n at o)))) in
     settled-holds (framed-holds r u p emptyFrame l s (λ o. absurd (lost o)) (λ i. clash i m)) u refl
 

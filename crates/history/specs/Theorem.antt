@@ -1,5 +1,5 @@
 -- Demand 3: from a fresh bank of any size, for any list of calls that keeps the premise, the claim holds after every call. Assumes nothing.
-use mathlib.Core.Path.{_≡_, sym, ap, subst}
+use mathlib.Core.Path.{_≡_, sym, ap, subst, _∙_}
 use Prim.Native.Nat.{ℕ, _≤_, _<_}
 use native.Mathlib.Omega.{arith}
 use mathlib.Core.Option.{some}
@@ -11,7 +11,7 @@ use Rattle.model.specs.Definitions.WellFormed.{WellFormed, SizesOk}
 use Rattle.model.specs.Definitions.Steps.{Access}
 use Rattle.model.specs.Definitions.Replay.{recoveryPoint}
 use Rattle.model.specs.Definitions.Calls.{Call, Accessing, Checkpointing, Fusing, Restarting, callBank, replyOf}
-use Rattle.model.specs.History.Statement.{HistoryEntry, History, noHistory, zeroMemory, OneMemory, begin, accessOf, doneEvent, eventOf, bytesFrom, nextEntry}
+use Rattle.model.specs.History.Statement.{HistoryEntry, History, noHistory, zeroMemory, OneMemory, begin, accessOf, doneEvent, eventOf, bytesSeen, nextEntry}
 use Rattle.model.specs.History.Statement.{after, Premise, RepeatAgrees, GrantsStand, Claim, Premises, Claims, afterSeen, PremiseSeen, RepeatSeen, PremisesSeen}
 use Rattle.model.specs.History.Statement.{ClaimsSeen, runOf}
 use Rattle.history.specs.Invariant.{Invariant, nobody}
@@ -26,13 +26,13 @@ use Rattle.model.specs.Laws.Moves.Calls.{call-keeps}
 -- ---- one call, on the bank
 
 repeats-agree : (c : Call) (k : Bank) {h : History} → Invariant nobody k h → PremiseOn c k h → (b : ℕ) (a : Access) (v : ℕ) (e : HistoryEntry)
-    → accessOf c ≡ some (b, a) → callBank c k .answer ≡ Done v → nextEntry b h ≡ some e → e .bytesRead ≡ bytesFrom a v
+    → accessOf c ≡ some (b, a) → callBank c k .answer ≡ Done v → nextEntry b h ≡ some e → e .bytesRead ≡ bytesSeen a v (callBank c k .given)
 unfolding accessOf Agrees eventOf doneEvent
 repeats-agree (Accessing d x) k q s b a v e z f n =
     let y : _≡_ {A = ℕ × Access} (d, x) (b, a) = cc in
     let yb : d ≡ b = ap (λ (w : ℕ × Access). w .0) y in
     let yx : x ≡ a = ap (λ (w : ℕ × Access). w .1) y in
-    rw yx at (call-repeats (Accessing d x) k q s v f e (rw yb n))
+    call-repeats (Accessing d x) k q s v f e (rw yb n) ∙ ap (λ (w : Access). bytesSeen w v (callBank (Accessing d x) k .given)) yx
 repeats-agree (Checkpointing d) k q s b a v e z f n = let y : _≡_ {A = ℕ} 0 1 = cc in absurd (omega arith)
 repeats-agree (Fusing d m) k q s b a v e z f n = let y : _≡_ {A = ℕ} 0 1 = cc in absurd (omega arith)
 repeats-agree (Restarting d) k q s b a v e z f n = let y : _≡_ {A = ℕ} 0 1 = cc in absurd (omega arith)
@@ -71,7 +71,8 @@ module _ (c : Call) (k : Bank) (h : History) (granted : ℕ → ℕ) (q : Stands
 
   repeat-now : RepeatAgrees c (systemOf k h granted)
   unfolding RepeatSeen systemOf replyOf
-  repeat-now b a v e z d n = repeats-agree c k (q .invariant) on-bank b a v e z (rw (call-encode c k formed) at d) n
+  repeat-now b a v e z d n =
+      rw (call-encode c k formed) (repeats-agree c k (q .invariant) on-bank b a v e z (rw (call-encode c k formed) at d) n)
 
   grants-now : GrantsStand (systemOf (callBank c k .run .bank) (historyAfter c k h) (grantsAfter c k granted))
   unfolding GrantsStand systemOf

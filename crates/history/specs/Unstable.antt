@@ -14,9 +14,11 @@ use borrow.Author.Tests.{eqb-true}
 use Rattle.words.specs.Bytes.{each-nil, each-cons}
 use Rattle.model.specs.Laws.Logic.{clash, byBool, byEq}
 use Rattle.model.specs.Laws.Lists.{each-append}
-use Rattle.model.specs.Definitions.Steps.{Access, Read, Write, pageNamed, cellsRead, cellsWritten}
+use Rattle.types.specs.declared.CopyOrOwn.the-variants.{GotOwn}
+use Rattle.model.specs.Definitions.Steps.{Access, Read, Write, ReadCells, cellsRead, cellsWritten, anyCell, anyWrite, names, takes}
+use Rattle.model.specs.Definitions.Calls.{pageWritten}
 use Rattle.model.specs.History.Statement.{HistoryEntry, ofBoard, discard}
-use Rattle.history.specs.Invariant.{anyCell, anyWrite, writesPage, touchesPage, unstableWrite, OnlyBy, Exclusive}
+use Rattle.history.specs.Invariant.{writesPage, touchesPage, unstableWrite, OnlyBy, Exclusive}
 use Rattle.history.specs.Entries.{byEntries, not-other, each-discard, ofBoard-snoc-same, ofBoard-snoc-other, ofBoard-discard-other}
 use Rattle.history.specs.Entries.{length-ofBoard-discard}
 
@@ -40,25 +42,15 @@ or-true-right false b h = h
 -- ---- which page an entry touches
 
 pub writes-touches : (e : HistoryEntry) (p : ℕ) → writesPage e p ≡ true → touchesPage e p ≡ true
-unfolding touchesPage
+unfolding touchesPage writesPage names
 writes-touches e p h = or-true-right (anyCell (cellsRead (e .access)) p) (writesPage e p) h
 
--- an access touches the page that it names, and no other; a read writes none
-touched : (a : Access) (p : ℕ) → (anyCell (cellsRead a) p || anyWrite (cellsWritten a) p) ≡ true → pageNamed a ≡ p
-unfolding anyCell anyWrite cellsRead cellsWritten pageNamed
-touched (Read q o) p h = byBool (eqb q p) (λ t. eqb-true q p t) (λ t. let z : _≡_ {A = ℕ} 0 1 = cc in absurd (omega arith))
-touched (Write q o v) p h = byBool (eqb q p) (λ t. eqb-true q p t) (λ t. let z : _≡_ {A = ℕ} 0 1 = cc in absurd (omega arith))
-
-pub touches-named : (e : HistoryEntry) (p : ℕ) → touchesPage e p ≡ true → pageNamed (e .access) ≡ p
-unfolding touchesPage writesPage
-touches-named e p h = touched (e .access) p h
-
-pub writes-named : (e : HistoryEntry) (p : ℕ) → writesPage e p ≡ true → pageNamed (e .access) ≡ p
-writes-named e p h = touches-named e p (writes-touches e p h)
-
-pub read-writes-none : (e : HistoryEntry) (q o p : ℕ) → e .access ≡ Read q o → writesPage e p ≡ false
-unfolding writesPage anyWrite cellsWritten
-read-writes-none e q o p h = rw h
+-- an access that takes copies writes no page; one that takes ownership writes the page that it names
+pub writes-own : (a : Access) (p : ℕ) → anyWrite (cellsWritten a) p ≡ true → (takes a ≡ GotOwn) × (pageWritten a ≡ p)
+unfolding anyWrite cellsWritten takes pageWritten
+writes-own (Read q o) p h = clash h refl
+writes-own (Write q o v) p h = (refl, byBool (eqb q p) (λ t. eqb-true q p t) (λ t. let z : _≡_ {A = ℕ} 0 1 = cc in absurd (omega arith)))
+writes-own (ReadCells cells outLength) p h = clash h refl
 
 -- ---- unstable writes: board b's past its first n entries
 

@@ -3,6 +3,7 @@ pub mod Evaluate
 pub mod Digest
 pub mod Table
 pub mod Conversions
+pub mod Cells
 pub mod Worked
 pub mod Running
 pub mod Computed

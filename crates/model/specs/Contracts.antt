@@ -4,8 +4,8 @@
 use mathlib.Core.Path.{_≡_}
 use mathlib.Core.Logic.{_≢_}
 use Prim.Native.Nat.{ℕ, _+_, _*_, _≤_, _<_}
-use mathlib.Core.Bool.{false}
-use mathlib.Core.List.{List}
+use mathlib.Core.Bool.{true, false}
+use mathlib.Core.List.{List, [], _∷_}
 use lib.ListN.{length}
 use Rattle.words.specs.Bytes.{Each}
 use Rattle.types.specs.declared.CopyOrOwn.{CopyOrOwn}
@@ -16,7 +16,7 @@ use Rattle.model.specs.Definitions.Layout.{byteValues, mostPages, slotCo
 use Rattle.model.specs.Definitions.Bank.{Entry, Board, Bank, boardAt, entryIn, frameAt}
 use Rattle.model.specs.Definitions.Codec.{encode, decode}
 use Rattle.model.specs.Definitions.WellFormed.{RecordOk, FieldsOk, FuseOk, RoomOk, PlaceOk, ReplayingOk, DownOk, rightIn, EntryOk, SizesOk}
-use Rattle.model.specs.Definitions.Steps.{Access, pageNamed, cellsWritten, giver}
+use Rattle.model.specs.Definitions.Steps.{Access, cellsWritten, names, giver}
 use Rattle.model.specs.Definitions.Replay.{lacking}
 use Rattle.model.specs.Definitions.Calls.{fetchNeed}
 
@@ -43,9 +43,10 @@ Recordable pages kind bytes = (n : ℕ) → n ≤ lastSince → RecordOk pages (
 
 -- ---- stores
 
--- the most that a call makes: two flushes of 32 records and a checkpoint of P + 2 stores (Laws/FewStores)
+-- the most that a call makes: a flush of 32 records for each of 16 pages, which covers a write fetch's two, and a checkpoint of P + 2 stores
+-- (Laws/FewStores)
 abbrev pub mostStores : ℕ
-mostStores = 2 * slotCount + mostPages + 2
+mostStores = mostPages * slotCount + mostPages + 2
 
 -- ---- the bytes of a bank
 
@@ -99,27 +100,32 @@ pub record WellFormedBut (b : ℕ) (Kept : List Entry → ℕ → Board → Type
 -- what the tests on entry leave
 pub record Entered (b : ℕ) (a : Access) (k : Bank) : Type 0 where
   pub board : b < length (k .boards)
-  pub page : pageNamed a < length (k .directory)
+  pub pages : (p : ℕ) → names a p ≡ true → p < length (k .directory)
   pub values : Each (λ v. v .1 < byteValues) (cellsWritten a)
   pub power : boardAt k b .state ≢ Down
   pub since : boardAt k b .working .since < lastSince
   pub number : boardAt k b .working .number < lastNumber
 
--- an access of an up board, as far as the codes up to 5 go
+-- an access of an up board, as far as the codes up to 5, and 10, go
 pub record CanAccess (b : ℕ) (a : Access) (k : Bank) : Type 0 where
-  pub page : pageNamed a < length (k .directory)
+  pub pages : (p : ℕ) → names a p ≡ true → p < length (k .directory)
   pub values : Each (λ w. w .1 < byteValues) (cellsWritten a)
   pub up : boardAt k b .state ≡ Up
   pub since : boardAt k b .working .since < lastSince
   pub number : boardAt k b .working .number < lastNumber
 
--- page p is fetched by board b: taker and owner are two up boards, and each board has the room that code 7 asks for
-pub record CanFetch (g : CopyOrOwn) (b p : ℕ) (k : Bank) : Type 0 where
-  pub page : p < length (k .directory)
+-- the needs of a board added up over the pages that board b fetches
+unfoldable pub fetchNeeds : CopyOrOwn → Bank → ℕ → List ℕ → ℕ → ℕ
+fetchNeeds g k b [] c = 0
+fetchNeeds g k b (p ∷ ps) c = fetchNeed g k b (giver k p) p c + fetchNeeds g k b ps c
+
+-- pages are fetched by board b: taker and owners are up boards, the taker no owner, and each board has the room that code 7 asks for
+pub record CanFetch (g : CopyOrOwn) (b : ℕ) (ps : List ℕ) (k : Bank) : Type 0 where
+  pub pages : Each (λ p. p < length (k .directory)) ps
   pub taker : boardAt k b .state ≡ Up
-  pub owner : boardAt k (giver k p) .state ≡ Up
-  pub other : giver k p ≢ b
-  pub room : (c : ℕ) → c < length (k .boards) → RoomFor (fetchNeed g k b (giver k p) p c) (boardAt k c)
+  pub owners : Each (λ p. boardAt k (giver k p) .state ≡ Up) ps
+  pub others : Each (λ p. giver k p ≢ b) ps
+  pub room : (c : ℕ) → c < length (k .boards) → RoomFor (fetchNeeds g k b ps c) (boardAt k c)
 
 -- what an access needs of its board
 pub record Ready (a : Access) (x : Board) : Type 0 where

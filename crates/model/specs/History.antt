@@ -8,3 +8,4 @@ pub mod OnBytes
 pub mod ReplayEndsStatement
 pub mod AloneStatement
 pub mod ConversionStatement
+pub mod CellsStatement

@@ -15,12 +15,14 @@ pub mod CodecBankBack
 pub mod WellFormedTest
 pub mod Fresh
 pub mod Boards
+pub mod Below
 pub mod Valid
 pub mod BoardFields
 pub mod Runs
 pub mod Keeps
 pub mod Moves
 pub mod Codes
+pub mod CellsRead
 pub mod Refusals
 pub mod FewStores
 pub mod LargestSince

@@ -1,16 +1,17 @@
 -- When two banks are alike but for page bytes and slots that no call reads: one is the other with a function on every page byte, and in the slots at or past a
--- count stand any bytes, as many as one likes. Laws/Likeness proves that every move keeps banks alike, and every call if the function keeps bytes bytes (code 2
--- tests a written value): page bytes are copied, zeroed, set and returned, and nothing else is decided by them. No law stands here. Assumes nothing.
+-- count stand any bytes, as many as one likes. Laws/Likeness proves that every move keeps banks alike, and every call if the function keeps bytes bytes (code
+-- 2 tests a written value): page bytes are copied, zeroed, set and returned, and nothing else is decided by them. No law stands here. Assumes nothing.
 use mathlib.Core.Path.{_≡_}
 use Prim.Native.Nat.{ℕ}
 use mathlib.Core.List.{List, [], _∷_, map}
 use Rattle.types.specs.declared.Answer.{Answer}
 use Rattle.types.specs.declared.Answer.the-variants.{Done, Malformed, OutOfRange, WrongState, CountersFull, ReplayDiffers, OwnerNotUp, LogFull, PowerLost}
+use Rattle.types.specs.declared.Answer.the-variants.{WrongCells}
 use Rattle.types.specs.declared.Frame.{Frame}
 use Rattle.types.specs.declared.Record.{Record}
 use Rattle.model.specs.Definitions.Parts.{each}
 use Rattle.model.specs.Definitions.Bank.{Log, Area, Working, Stable, Board, Bank, boardOver}
-use Rattle.model.specs.Definitions.Steps.{Run, Access, Read, Write}
+use Rattle.model.specs.Definitions.Steps.{Run, Access, Read, Write, ReadCells}
 use Rattle.model.specs.Definitions.Calls.{Result, Call, Accessing, Checkpointing, Fusing, Restarting}
 use Rattle.model.specs.Moves.{Move, NoteShown, NoteGot, StoreRecord, StoreFrame, StoreHead, StoreSelector, GiveCopy, PassOwnership, DropCopies, Perform}
 use Rattle.model.specs.Moves.{LosePower, SetFuse, Load, Repeat, TakeLast, Settle}
@@ -86,6 +87,7 @@ module _ (f : ℕ → ℕ) where
 unfoldable pub mappedAccess : (ℕ → ℕ) → Access → Access
 mappedAccess f (Read p o) = Read p o
 mappedAccess f (Write p o v) = Write p o (f v)
+mappedAccess f (ReadCells cells outLength) = ReadCells cells outLength
 
 -- a move with f on the byte that its access writes
 unfoldable pub mapped : (ℕ → ℕ) → Move → Move
@@ -103,7 +105,7 @@ mapped f (LosePower b) = LosePower b
 mapped f (SetFuse b n) = SetFuse b n
 mapped f (Load b) = Load b
 mapped f (Repeat b a) = Repeat b (mappedAccess f a)
-mapped f (TakeLast b a) = TakeLast b (mappedAccess f a)
+mapped f (TakeLast b) = TakeLast b
 mapped f (Settle b) = Settle b
 
 -- a call with f on the byte that it writes
@@ -117,6 +119,7 @@ mappedCall f (Restarting b) = Restarting b
 unfoldable pub mappedValue : (ℕ → ℕ) → Access → ℕ → ℕ
 mappedValue f (Read p o) v = f v
 mappedValue f (Write p o w) v = v
+mappedValue f (ReadCells cells outLength) v = v
 
 -- f on the value of a call that reads; a restart's value is a number
 unfoldable pub mappedCallValue : (ℕ → ℕ) → Call → ℕ → ℕ
@@ -136,11 +139,13 @@ onValue g (ReplayDiffers b) = ReplayDiffers b
 onValue g (OwnerNotUp b) = OwnerNotUp b
 onValue g (LogFull b) = LogFull b
 onValue g (PowerLost b) = PowerLost b
+onValue g WrongCells = WrongCells
 
--- the same answer but for g on its value, runs alike
+-- the same answer but for g on its value, runs alike, f on the bytes that are given
 pub record ResultAlike (f g : ℕ → ℕ) (x y : Result) : Type 0 where
   pub answer : y .answer ≡ onValue g (x .answer)
   pub run : RunAlike f (x .run) (y .run)
+  pub given : y .given ≡ map f (x .given)
 
 -- ---- slots that are never read
 
@@ -148,9 +153,10 @@ pub record ResultAlike (f g : ℕ → ℕ) (x y : Result) : Type 0 where
 abbrev pub SameBelowCounts : Bank → Bank → Type 0
 SameBelowCounts = Alike (λ v. v)
 
--- the same answer, stores and board lost, and banks that differ in no more than slots at or past a count
+-- the same answer, bytes given, stores and board lost, and banks that differ in no more than slots at or past a count
 pub record SameAnswer (x y : Result) : Type 0 where
   pub answer : y .answer ≡ x .answer
+  pub given : y .given ≡ x .given
   pub stores : y .run .stores ≡ x .run .stores
   pub lost : y .run .lost ≡ x .run .lost
   pub bank : SameBelowCounts (x .run .bank) (y .run .bank)

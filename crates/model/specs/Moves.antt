@@ -5,12 +5,12 @@ use mathlib.Core.Path.{_≡_}
 use mathlib.Core.Logic.{_≢_}
 use Prim.Native.Nat.{ℕ, _≤_, _<_}
 use mathlib.Core.Bool.{true, false, _||_}
-use mathlib.Core.Option.{Option, none, some}
-use mathlib.Core.List.{[]}
+use mathlib.Core.Option.{none, some}
+use mathlib.Core.List.{List, [], _∷_, _++_}
 use lib.ListN.{length}
 use lib.Dec.{eqb}
+use Rattle.words.specs.Bytes.{Each}
 use Rattle.types.specs.declared.Right.the-variants.{None, Own}
-use Rattle.types.specs.declared.CopyOrOwn.{CopyOrOwn}
 use Rattle.types.specs.declared.CopyOrOwn.the-variants.{GotCopy, GotOwn}
 use Rattle.types.specs.declared.Kind.the-variants.{Got, Shown}
 use Rattle.types.specs.declared.State.the-variants.{Up, Down, Replaying}
@@ -18,7 +18,7 @@ use Rattle.model.specs.Definitions.Parts.{zeros, member}
 use Rattle.model.specs.Definitions.Layout.{pageSize, noFuse}
 use Rattle.model.specs.Definitions.Bank.{Board, Bank, boardAt, entryAt, onBoard, onWorking}
 use Rattle.model.specs.Definitions.Steps.{Run, step, powerOff, withFuse, store, note, storedRecord, storedFrame, storedHead, storedSelector}
-use Rattle.model.specs.Definitions.Steps.{restedWorking, Access, pageNamed, takes, valueOf, access, frameOf, giveCopy, dropCopies, passOwnership}
+use Rattle.model.specs.Definitions.Steps.{restedWorking, Access, names, takes, readFrom, access, frameOf, giveCopy, dropCopies, passOwnership}
 use Rattle.model.specs.Definitions.Replay.{restarted, differs, tookDue, replayOver, replayed, settle}
 use Rattle.model.specs.Definitions.Calls.{lackingOf, copiesOut}
 use Rattle.model.specs.Contracts.{RoomFor, Entered, CanAccess}
@@ -44,10 +44,11 @@ pub data Move : Type 0 where
   -- power lost by a fuse of 0; a fuse set
   LosePower : (board : ℕ) → Move
   SetFuse : (board stores : ℕ) → Move
-  -- a restart's load, with the records that are due; an access repeated, with its got and the records that it makes due; the last got taken; a replay settled
+  -- a restart's load, with the records that are due; an access repeated, with its gots and the records that it makes due; the last gots taken; a replay
+  -- settled
   Load : (board : ℕ) → Move
   Repeat : (board : ℕ) (access : Access) → Move
-  TakeLast : (board : ℕ) (access : Access) → Move
+  TakeLast : (board : ℕ) → Move
   Settle : (board : ℕ) → Move
 
 unfoldable pub does : Move → Run → Run
@@ -64,22 +65,22 @@ does (Perform b a) r = step (access b a) r
 does (LosePower b) r = step (powerOff b) r
 does (SetFuse b n) r = step (onBoard b (withFuse n)) r
 does (Load b) r = step (onBoard b restarted) r
-does (Repeat b a) r = step (λ k. onBoard b (replayed a) (onBoard b (tookDue a) k)) r
-does (TakeLast b a) r = step (onBoard b (tookDue a)) r
+does (Repeat b a) r = step (λ k. onBoard b (replayed a) (onBoard b tookDue k)) r
+does (TakeLast b) r = step (onBoard b tookDue) r
 does (Settle b) r = step (settle b) r
 
 -- ---- when a call makes it
 
--- How far a call of a board has come between two moves: begun, with nothing under way; a got own noted, whose page has not passed; a page fetched, whose access
--- is to come; a replay that may have no record left; a replay that ended, without its checkpoint; over. From the access, the restart or the power loss on it
--- carries what the call is to feed to the history: the event, and who gave a page away.
+-- How far a call of a board has come between two moves: begun, with nothing under way; a got own noted, whose page has not passed; pages fetched for an access
+-- that is to come, with who gave them; a replay that may have no record left; a replay that ended, without its checkpoint; over. From the access, the restart
+-- or the power loss on it carries what the call is to feed to the history: the event, and who gave a page away.
 pub data Phase : Type 0 where
   Begun : Phase
   Noted : (giver page : ℕ) → Phase
-  Fetched : (giver : ℕ) (got : CopyOrOwn) (page : ℕ) → Phase
+  Fetched : (access : Access) (givers pages : List ℕ) → Phase
   Replays : (event : Event) → Phase
   Settled : (event : Event) → Phase
-  Finished : (event : Event) (gave : Option ℕ) → Phase
+  Finished : (event : Event) (gave : List ℕ) → Phase
 
 -- which boards may store a record, a frame or a head in a phase of a call of board d: any where nothing is under way; the caller alone once its got is noted
 -- or its replay settled; in the other phases none
@@ -93,12 +94,17 @@ pub data MayStore (d : ℕ) : ℕ → Phase → Type 0 where
 pub data Selects (d : ℕ) : ℕ → Phase → Phase → Type 0 where
   checkpoints : {b : ℕ} → Selects d b Begun Begun
   resumes : Selects d d (Settled Nothing) Begun
-  closes : {e : Event} → Selects d d (Settled e) (Finished e none)
+  closes : {e : Event} → Selects d d (Settled e) (Finished e [])
 
--- an access is made with nothing under way, or with its page just fetched from who gave it
-pub data MayPerform (a : Access) : Option ℕ → Phase → Type 0 where
-  local : MayPerform a none Begun
-  taken : {o : ℕ} → MayPerform a (some o) (Fetched o (takes a) (pageNamed a))
+-- a copy is taken with nothing under way, or right behind copies of lower pages
+pub data TakesCopy (a : Access) (o p : ℕ) : Phase → Phase → Type 0 where
+  first : TakesCopy a o p Begun (Fetched a (o ∷ []) (p ∷ []))
+  behind : {os ps : List ℕ} → Each (λ q. q < p) ps → TakesCopy a o p (Fetched a os ps) (Fetched a (os ++ (o ∷ [])) (ps ++ (p ∷ [])))
+
+-- an access is made with nothing under way, or with its pages just fetched from who gave them
+pub data MayPerform (a : Access) : List ℕ → Phase → Type 0 where
+  local : MayPerform a [] Begun
+  taken : {os ps : List ℕ} → MayPerform a os (Fetched a os ps)
 
 -- the spare area is a checkpoint of the working memory
 pub record Saved (x : Board) : Type 0 where
@@ -129,23 +135,23 @@ pub data Guard (d : ℕ) (Again : Access → Type 0) (k : Bank) : Move → Phase
   storesFrame : (b p : ℕ) {φ : Phase} → MayStore d b φ → boardAt k b .state ≡ Up → Guard d Again k (StoreFrame b p) φ φ
   storesHead : (b : ℕ) {φ : Phase} → MayStore d b φ → boardAt k b .state ≡ Up → Guard d Again k (StoreHead b) φ φ
   storesSelector : (b : ℕ) {φ ψ : Phase} → Selects d b φ ψ → boardAt k b .state ≡ Up → Saved (boardAt k b) → Guard d Again k (StoreSelector b) φ ψ
-  givesCopy : (o p : ℕ) → Gives o d p k → boardAt k d .state ≡ Up → RoomFor 1 (boardAt k d) → frameOf k d p .right ≡ None
-      → Guard d Again k (GiveCopy o d p) Begun (Fetched o GotCopy p)
-  passesOwnership : (o p : ℕ) → Gives o d p k → Secure (boardAt k d)
+  givesCopy : (a : Access) (o p : ℕ) {φ ψ : Phase} → TakesCopy a o p φ ψ → takes a ≡ GotCopy → names a p ≡ true → Gives o d p k → boardAt k d .state ≡ Up
+      → RoomFor 1 (boardAt k d) → frameOf k d p .right ≡ None → Guard d Again k (GiveCopy o d p) φ ψ
+  passesOwnership : (a : Access) (o p : ℕ) → takes a ≡ GotOwn → names a p ≡ true → Gives o d p k → Secure (boardAt k d)
       → ((c : ℕ) → c < length (k .boards) → c ≢ d → (eqb c o || member c (entryAt k p .copies)) ≡ true → RoomFor 1 (boardAt k c))
-      → Guard d Again k (PassOwnership o d p) (Noted o p) (Fetched o GotOwn p)
+      → Guard d Again k (PassOwnership o d p) (Noted o p) (Fetched a (o ∷ []) (p ∷ []))
   dropsCopies : (p : ℕ) → p < length (k .directory) → ((c : ℕ) → c < length (k .boards) → member c (entryAt k p .copies) ≡ true → RoomFor 1 (boardAt k c))
       → Guard d Again k (DropCopies p) Begun Begun
-  performs : (a : Access) {gave : Option ℕ} {φ : Phase} → MayPerform a gave φ → CanAccess d a k → lackingOf d a k ≡ false → copiesOut a k ≡ false
-      → Guard d Again k (Perform d a) φ (Finished (Accessed d a (valueOf a (boardAt k d .working .frames))) gave)
-  losesPower : d < length (k .boards) → Guard d Again k (LosePower d) Begun (Finished (LostPower d) none)
+  performs : (a : Access) {gave : List ℕ} {φ : Phase} → MayPerform a gave φ → CanAccess d a k → lackingOf d a k ≡ false → copiesOut a k ≡ false
+      → Guard d Again k (Perform d a) φ (Finished (Accessed d a (readFrom a (boardAt k d .working .frames))) gave)
+  losesPower : d < length (k .boards) → Guard d Again k (LosePower d) Begun (Finished (LostPower d) [])
   setsFuse : (n : ℕ) → boardAt k d .state ≢ Down → 0 < n → n ≤ noFuse → Guard d Again k (SetFuse d n) Begun Begun
   loads : d < length (k .boards) → boardAt k d .state ≡ Down → Guard d Again k (Load d) Begun (Replays (Restarted d (boardAt k d .stable .selected .number)))
   repeatsAccess : (a : Access) → Again a → Entered d a k → boardAt k d .state ≡ Replaying → differs a (boardAt k d) ≡ false
-      → replayOver (tookDue a (boardAt k d)) ≡ false
-      → Guard d Again k (Repeat d a) Begun (Replays (Accessed d a (valueOf a (tookDue a (boardAt k d) .working .frames))))
+      → replayOver (tookDue (boardAt k d)) ≡ false
+      → Guard d Again k (Repeat d a) Begun (Replays (Accessed d a (readFrom a (tookDue (boardAt k d) .working .frames))))
   takesLast : (a : Access) → Entered d a k → boardAt k d .state ≡ Replaying → differs a (boardAt k d) ≡ false
-      → replayOver (tookDue a (boardAt k d)) ≡ true → Guard d Again k (TakeLast d a) Begun (Replays Nothing)
+      → replayOver (tookDue (boardAt k d)) ≡ true → Guard d Again k (TakeLast d) Begun (Replays Nothing)
   settles : {e : Event} → d < length (k .boards) → boardAt k d .state ≡ Replaying → replayOver (boardAt k d) ≡ true
       → Guard d Again k (Settle d) (Replays e) (Settled e)
 
@@ -158,6 +164,6 @@ pub data Moves (d : ℕ) (Again : Access → Type 0) (φ : Phase) (r : Run) : Ph
   still : Moves d Again φ r φ r
   then : {χ ψ : Phase} {s : Run} → Moves d Again φ r χ s → (m : Move) → s .lost ≡ none → Guard d Again (s .bank) m χ ψ → Moves d Again φ r ψ (does m s)
   waits : {e : Event} {s : Run} → Moves d Again φ r (Replays e) s → s .lost ≡ none → replayOver (boardAt (s .bank) d) ≡ false
-      → Moves d Again φ r (Finished e none) s
-  ends : {s : Run} → Moves d Again φ r Begun s → Moves d Again φ r (Finished Nothing none) s
+      → Moves d Again φ r (Finished e []) s
+  ends : {s : Run} → Moves d Again φ r Begun s → Moves d Again φ r (Finished Nothing []) s
   cutOff : {χ ψ : Phase} {s : Run} {c : ℕ} → Moves d Again φ r χ s → s .lost ≡ some c → Moves d Again φ r ψ s

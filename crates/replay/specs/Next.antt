@@ -1,4 +1,4 @@
--- The next stored record of a replaying board: read at its place, ready or not, and valid where it is ready. Assumes nothing.
+-- A stored record of a replaying board: read at its place, ready or not, and valid where it is ready. Assumes nothing.
 use mathlib.Core.Path.{_≡_, refl, ap, _∙_}
 use Prim.Native.Nat.{ℕ, suc, _+_, _*_, _≤_, _<_}
 use native.Mathlib.Omega.{arith}
@@ -8,13 +8,15 @@ use mathlib.Core.List.{List, [], _∷_}
 use lib.ListN.{length, drop, getD, length-drop, drop-of-length-le}
 use lib.Seq.{drop-cons}
 use lib.Dec.{eqb, leb}
-use borrow.Author.Tests.{leb-false, eq-eqb, ne-eqb}
+use borrow.Author.Tests.{eq-eqb, ne-eqb}
+use Rattle.words.specs.Bytes.{Each}
 use Rattle.words.specs.LittleEndian.{numberOf}
 use Rattle.types.specs.declared.Record.{Record}
 use Rattle.model.specs.Definitions.Parts.{part, byteAt}
 use Rattle.model.specs.Definitions.Layout.{sinceSize, slotSize, sinceAt, placeAt, areaCountAt, areaSlotsAt}
 use Rattle.model.specs.Definitions.Bank.{Board}
 use Rattle.model.specs.Definitions.Codec.{decodeRecord, decodeBoardIn}
+use Rattle.model.specs.Contracts.{storedCount}
 use Rattle.model.specs.Definitions.WellFormed.{RecordOk, FieldsOk}
 use Rattle.model.specs.Definitions.Replay.{recordsLeft, replayOver}
 use Rattle.model.specs.Laws.Logic.{byBool, clash}
@@ -39,17 +41,16 @@ found-none n (some r) e t = clash (rw e) t
 
 -- ---- the record that is ready
 
--- no record is left
-pub ready-over : (x : Board) → length (x .stable .selected .log .records) ≤ x .working .place → ready x ≡ none
-unfolding ready recordsLeft readyIn
-ready-over x h = rw (drop-of-length-le (x .stable .selected .log .records) {i = x .working .place} h)
+-- no record is left behind a place
+pub ready-past : (l : List Record) (p since : ℕ) → length l ≤ p → readyIn (drop p l) since ≡ none
+unfolding readyIn
+ready-past l p since h = rw (drop-of-length-le l {i = p} h)
 
--- the record at the place
-ready-at : (x : Board) (r : Record) → x .working .place < length (x .stable .selected .log .records)
-    → r ≡ getD (x .stable .selected .log .records) (x .working .place) r
-    → ready x ≡ elim (eqb (r .count) (x .working .since)) [ true ↦ some r | false ↦ none ]
-unfolding ready recordsLeft readyIn
-ready-at x r h e = rw (drop-cons (x .stable .selected .log .records) (x .working .place) r h, ← e)
+-- the record at a place
+ready-here : (l : List Record) (p since : ℕ) (r : Record) → p < length l → r ≡ getD l p r
+    → readyIn (drop p l) since ≡ elim (eqb (r .count) since) [ true ↦ some r | false ↦ none ]
+unfolding readyIn
+ready-here l p since r h e = rw (drop-cons l p r h, ← e)
 
 module _ {pages : ℕ} {l : List ℕ} (b : IsBlock pages l) where
   -- "when no record is left", by the count and the place that are read
@@ -57,21 +58,26 @@ module _ {pages : ℕ} {l : List ℕ} (b : IsBlock pages l) where
   unfolding replayOver decodeBoardIn
   over-read n p e f = rw (e, f, stored-count b)
 
-  -- the record that is read at the place: its count equals since, or doesn't
-  module _ (p s : ℕ) (r : Record) (h : replayOver (boardOf pages l) ≡ false) (e : p ≡ byteAt l placeAt) (f : s ≡ numberOf (part l sinceAt sinceSize))
+  -- the record that is read at a place: its count equals since, or doesn't
+  module _ (p s : ℕ) (r : Record) (h : p < storedCount (boardOf pages l))
       (g : r ≡ decodeRecord (part (selectedPart pages l) (areaSlotsAt pages + p * slotSize) slotSize)) where
-    read-at : ready (boardOf pages l) ≡ elim (eqb (r .count) s) [ true ↦ some r | false ↦ none ]
-    unfolding replayOver decodeBoardIn
-    read-at =
-        let x : Board = boardOf pages l in
-        let k : p < length (x .stable .selected .log .records) = rw e (leb-false (length (x .stable .selected .log .records)) (x .working .place) h) in
-        rw f (ready-at x r (rw e at k) (g ∙ rw (stored-record b p r k, e)))
+    read-at : readyIn (drop p (boardOf pages l .stable .selected .log .records)) s ≡ elim (eqb (r .count) s) [ true ↦ some r | false ↦ none ]
+    read-at = ready-here (boardOf pages l .stable .selected .log .records) p s r h (g ∙ stored-record b p r h)
 
-    pub ready-read : r .count ≡ s → ready (boardOf pages l) ≡ some r
+    pub ready-read : r .count ≡ s → readyIn (drop p (boardOf pages l .stable .selected .log .records)) s ≡ some r
     ready-read t = rw (eq-eqb (r .count) s t) at read-at
 
-    pub unready-read : (r .count ≡ s → ⊥) → ready (boardOf pages l) ≡ none
+    pub unready-read : (r .count ≡ s → ⊥) → readyIn (drop p (boardOf pages l .stable .selected .log .records)) s ≡ none
     unready-read t = rw (ne-eqb (r .count) s t) at read-at
+
+-- the place and the since that are read
+pub place-read : (pages : ℕ) (l : List ℕ) (p : ℕ) → p ≡ byteAt l placeAt → p ≡ boardOf pages l .working .place
+unfolding decodeBoardIn
+place-read pages l p e = e
+
+pub since-read : (pages : ℕ) (l : List ℕ) (s : ℕ) → s ≡ numberOf (part l sinceAt sinceSize) → s ≡ boardOf pages l .working .since
+unfolding decodeBoardIn
+since-read pages l s e = e
 
 -- a record that is ready is the first of those left
 pub record Ready (l : List Record) (since : ℕ) (r : Record) : Type 0 where
@@ -87,13 +93,14 @@ readyIn-some (q ∷ qs) since r h =
     (λ t. let z : _≡_ {A = ℕ} 0 1 = cc in absurd (omega arith))
 
 -- so there is one at the place, and it is valid
+pub valid-at : {pages : ℕ} (l : List Record) (p since : ℕ) (r : Record) → Each (RecordOk pages) l → readyIn (drop p l) since ≡ some r
+    → (p < length l) × RecordOk pages r
+valid-at l p since r ok h =
+    let s : Ready (drop p l) since r = readyIn-some (drop p l) since r h in
+    let n : length (drop p l) ≡ suc (length (drop 1 (drop p l))) = ap length (s .first) in
+    (omega (arith, length-drop p l), each-head (rw (s .first) at (each-drop p l ok)))
+
 pub ready-valid : {pages : ℕ} (x : Board) (r : Record) → FieldsOk pages x → ready x ≡ some r
     → (x .working .place < length (x .stable .selected .log .records)) × RecordOk pages r
 unfolding ready recordsLeft
-ready-valid x r ok h =
-    let rs : List Record = x .stable .selected .log .records in
-    let s : Ready (drop (x .working .place) rs) (x .working .since) r = readyIn-some (drop (x .working .place) rs) (x .working .since) r h in
-    let n : length (drop (x .working .place) rs) ≡ suc (length (drop 1 (drop (x .working .place) rs))) = ap length (s .first) in (
-      omega (arith, length-drop (x .working .place) rs),
-      each-head (rw (s .first) at (each-drop (x .working .place) rs (ok .selected .log .records))),
-    )
+ready-valid x r ok h = valid-at (x .stable .selected .log .records) (x .working .place) (x .working .since) r (ok .selected .log .records) h

@@ -7,9 +7,10 @@ use types::PAGE_SIZE;
 use types::Record;
 ghost use mathlib.Core.Path.{_≡_};
 ghost use mathlib.Core.Option.{none};
+ghost use lib.ListN.{drop};
 ghost use Rattle.model.specs.Definitions.Replay.{replayOver};
 ghost use Rattle.steps.specs.Blocks.{IsBlock, boardOf};
-ghost use Rattle.replay.specs.Contracts.{stood, ready};
+ghost use Rattle.replay.specs.Contracts.{stood, readyIn, ready};
 
 // The next stored record, where there is one that serves: what the definitions say by an option.
 pub struct NextRecord {
@@ -40,19 +41,27 @@ pub fn no_record() -> NextRecord
     }
 }
 
+// The stored record at a place, if there is one and its count equals since.
+pub fn ready_at(block: &[u8], pages: usize, place: usize, since: u32) -> NextRecord
+    requires { ⌜ IsBlock pages (now block) ⌝ }
+    ensures { λ r. ⌜ r ≡ stood (readyIn (drop place (boardOf pages (now (block .entry)) .stable .selected .log .records)) since) ⌝ }
+{
+    if selected::read_stored_count(block, pages) as usize <= place {
+        return no_record();
+    }
+    let value = selected::read_stored(block, pages, place);
+    let count = value.count;
+    if count != since {
+        return no_record();
+    }
+    NextRecord { found: true, value }
+}
+
 // The record that "is next and its count equals since".
 pub fn next_ready(block: &[u8], pages: usize) -> NextRecord
     requires { ⌜ IsBlock pages (now block) ⌝ }
     ensures { λ r. ⌜ r ≡ stood (ready (boardOf pages (now (block .entry)))) ⌝ }
 {
-    if replay_over(block, pages) {
-        return no_record();
-    }
     let place = read_place(block);
-    let value = selected::read_stored(block, pages, place as usize);
-    let count = value.count;
-    if count != read_since(block) {
-        return no_record();
-    }
-    NextRecord { found: true, value }
+    ready_at(block, pages, place as usize, read_since(block))
 }

@@ -9,14 +9,17 @@ use steps::access::perform;
 use types::Frame;
 use types::Kind;
 ghost use mathlib.Core.Path.{_≡_};
-ghost use mathlib.Core.Bool.{false};
+ghost use mathlib.Core.Bool.{true};
 ghost use Prim.Native.Nat.{_<_};
 ghost use lib.ListN.{length, set};
 ghost use Rattle.model.specs.Definitions.Layout.{pageSize, slotCount, lastSince, lastNumber};
 ghost use Rattle.model.specs.Definitions.Bank.{onWorking};
 ghost use Rattle.model.specs.Definitions.Codec.{encodeBoard};
-ghost use Rattle.model.specs.Definitions.Replay.{used, usedUp, lacking, replayed};
-ghost use Rattle.steps.specs.Blocks.{IsBlock, boardOf, readOrWrite};
+ghost use Rattle.model.specs.Definitions.Steps.{Access, cellsWritten};
+ghost use Rattle.model.specs.Definitions.Replay.{used, usedUp, replayed};
+ghost use Rattle.model.specs.Laws.Valid.{Writable};
+ghost use Rattle.steps.specs.Asked.{wroteByte};
+ghost use Rattle.steps.specs.Blocks.{IsBlock, boardOf};
 ghost use Rattle.replay.specs.Contracts.{usesNext, usedNext};
 
 // One record used: the next place, since 0.
@@ -80,8 +83,10 @@ pub fn replay_access(
     value: u8,
 )
     requires { ⌜ IsBlock pages (now block) × (boardOf pages (now block) .working .number < lastNumber) × (boardOf pages (now block) .working .since < lastSince)
-        × (page < pages) × (offset < pageSize) × (lacking (readOrWrite writes page offset value) (boardOf pages (now block) .working .frames) ≡ false) ⌝ }
-    ensures { λ _. ⌜ now (block .exit) ≡ encodeBoard (replayed (readOrWrite writes page offset value) (boardOf pages (now (block .entry)))) ⌝ }
+        × (writes ≡ true → (page < pages) × (offset < pageSize))
+        × Writable (boardOf pages (now block) .working .frames) (wroteByte writes page offset value) ⌝ }
+    ensures { λ _. ⌜ ((a : Access) → cellsWritten a ≡ wroteByte writes page offset value
+        → now (block .exit) ≡ encodeBoard (replayed a (boardOf pages (now (block .entry))))) ⌝ }
 {
     perform(block, pages, writes, page, offset, value);
     use_up(block, pages);

@@ -1,8 +1,7 @@
--- Words of the steps' contracts: a block, the board that it stands for, an access by its flag, and what a flush does to a board. No law stands
--- here. Assumes nothing.
+-- Words of the steps' contracts: a block, the board that it stands for, and what a flush does to a board. No law stands here.
+-- Assumes nothing.
 use mathlib.Core.Path.{_≡_}
 use Prim.Native.Nat.{ℕ, _*_, _≤_}
-use mathlib.Core.Bool.{Bool, true, false}
 use mathlib.Core.List.{List, [], _++_}
 use Rattle.types.specs.declared.Record.{Record}
 use Rattle.model.specs.Definitions.Parts.{zeros}
@@ -10,7 +9,7 @@ use Rattle.model.specs.Definitions.Layout.{mostPages, slotSize}
 use Rattle.model.specs.Definitions.Bank.{Board, withLog, onWorking, onSelected}
 use Rattle.model.specs.Definitions.Codec.{encodeBoard, decodeBoard}
 use Rattle.model.specs.Definitions.WellFormed.{FieldsOk}
-use Rattle.model.specs.Definitions.Steps.{Access, Read, Write, withRecord}
+use Rattle.model.specs.Definitions.Steps.{withRecord}
 
 -- the board that a block stands for
 abbrev pub boardOf : ℕ → List ℕ → Board
@@ -21,11 +20,6 @@ pub record IsBlock (pages : ℕ) (l : List ℕ) : Type 0 where
   pub few : pages ≤ mostPages
   pub fields : FieldsOk pages (decodeBoard pages l)
   pub back : encodeBoard (decodeBoard pages l) ≡ l
-
--- the access that a flag and numbers stand for; a read has no use for the value
-unfoldable pub readOrWrite : Bool → ℕ → ℕ → ℕ → Access
-readOrWrite true p o v = Write p o v
-readOrWrite false p o v = Read p o
 
 -- "one record appended to the selected area", nothing else changed
 abbrev pub withStored : Record → Board → Board

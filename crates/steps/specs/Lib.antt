@@ -1,7 +1,9 @@
 pub mod Blocks
+pub mod Asked
 pub mod BlockLaws
 pub mod BankBlocks
 pub mod Access
+pub mod Gathered
 pub mod Checkpoint
 pub mod Fuse
 pub mod Logs

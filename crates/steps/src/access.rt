@@ -1,7 +1,9 @@
-// An access on a board's block: the byte and the right of a page, the counters, one byte or one frame written.
+// An access on a board's block: bytes and rights of pages read, the counters, one byte or one frame written.
 use fields::bytes::get;
 use fields::bytes::put;
 use fields::frame::right_of;
+use fields::sets::has;
+use fields::sets::with_member;
 use fields::widths::FRAME_BYTES_AT;
 use fields::widths::FRAME_SIZE;
 use fields::widths::RIGHT_AT;
@@ -15,15 +17,20 @@ use types::Frame;
 use types::PAGE_SIZE;
 use types::Right;
 ghost use mathlib.Core.Path.{_≡_};
-ghost use Prim.Native.Nat.{ℕ, _<_};
+ghost use mathlib.Core.Bool.{true, _&&_};
+ghost use mathlib.Core.List.{map};
+ghost use Prim.Native.Nat.{ℕ, _*_, _<_};
 ghost use lib.ListN.{length};
+ghost use Rattle.words.specs.Bytes.{Each};
+ghost use Rattle.model.specs.Definitions.Parts.{member};
 ghost use Rattle.model.specs.Definitions.Layout.{pageSize, lastSince, lastNumber};
 ghost use Rattle.model.specs.Definitions.Bank.{emptyFrame, frameAt, onWorking};
 ghost use Rattle.model.specs.Definitions.Codec.{encodeBoard};
-ghost use Rattle.model.specs.Definitions.Steps.{Read, Write, lacks, cellByte, valueOf, accessed, withFrame};
-ghost use Rattle.model.specs.Definitions.Replay.{lacking};
+ghost use Rattle.model.specs.Definitions.Steps.{Access, Read, Write, cellsAsked, cellsWritten, lacks, lacksPage, cellByte, accessed, withFrame};
 ghost use Rattle.model.specs.Definitions.Calls.{countersFull};
-ghost use Rattle.steps.specs.Blocks.{IsBlock, boardOf, readOrWrite};
+ghost use Rattle.steps.specs.Blocks.{IsBlock, boardOf};
+ghost use Rattle.fields.specs.Cells.{CellIn};
+ghost use Rattle.steps.specs.Asked.{got, Takes, wroteByte};
 
 // "since or access number at 4,294,967,295" (document 02, F-2): the last value of each counter
 const LAST_SINCE: u32 = 4294967295;
@@ -49,20 +56,23 @@ fn right(block: &[u8], pages: usize, page: usize) -> Right
     right_of(get(block, FRAMES_AT + page * FRAME_SIZE + RIGHT_AT))
 }
 
-// "value (the byte read ..; 0 for the rest)"
-pub fn value_of(block: &[u8], pages: usize, writes: bool, page: usize, offset: usize) -> u8
-    requires { ⌜ IsBlock pages (now block) × (page < pages) × (offset < pageSize) ⌝ }
-    ensures { λ r. ⌜ ((v : ℕ) → r ≡ valueOf (readOrWrite writes page offset v) (boardOf pages (now (block .entry)) .working .frames)) ⌝ }
+// "The bytes go in the asked order into a second lent buffer" (document 02, F-3).
+pub fn gather(block: &[u8], pages: usize, cells: &[u8], out: &mut [u8])
+    requires { ⌜ IsBlock pages (now block) × Each (CellIn pages) (cellsAsked (now cells)) × (length (now cells) ≡ 2 * length (now out)) ⌝ }
+    ensures { λ _. ⌜ now (out .exit) ≡ map (cellByte (boardOf pages (now (block .entry)) .working .frames)) (cellsAsked (now (cells .entry))) ⌝ }
 {
-    if writes {
-        return 0;
+    let mut i = 0;
+    while i < out.len() {
+        let page = cells[2 * i] as usize;
+        let offset = cells[2 * i + 1] as usize;
+        out[i] = read_byte(block, pages, page, offset);
+        i += 1;
     }
-    read_byte(block, pages, page, offset)
 }
 
 // "local if a read has any right or a write has right own": whether a right is too little.
 fn too_little(right: Right, writes: bool) -> bool
-    ensures { λ r. ⌜ ((p o v : ℕ) → r ≡ lacks (readOrWrite writes p o v) right) ⌝ }
+    ensures { λ r. ⌜ r ≡ lacks (got writes) right ⌝ }
 {
     match right {
         Right::None => true,
@@ -71,12 +81,32 @@ fn too_little(right: Right, writes: bool) -> bool
     }
 }
 
-// Whether an access lacks the right to its page.
-pub fn lacks_right(block: &[u8], pages: usize, page: usize, writes: bool) -> bool
+// Whether a page is named and its right is too little.
+fn lacks_page(block: &[u8], pages: usize, page: usize, named: u16, writes: bool) -> bool
     requires { ⌜ IsBlock pages (now block) × (page < pages) ⌝ }
-    ensures { λ r. ⌜ ((o v : ℕ) → r ≡ lacking (readOrWrite writes page o v) (boardOf pages (now (block .entry)) .working .frames)) ⌝ }
+    ensures { λ r. ⌜ r ≡ (member page named && lacks (got writes) (frameAt (boardOf pages (now (block .entry)) .working .frames) page .right)) ⌝ }
 {
+    if !has(page, named) {
+        return false;
+    }
     too_little(right(block, pages, page), writes)
+}
+
+// The pages that an access names and to which it lacks a right.
+pub fn lacking_pages(block: &[u8], pages: usize, named: u16, writes: bool) -> u16
+    requires { ⌜ IsBlock pages (now block) ⌝ }
+    ensures { λ r. ⌜ ((a : Access) → Takes pages a writes named → (p : ℕ)
+        → member p r ≡ lacksPage a (boardOf pages (now (block .entry)) .working .frames) p) ⌝ }
+{
+    let mut lacking = 0;
+    let mut page = 0;
+    while page < pages {
+        if lacks_page(block, pages, page, named, writes) {
+            lacking = with_member(page, lacking);
+        }
+        page += 1;
+    }
+    lacking
 }
 
 pub fn counters_full(block: &[u8], pages: usize) -> bool
@@ -117,11 +147,12 @@ fn write_access(block: &mut [u8], pages: usize, page: usize, offset: usize, valu
     );
 }
 
-// Either of the two, by its flag; a read has no use for the value.
+// Either of the two, by its flag; a read has no use for page, offset and value.
 pub fn perform(block: &mut [u8], pages: usize, writes: bool, page: usize, offset: usize, value: u8)
     requires { ⌜ IsBlock pages (now block) × (boardOf pages (now block) .working .number < lastNumber) × (boardOf pages (now block) .working .since < lastSince)
-        × (page < pages) × (offset < pageSize) ⌝ }
-    ensures { λ _. ⌜ now (block .exit) ≡ encodeBoard (onWorking (accessed (readOrWrite writes page offset value)) (boardOf pages (now (block .entry)))) ⌝ }
+        × (writes ≡ true → (page < pages) × (offset < pageSize)) ⌝ }
+    ensures { λ _. ⌜ ((a : Access) → cellsWritten a ≡ wroteByte writes page offset value
+        → now (block .exit) ≡ encodeBoard (onWorking (accessed a) (boardOf pages (now (block .entry))))) ⌝ }
 {
     if writes {
         write_access(block, pages, page, offset, value);

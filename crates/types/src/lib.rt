@@ -43,7 +43,7 @@ pub enum State {
     Replaying,
 }
 
-// What a call answers. `Done` carries the value; the others carry document 01's who where its table names a board.
+// What a call answers, by documents 01 and 02. `Done` carries the value; the others carry who where the documents name a board.
 pub enum Answer {
     Done(u32),
     Malformed,
@@ -54,6 +54,7 @@ pub enum Answer {
     OwnerNotUp(u8),
     LogFull(u8),
     PowerLost(u8),
+    WrongCells,
 }
 
 // An answer, and beside it the stable stores made in the call.

@@ -1,4 +1,4 @@
-//! Both engines on the same bytes: the archive by its seven C names, the second engine in place.
+//! Both engines on the same bytes: the archive by its eight C names, the second engine in place.
 //! An answer is the number that C gets: code + 2^8 who + 2^16 stores + 2^32 value.
 
 use second::calls::{self, Answer, Call};
@@ -7,6 +7,8 @@ use second::convert;
 use second::fault::Fault;
 use second::layout::{Form, NEWEST, OLDER};
 use second::line::Line;
+use second::made;
+use second::random::Random;
 use second::runner::call_for;
 use second::watch::Watch;
 
@@ -18,13 +20,28 @@ extern "C" {
     fn bank_checkpoint(bank: *mut u8, len: usize, board: u32) -> u64;
     fn bank_fuse(bank: *mut u8, len: usize, board: u32, stores: u32) -> u64;
     fn bank_restart(bank: *mut u8, len: usize, board: u32) -> u64;
+    fn bank_shelf(
+        bank: *mut u8,
+        len: usize,
+        board: u32,
+        cells: *const u8,
+        cells_len: usize,
+        out: *mut u8,
+        out_len: usize,
+    ) -> u64;
     fn bank_convert(old: *const u8, old_len: usize, new: *mut u8, new_len: usize) -> u64;
 }
 
-/// A call of the archive; the slice is what it may touch.
+/// A call of the archive that is lent the bank alone, as all are that the runner has a line for.
 pub fn archive(bank: &mut [u8], line: &Line) -> u64 {
+    archive_lent(bank, line, &mut [], &mut [])
+}
+
+/// A call of the archive; the slices are what it may touch. A shelf call only reads its list, which is lent for writing so
+/// that the caller may look; no other call takes a list or a second buffer.
+fn archive_lent(bank: &mut [u8], line: &Line, cells: &mut [u8], out: &mut [u8]) -> u64 {
     let (at, len) = (bank.as_mut_ptr(), bank.len());
-    // Safe as the header asks: the pointer is valid for the length, and the borrow keeps others away.
+    // Safe as the header asks: each pointer is valid for its length, and the borrows keep others away and apart.
     unsafe {
         match *line {
             Line::Make { boards, pages } => bank_make(at, len, boards, pages),
@@ -43,8 +60,19 @@ pub fn archive(bank: &mut [u8], line: &Line) -> u64 {
             Line::Cut { board } => bank_fuse(at, len, board, 0),
             Line::Call(Call::Fuse { board, stores }) => bank_fuse(at, len, board, stores),
             Line::Call(Call::Restart { board }) => bank_restart(at, len, board),
+            Line::Call(Call::Shelf { board, .. }) => {
+                let (list, second) = (cells.as_mut_ptr(), out.as_mut_ptr());
+                bank_shelf(at, len, board, list, cells.len(), second, out.len())
+            }
         }
     }
+}
+
+/// A shelf call of the archive, for these cells.
+#[allow(dead_code)]
+pub fn archive_shelf(bank: &mut [u8], board: u32, cells: &mut [u8], out: &mut [u8]) -> u64 {
+    let line = Line::Call(Call::shelf(board, Vec::new()));
+    archive_lent(bank, &line, cells, out)
 }
 
 /// A conversion by the archive. It only reads the old bank, which is lent for writing so that the caller may look.
@@ -80,7 +108,7 @@ fn watch_of(bank: &[u8]) -> Watch {
 
 /// How the two engines differed.
 pub struct Difference {
-    /// As the runner writes it; a conversion in words.
+    /// As a script has it; a conversion in words.
     pub call: String,
     pub answers: [u64; 2],
     pub buffers: Vec<Buffer>,
@@ -89,7 +117,8 @@ pub struct Difference {
 /// A buffer of a call: as it was given, and as each engine left it.
 pub struct Buffer {
     pub name: &'static str,
-    pub form: Form,
+    /// None if it isn't for a bank.
+    pub form: Option<Form>,
     pub before: Box<[u8]>,
     pub archive: Box<[u8]>,
     pub second: Box<[u8]>,
@@ -102,6 +131,8 @@ pub struct Pair {
     before: Box<[u8]>,
     watch: Watch,
     fault: Fault,
+    /// For what second buffers hold before a call.
+    random: Random,
 }
 
 impl Pair {
@@ -112,32 +143,36 @@ impl Pair {
             before: bytes.into(),
             watch: watch_of(bytes),
             fault,
+            random: Random::new(bytes.len() as u64),
         }
     }
 
     /// One call of both; its packed answer if all agrees.
     pub fn take(&mut self, line: &Line) -> Result<u64, Box<Difference>> {
         self.before.copy_from_slice(&self.archive);
-        let answer = archive(&mut self.archive, line);
-        let other = self.take_second(line);
-        if answer == other && self.archive == self.second {
+        let mut lent = Lent::new(line, &mut self.random);
+        let answer = archive_lent(&mut self.archive, line, &mut lent.cells, &mut lent.out);
+        let other = self.take_second(line, &mut lent.second_out);
+        if answer == other && self.archive == self.second && lent.agrees(line) {
             return Ok(answer);
         }
         let bank = Buffer {
             name: "bank",
-            form: NEWEST,
+            form: Some(NEWEST),
             before: self.before.clone(),
             archive: self.archive.clone(),
             second: self.second.clone(),
         };
+        let mut buffers = vec![bank];
+        buffers.extend(lent.buffers(line));
         Err(Box::new(Difference {
             call: line.to_string(),
             answers: [answer, other],
-            buffers: vec![bank],
+            buffers,
         }))
     }
 
-    fn take_second(&mut self, line: &Line) -> u64 {
+    fn take_second(&mut self, line: &Line, out: &mut [u8]) -> u64 {
         if let Line::Make { boards, pages } = line {
             let answer = calls::make(&mut self.second, *boards, *pages);
             self.watch = watch_of(&self.second);
@@ -147,9 +182,64 @@ impl Pair {
         packed(&calls::call(
             &mut self.second,
             &call,
+            out,
             self.fault,
             &mut self.watch,
         ))
+    }
+}
+
+/// What a shelf call is lent besides the bank, each an allocation of exactly its length: the list, which the archive is
+/// to leave alone, and each engine's second buffer, of the same bytes. All are of no bytes in any other call.
+struct Lent {
+    cells: Box<[u8]>,
+    before: Box<[u8]>,
+    out: Box<[u8]>,
+    second_out: Box<[u8]>,
+}
+
+impl Lent {
+    fn new(line: &Line, random: &mut Random) -> Lent {
+        let mut before = line.call().map_or(Vec::new(), |call| call.second_buffer());
+        made::fill(random, &mut before);
+        Lent {
+            cells: list(line).into(),
+            before: before.as_slice().into(),
+            out: before.as_slice().into(),
+            second_out: before.into(),
+        }
+    }
+
+    fn agrees(&self, line: &Line) -> bool {
+        *self.cells == *list(line) && self.out == self.second_out
+    }
+
+    fn buffers(self, line: &Line) -> Vec<Buffer> {
+        if !matches!(line, Line::Call(Call::Shelf { .. })) {
+            return Vec::new();
+        }
+        let cells = Buffer {
+            name: "list",
+            form: None,
+            before: list(line).into(),
+            archive: self.cells,
+            second: list(line).into(),
+        };
+        let out = Buffer {
+            name: "second buffer",
+            form: None,
+            before: self.before,
+            archive: self.out,
+            second: self.second_out,
+        };
+        vec![cells, out]
+    }
+}
+
+fn list(line: &Line) -> &[u8] {
+    match line {
+        Line::Call(Call::Shelf { cells, .. }) => cells,
+        _ => &[],
     }
 }
 
@@ -165,14 +255,14 @@ pub fn convert_both(old: &[u8], target: &[u8], fault: Fault) -> Result<u64, Box<
     }
     let source = Buffer {
         name: "old bank",
-        form: OLDER,
+        form: Some(OLDER),
         before: old.into(),
         archive: read,
         second: old.into(),
     };
     let target = Buffer {
         name: "target",
-        form: NEWEST,
+        form: Some(NEWEST),
         before: target.into(),
         archive,
         second,

@@ -1,6 +1,8 @@
-//! Compares the archive of the proved engine with the second engine, call by call: the answer and all bytes, of a
-//! conversion those of both buffers. It ends at the first difference, with status 1.
+//! Compares the archive of the proved engine with the second engine, call by call: the answer and all bytes of every
+//! buffer. It ends at the first difference, with status 1.
 
+// Some of it is for show and the bench alone.
+#[allow(dead_code)]
 mod engines;
 mod met;
 mod place;
@@ -16,6 +18,7 @@ use second::layout::{Layout, NEWEST, OLDER};
 use second::line::Line;
 use second::made;
 use second::random::Random;
+use second::shelves::Shelf;
 use second::trial::Trial;
 use std::process::ExitCode;
 
@@ -45,7 +48,7 @@ impl Comparing {
             random: Random::new(seed),
             fault,
             wanted,
-            met: Met::default(),
+            met: Met::new(),
         }
     }
 
@@ -76,9 +79,18 @@ impl Comparing {
     }
 
     fn take(&mut self, source: Source, pair: &mut Pair, line: &Line) -> Found {
-        if self.left() > 0 {
-            let answer = pair.take(line)?;
-            self.met.call(source, line, answer);
+        if self.left() == 0 {
+            return Ok(());
+        }
+        // Which case it is can be told of well-formed banks.
+        let shelf = match (source, line) {
+            (Source::Script | Source::Made, Line::Call(call)) => Shelf::asked(&pair.archive, call),
+            _ => None,
+        };
+        let answer = pair.take(line)?;
+        self.met.call(source, line, answer);
+        if let Some(shelf) = shelf {
+            self.met.shelf(&shelf, answer);
         }
         Ok(())
     }
@@ -98,7 +110,7 @@ impl Comparing {
             _ => self.random.between(20, 400),
         };
         let seed = self.random.below(u32::MAX) as u64;
-        let mut generator = Generator::new(seed, lines);
+        let mut generator = Generator::with_shelves(seed, lines);
         let mut trial = Trial::new(Fault::None);
         let mut pair = None;
         for _ in 0..lines {
@@ -109,7 +121,7 @@ impl Comparing {
             if pair.is_some() && matches!(line, Line::Make { .. }) {
                 continue;
             }
-            trial.take(Some(line));
+            trial.take(Some(line.clone()));
             if let (None, Some(bank)) = (&pair, &trial.session.bank) {
                 let mut bytes = vec![0; bank.len()];
                 made::fill(&mut self.random, &mut bytes);
@@ -322,13 +334,15 @@ fn tell_buffer(buffer: &Buffer) {
         None => println!("all bytes agree"),
         Some(at) => {
             let (count, place) = (differing.len(), place_in(buffer, *at));
-            println!("{count} bytes differ, the first at {at} ({place}): before {}, archive {}, second {}",
-                before[*at], archive[*at], second[*at]);
+            println!(
+                "{count} bytes differ, the first at {at}{place}: before {}, archive {}, second {}",
+                before[*at], archive[*at], second[*at]
+            );
         }
     }
 }
 
-/// What stands at an offset of a buffer, as its head has it.
+/// What stands at an offset of a buffer for a bank, as its head has it.
 fn place_in(buffer: &Buffer, at: usize) -> String {
     let head = if buffer.second.len() < 4 {
         &[0; 4]
@@ -336,8 +350,9 @@ fn place_in(buffer: &Buffer, at: usize) -> String {
         &buffer.second[..]
     };
     match buffer.form {
-        OLDER => place::name(Layout::<OLDER>::named_by(head), at),
-        _ => place::name(Layout::of(head), at),
+        None => String::new(),
+        Some(OLDER) => format!(" ({})", place::name(Layout::<OLDER>::named_by(head), at)),
+        Some(_) => format!(" ({})", place::name(Layout::of(head), at)),
     }
 }
 

@@ -3,6 +3,7 @@
 use crate::engines::unpacked;
 use second::calls::Call;
 use second::line::Line;
+use second::shelves::{Shelf, Shelves, ROWS};
 
 #[derive(Clone, Copy)]
 pub enum Source {
@@ -31,26 +32,28 @@ const SOURCES: [&str; 10] = [
     "conversions into a target of a wrong length",
 ];
 
-/// The runner's letters, a fuse of 0 apart from the others, and which codes each call can answer.
-const KINDS: [(&str, &[usize]); 8] = [
+/// The scripts' letters, a fuse of 0 apart from the others, and which codes each call can answer.
+const KINDS: [(&str, &[usize]); 9] = [
     ("N", &[0, 1, 2]),
     ("R", &[0, 1, 2, 3, 4, 5, 6, 7, 8]),
     ("W", &[0, 1, 2, 3, 4, 5, 6, 7, 8]),
+    ("H", &[0, 1, 2, 3, 4, 5, 6, 7, 8, 10]),
     ("C", &[0, 1, 2, 3, 8]),
     ("F 0", &[0, 1, 2, 3]),
     ("F", &[0, 1, 2, 3]),
     ("S", &[0, 1, 2, 3]),
     ("convert", &[0, 1]),
 ];
-const CODES: usize = 9;
-const CONVERT: usize = 7;
+const CODES: [usize; 10] = [0, 1, 2, 3, 4, 5, 6, 7, 8, 10];
+const MOST_CODE: usize = 10;
+const CONVERT: usize = 8;
 
-#[derive(Default)]
 pub struct Met {
     pub calls: u64,
-    answered: [[u64; CODES]; KINDS.len()],
+    answered: [[u64; MOST_CODE + 1]; KINDS.len()],
     /// For each source its banks, its calls and those answered 1.
     sources: [[u64; 3]; SOURCES.len()],
+    shelves: Shelves,
 }
 
 fn kind_of(line: &Line) -> usize {
@@ -58,14 +61,28 @@ fn kind_of(line: &Line) -> usize {
         None => 0,
         Some(Call::Read { .. }) => 1,
         Some(Call::Write { .. }) => 2,
-        Some(Call::Checkpoint { .. }) => 3,
-        Some(Call::Fuse { stores: 0, .. }) => 4,
-        Some(Call::Fuse { .. }) => 5,
-        Some(Call::Restart { .. }) => 6,
+        Some(Call::Shelf { .. }) => 3,
+        Some(Call::Checkpoint { .. }) => 4,
+        Some(Call::Fuse { stores: 0, .. }) => 5,
+        Some(Call::Fuse { .. }) => 6,
+        Some(Call::Restart { .. }) => 7,
     }
 }
 
 impl Met {
+    pub fn new() -> Met {
+        Met {
+            calls: 0,
+            answered: Default::default(),
+            sources: Default::default(),
+            shelves: Shelves::new(),
+        }
+    }
+
+    pub fn shelf(&mut self, shelf: &Shelf, answer: u64) {
+        self.shelves.count(shelf, &unpacked(answer));
+    }
+
     pub fn bank(&mut self, source: Source) {
         self.sources[source as usize][0] += 1;
     }
@@ -82,28 +99,29 @@ impl Met {
     fn count(&mut self, source: Source, kind: usize, answer: u64) {
         let code = unpacked(answer).code as usize;
         self.calls += 1;
-        self.answered[kind][code.min(CODES - 1)] += 1;
+        self.answered[kind][code.min(MOST_CODE)] += 1;
         self.sources[source as usize][1] += 1;
         self.sources[source as usize][2] += (code == 1) as u64;
     }
 
     pub fn print(&self) {
-        let codes = (0..CODES).map(|code| format!("{:>10}", format!("code {code}")));
-        println!("call          calls{}", codes.collect::<String>());
-        for ((kind, _), codes) in KINDS.iter().zip(&self.answered) {
-            let columns = codes.iter().map(|count| format!("{count:>10}"));
-            let all: u64 = codes.iter().sum();
-            println!("{kind:>7}{all:>12}{}", columns.collect::<String>());
+        let codes = CODES.map(|code| format!("{:>10}", format!("code {code}")));
+        println!("call          calls{}", codes.concat());
+        for ((kind, _), counts) in KINDS.iter().zip(&self.answered) {
+            let columns = CODES.map(|code| format!("{:>10}", counts[code]));
+            let all: u64 = counts.iter().sum();
+            println!("{kind:>7}{all:>12}{}", columns.concat());
         }
         for (name, [banks, calls, refused]) in SOURCES.iter().zip(&self.sources) {
             println!("{name}: {banks} banks, {calls} calls, {refused} of them with code 1");
         }
+        self.shelves.print(ROWS.len());
         println!("never met: {}", self.never_met());
     }
 
-    /// Calls with a code that they can answer and didn't.
+    /// Calls with a code that they can answer and didn't, and cases of shelf calls that didn't come.
     fn never_met(&self) -> String {
-        let missing: Vec<String> = KINDS
+        let mut missing: Vec<String> = KINDS
             .iter()
             .zip(&self.answered)
             .flat_map(|((kind, codes), met)| {
@@ -113,10 +131,11 @@ impl Met {
                     .map(move |code| format!("{kind} with {code}"))
             })
             .collect();
+        missing.extend(self.shelves.missing().map(String::from));
         if missing.is_empty() {
             "none".into()
         } else {
-            missing.join(", ")
+            missing.join("; ")
         }
     }
 }

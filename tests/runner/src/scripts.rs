@@ -71,9 +71,10 @@ fn script(random: &mut Random) -> Vec<u8> {
 
 /// A line with some letter and some numbers, most of them right.
 fn line_at_limits(random: &mut Random) -> Vec<u8> {
-    let letter = random.pick(b"NRWCKFSRWRWSx ");
+    // A shelf call's letter is none of the runner's.
+    let letter = random.pick(b"NRWCKFSRWRWSHx ");
     let right = match letter {
-        b'R' => 3,
+        b'R' | b'H' => 3,
         b'W' => 4,
         b'N' | b'F' => 2,
         _ => 1,

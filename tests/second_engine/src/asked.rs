@@ -1,6 +1,7 @@
 //! Which call comes next on a bank: numbers in range mostly, at and past every limit sometimes.
 
-use crate::calls::Call;
+use crate::calls::{Call, MOST_CELLS};
+use crate::engine::on_copy;
 use crate::layout::*;
 use crate::line::Line;
 use crate::random::Random;
@@ -56,7 +57,7 @@ pub fn any(random: &mut Random, layout: Layout, strict: u32) -> Line {
         offset,
         value,
     };
-    let call = match random.below(40) {
+    let call = match random.below(50) {
         0 => return make(random, layout),
         1 | 2 => Call::Fuse {
             board,
@@ -70,9 +71,58 @@ pub fn any(random: &mut Random, layout: Layout, strict: u32) -> Line {
         7 | 8 => Call::Fuse { board, stores: 0 },
         9..=12 => Call::Checkpoint { board },
         13..=25 => read,
+        26..=35 => shelf(random, layout, board, strict),
         _ => write,
     };
     Line::Call(call)
+}
+
+/// A shelf call with cells of any pages, or with arguments that are odd.
+fn shelf(random: &mut Random, layout: Layout, board: u32, strict: u32) -> Call {
+    let most = MOST_CELLS as u32;
+    let count = match random.below(10) {
+        0 => most,
+        1 => random.between(1, most),
+        _ => random.between(1, 5),
+    };
+    let mut below = |limit: usize| random.below(limit as u32) as u8;
+    let cells = (0..count).flat_map(|_| [below(layout.pages), below(PAGE)]);
+    let cells = cells.collect();
+    if random.permille(strict) && random.permille(900) {
+        return Call::shelf(board, cells);
+    }
+    odd_shelf(random, layout, board, cells)
+}
+
+/// A shelf call with a list that is empty, odd or too long, a cell out of range or a second buffer of a wrong length;
+/// sometimes with several of these, and rarely with none.
+pub fn odd_shelf(random: &mut Random, layout: Layout, board: u32, mut cells: Vec<u8>) -> Call {
+    for _ in 0..random.pick(&[0, 1, 1, 2]) {
+        match random.below(7) {
+            0 => cells.clear(),
+            1 => cells.truncate(1),
+            2 => cells.push(random.below(256) as u8),
+            3 | 4 => {
+                let count = random.pick(&[33, 33, 34, 40, 128, 129, 256, 257, 300]);
+                cells.resize(2 * count + random.permille(200) as usize, 0);
+            }
+            _ if cells.is_empty() => (),
+            place => {
+                // Often in the last pair, which may be past the 32nd.
+                let last = cells.len() as u32 - 1;
+                let from = random.pick(&[0, 0, last.saturating_sub(2)]);
+                let at = random.between(from, last) as usize;
+                let limit = [layout.pages, PAGE][at % 2] as u8;
+                cells[at] = [limit, random.pick(&[limit, limit + 1, 255])][place as usize % 2];
+            }
+        }
+    }
+    let count = cells.len() / 2;
+    let room = match random.below(2) {
+        0 => random.pick(&[0, 1, count.saturating_sub(1), count + 1, 2 * count, 32, 33]),
+        _ => count,
+    };
+    Call::Shelf { board, cells, room }
 }
 
 /// A making with numbers near the bank's own and at the limits.
@@ -94,39 +144,72 @@ pub fn fitting(random: &mut Random, bank: &[u8]) -> Line {
     if bank[layout.state(board)] != REPLAYING || random.permille(300) {
         return any(random, layout, 985);
     }
-    let (page, write) = awaited(random, bank, layout, board);
+    awaited(random, bank, layout, board).into()
+}
+
+/// What the gots that are due are needed by, or nearly; else an access to a page that the board has a right to.
+fn awaited(random: &mut Random, bank: &[u8], layout: Layout, board: usize) -> Call {
+    let group = on_copy(bank, |engine| engine.group_due(board));
+    let group = group
+        .iter()
+        .map(|slot| (kind_at(bank, *slot), bank[slot + SLOT_PAGE] as usize));
+    let group: Vec<(Kind, usize)> = group.collect();
+    let (kind, page) = match group[..] {
+        [] => local(random, bank, layout, board),
+        [alone] => alone,
+        _ => group[random.below(group.len() as u32) as usize],
+    };
+    let shelf_chance = [500, 300, 900][group.len().min(2)];
     let (board, page) = (board as u32, page as u32);
     let offset = random.below(PAGE as u32);
-    Line::Call(match write {
-        false => Call::Read {
+    if random.permille(shelf_chance) {
+        let pages = group
+            .iter()
+            .map(|(_, page)| *page as u8)
+            .chain([page as u8]);
+        return near_shelf(random, layout, board, pages.collect());
+    }
+    match kind {
+        GOT_COPY => Call::Read {
             board,
             page,
             offset,
         },
-        true => Call::Write {
+        _ => Call::Write {
             board,
             page,
             offset,
             value: random.below(256),
         },
-    })
+    }
 }
 
-/// A page, and whether it is to be written: that of a got which is due, else one that the board has a right to.
-fn awaited(random: &mut Random, bank: &[u8], layout: Layout, board: usize) -> (usize, bool) {
-    let place = bank[layout.place(board)] as usize;
-    let slot = layout.area_slot(layout.selected(bank, board), place.min(SLOTS - 1));
-    let since = layout.get_count(bank, layout.since(board));
-    let due = layout.get_count(bank, slot + SLOT_COUNT) == since;
-    let (kind, page) = (kind_at(bank, slot), bank[slot + SLOT_PAGE] as usize);
-    if due && matches!(kind, GOT_COPY | GOT_OWN) && page < layout.pages {
-        return (page, kind == GOT_OWN);
+/// A shelf call of these pages, in any order; sometimes one is left out or another comes in.
+fn near_shelf(random: &mut Random, layout: Layout, board: u32, mut pages: Vec<u8>) -> Call {
+    for place in (1..pages.len()).rev() {
+        pages.swap(place, random.below(place as u32 + 1) as usize);
     }
+    match random.below(8) {
+        0 => drop(pages.pop()),
+        1 => pages.push(random.below(layout.pages as u32) as u8),
+        _ => (),
+    }
+    pages.truncate(MOST_CELLS);
+    let cells = pages.into_iter();
+    let cells = cells.flat_map(|page| [page, random.below(PAGE as u32) as u8]);
+    Call::shelf(board, cells.collect())
+}
+
+/// A page that the board has a right to, and as a got the access that this allows.
+fn local(random: &mut Random, bank: &[u8], layout: Layout, board: usize) -> (Kind, usize) {
     let start = random.below(layout.pages as u32) as usize;
     let held = (start..start + layout.pages)
         .map(|page| page % layout.pages)
         .find(|page| bank[layout.frame(board, *page)] != NONE)
         .unwrap_or(start);
     let owned = bank[layout.frame(board, held)] == OWN;
-    (held, owned && random.permille(500))
+    match owned && random.permille(500) {
+        true => (GOT_OWN, held),
+        false => (GOT_COPY, held),
+    }
 }

@@ -1,7 +1,7 @@
 //! The calls: numbers as they come, codes in their order, one answer each.
 //! A call never fails otherwise than by its code.
 
-use crate::access::Access;
+use crate::access::{Access, Cell, Deed};
 use crate::check::fits;
 use crate::engine::{Engine, Refusal, Step};
 use crate::fault::Fault;
@@ -9,7 +9,13 @@ use crate::layout::*;
 use crate::older;
 use crate::watch::{During, Watch};
 
-#[derive(Clone, Copy, PartialEq, Eq, Debug)]
+/// How many cells a shelf call may name.
+pub const MOST_CELLS: usize = 32;
+
+/// What the tests fill a second buffer with before they lend it.
+pub const UNWRITTEN: u8 = 165;
+
+#[derive(Clone, PartialEq, Eq, Debug)]
 pub enum Call {
     Read {
         board: u32,
@@ -21,6 +27,13 @@ pub enum Call {
         page: u32,
         offset: u32,
         value: u32,
+    },
+    /// Reads many cells at once: page, offset, page, offset and so on. The bytes go into a second buffer, whose length
+    /// is `room`.
+    Shelf {
+        board: u32,
+        cells: Vec<u8>,
+        room: usize,
     },
     Checkpoint {
         board: u32,
@@ -57,49 +70,111 @@ impl Call {
         match *self {
             Call::Read { board, .. } | Call::Write { board, .. } => board,
             Call::Checkpoint { board } | Call::Restart { board } => board,
-            Call::Fuse { board, .. } => board,
+            Call::Fuse { board, .. } | Call::Shelf { board, .. } => board,
         }
     }
 
-    /// Code 2 is for numbers that are not in range.
+    /// A shelf call with a second buffer that has one byte for each cell.
+    pub fn shelf(board: u32, cells: Vec<u8>) -> Call {
+        let room = cells.len() / 2;
+        Call::Shelf { board, cells, room }
+    }
+
+    /// A second buffer to lend to the call; of no bytes if it takes none.
+    pub fn second_buffer(&self) -> Vec<u8> {
+        match self {
+            Call::Shelf { room, .. } => vec![UNWRITTEN; *room],
+            _ => Vec::new(),
+        }
+    }
+
+    /// Code 2 is for numbers that are not in range. Of a list every whole pair counts, however many there are.
     pub fn in_range<const FORM: Form>(&self, layout: Layout<FORM>) -> bool {
         let place_fits =
             |page: u32, offset: u32| (page as usize) < layout.pages && (offset as usize) < PAGE;
         (self.board() as usize) < layout.boards
-            && match *self {
-                Call::Read { page, offset, .. } => place_fits(page, offset),
+            && match self {
+                Call::Read { page, offset, .. } => place_fits(*page, *offset),
                 Call::Write {
                     page,
                     offset,
                     value,
                     ..
-                } => place_fits(page, offset) && value <= 255,
-                Call::Fuse { stores, .. } => stores < NO_FUSE as u32,
+                } => place_fits(*page, *offset) && *value <= 255,
+                Call::Shelf { cells, .. } => cells
+                    .chunks_exact(2)
+                    .all(|pair| place_fits(pair[0] as u32, pair[1] as u32)),
+                Call::Fuse { stores, .. } => *stores < NO_FUSE as u32,
                 _ => true,
             }
     }
 
-    /// The read or write, of numbers that are in range.
+    /// Code 10 is for a list that isn't 1 to 32 whole pairs, and for a second buffer that hasn't one byte for each.
+    pub fn list_fits(&self, room: usize) -> bool {
+        let Call::Shelf { cells, .. } = self else {
+            return true;
+        };
+        let count = cells.len() / 2;
+        cells.len() % 2 == 0 && (1..=MOST_CELLS).contains(&count) && room == count
+    }
+
+    /// The access, of numbers that are in range and a list that fits.
     pub fn access(&self) -> Option<Access> {
-        let access = |board: u32, page: u32, offset: u32, write| Access {
+        let access = |board: u32, deed: Deed, cells: Vec<Cell>| Access {
             board: board as usize,
+            deed,
+            cells,
+        };
+        let cell = |page: u32, offset: u32| Cell {
             page: page as usize,
             offset: offset as usize,
-            write,
         };
-        match *self {
+        match self {
             Call::Read {
                 board,
                 page,
                 offset,
-            } => Some(access(board, page, offset, None)),
+            } => Some(access(*board, Deed::Read, vec![cell(*page, *offset)])),
             Call::Write {
                 board,
                 page,
                 offset,
                 value,
-            } => Some(access(board, page, offset, Some(value as u8))),
+            } => {
+                let deed = Deed::Write(*value as u8);
+                Some(access(*board, deed, vec![cell(*page, *offset)]))
+            }
+            Call::Shelf { board, cells, .. } => {
+                let cells = cells.chunks_exact(2);
+                let cells = cells.map(|pair| cell(pair[0] as u32, pair[1] as u32));
+                Some(access(*board, Deed::Shelf, cells.collect()))
+            }
             _ => None,
+        }
+    }
+}
+
+impl From<&Access> for Call {
+    fn from(access: &Access) -> Call {
+        let board = access.board as u32;
+        let (page, offset) = (access.cells[0].page as u32, access.cells[0].offset as u32);
+        match access.deed {
+            Deed::Read => Call::Read {
+                board,
+                page,
+                offset,
+            },
+            Deed::Write(byte) => Call::Write {
+                board,
+                page,
+                offset,
+                value: byte as u32,
+            },
+            Deed::Shelf => {
+                let pairs = access.cells.iter();
+                let pairs = pairs.flat_map(|cell| [cell.page as u8, cell.offset as u8]);
+                Call::shelf(board, pairs.collect())
+            }
         }
     }
 }
@@ -137,9 +212,15 @@ pub fn make_in<const FORM: Form>(buffer: &mut [u8], boards: u32, pages: u32) -> 
     Answer::default()
 }
 
-/// Any call on a bank.
-pub fn call(bank: &mut [u8], call: &Call, fault: Fault, watch: &mut Watch) -> Answer {
-    call_in::<NEWEST>(bank, call, fault, watch)
+/// Any call on a bank. `out` is the second buffer of a shelf call, written under code 0 alone; others don't look at it.
+pub fn call(
+    bank: &mut [u8],
+    call: &Call,
+    out: &mut [u8],
+    fault: Fault,
+    watch: &mut Watch,
+) -> Answer {
+    call_in::<NEWEST>(bank, call, out, fault, watch)
 }
 
 /// The same in a form. In the older one it is what an old bank would answer, were it not converted: the rules of the
@@ -147,6 +228,7 @@ pub fn call(bank: &mut [u8], call: &Call, fault: Fault, watch: &mut Watch) -> An
 pub fn call_in<const FORM: Form>(
     bank: &mut [u8],
     call: &Call,
+    out: &mut [u8],
     fault: Fault,
     watch: &mut Watch,
 ) -> Answer {
@@ -154,8 +236,8 @@ pub fn call_in<const FORM: Form>(
     if !fault.trusts_its_bank() && !fits::<FORM>(bank) {
         return Answer::refused(1);
     }
-    if !call.in_range(Layout::<FORM>::named_by(bank)) {
-        return Answer::refused(2);
+    if let Some(code) = misasked(call, Layout::<FORM>::named_by(bank), out.len(), fault) {
+        return Answer::refused(code);
     }
     let mut scratch;
     let target = if fault == Fault::Untouched {
@@ -165,7 +247,7 @@ pub fn call_in<const FORM: Form>(
         bank
     };
     let mut engine = Engine::<FORM>::new(target, fault, watch);
-    let result = perform(&mut engine, call);
+    let result = perform(&mut engine, call, out);
     let stores = if fault == Fault::MadeUpStores {
         1
     } else {
@@ -187,8 +269,23 @@ pub fn call_in<const FORM: Form>(
     }
 }
 
+/// Code 2, then code 10, if the arguments earn one.
+fn misasked<const FORM: Form>(
+    call: &Call,
+    layout: Layout<FORM>,
+    room: usize,
+    fault: Fault,
+) -> Option<u8> {
+    let (out_of_range, misshapen) = (!call.in_range(layout), !call.list_fits(room));
+    match fault {
+        Fault::TenBeforeTwo if misshapen => Some(10),
+        _ if out_of_range => Some(2),
+        _ => misshapen.then_some(10),
+    }
+}
+
 /// Code 3, then the call's own steps.
-fn perform<const FORM: Form>(engine: &mut Engine<FORM>, call: &Call) -> Step<u32> {
+fn perform<const FORM: Form>(engine: &mut Engine<FORM>, call: &Call, out: &mut [u8]) -> Step<u32> {
     let board = call.board() as usize;
     let state = engine.state(board);
     let fits = match call {
@@ -202,38 +299,59 @@ fn perform<const FORM: Form>(engine: &mut Engine<FORM>, call: &Call) -> Step<u32
             who: board,
         });
     }
-    match *call {
-        Call::Read { .. } | Call::Write { .. } => access(engine, call),
-        Call::Checkpoint { .. } => engine.checkpoint(board, During::Asked).map(|_| 0),
-        Call::Fuse { stores, .. } => engine.set_fuse(board, stores as u16).map(|_| 0),
-        Call::Restart { .. } => engine.restart(board),
+    match (call, call.access()) {
+        (_, Some(access)) => perform_access(engine, &access, out),
+        (Call::Restart { .. }, _) => engine.restart(board),
+        (Call::Fuse { stores, .. }, _) => engine.set_fuse(board, *stores as u16).map(|_| 0),
+        _ => engine.checkpoint(board, During::Asked).map(|_| 0),
     }
 }
 
-/// Code 4 looks at the counters as they are at entry, before a replay looks at its log.
-fn access<const FORM: Form>(engine: &mut Engine<FORM>, call: &Call) -> Step<u32> {
-    let Some(access) = call.access() else {
-        return Ok(0);
-    };
+/// Code 4 looks at the counters as they are at entry, before a replay looks at its log. Gives the answer's value.
+fn perform_access<const FORM: Form>(
+    engine: &mut Engine<FORM>,
+    access: &Access,
+    out: &mut [u8],
+) -> Step<u32> {
     let board = access.board;
     let most = match engine.fault {
         Fault::NarrowLimit => older::Layout::MOST,
         _ => Layout::<FORM>::MOST,
     };
+    if engine.fault == Fault::ClearBuffer {
+        out.fill(0);
+    }
     if engine.since(board) == most || engine.number(board) == u32::MAX {
         return Err(Refusal {
             code: 4,
             who: board,
         });
     }
-    let replaying = engine.state(board) == REPLAYING;
-    let result = if replaying {
-        engine.replay(&access)
-    } else {
-        engine.live(&access)
+    let result = match engine.state(board) {
+        REPLAYING => engine.replay(access),
+        _ => engine.live(access),
     };
     if engine.fault == Fault::CountRefused && matches!(result, Err(Refusal { code: 5..=7, .. })) {
         engine.count_access(board);
     }
-    result.map(u32::from)
+    let read = std::mem::take(&mut engine.read);
+    if engine.fault == Fault::BufferOfBlown && access.deed == Deed::Shelf && !read.is_empty() {
+        out.copy_from_slice(&read);
+    }
+    result.map(|_| handed_out(&read, access.deed, out, engine.fault))
+}
+
+/// A read's byte is the answer's value, a shelf call's bytes go into the second buffer.
+fn handed_out(read: &[u8], deed: Deed, out: &mut [u8], fault: Fault) -> u32 {
+    let first = read.first().copied().unwrap_or(0) as u32;
+    match deed {
+        Deed::Shelf => {
+            out.copy_from_slice(read);
+            match fault {
+                Fault::ShelfValue => first,
+                _ => 0,
+            }
+        }
+        _ => first,
+    }
 }

@@ -19,7 +19,11 @@ pub enum Last {
     None,
     Shown,
     Dropped,
-    Got { own: bool, page: usize },
+    /// Its kind, and as bits the pages of all gots that go together with it.
+    Got {
+        own: bool,
+        pages: u16,
+    },
 }
 
 impl Last {
@@ -27,11 +31,11 @@ impl Last {
         matches!(self, Last::Got { .. })
     }
 
+    /// In a bank that was reached the board lacks these pages when they are due, so it is enough to name them.
     fn needed_by(self, access: &Access) -> bool {
-        self == Last::Got {
-            own: access.write.is_some(),
-            page: access.page,
-        }
+        let named =
+            |pages: u16| (0..MAX_PAGES).all(|page| pages >> page & 1 == 0 || access.names(page));
+        matches!(self, Last::Got { own, pages } if own == (access.wanted() == OWN) && named(pages))
     }
 }
 
@@ -47,6 +51,13 @@ struct Replay {
 pub struct Before {
     replaying: bool,
     restarted: Option<Replay>,
+}
+
+/// A call as it was answered, with its second buffer.
+pub struct Answered<'a> {
+    pub call: &'a Call,
+    pub answer: &'a Answer,
+    pub out: &'a [u8],
 }
 
 pub struct Judge {
@@ -94,14 +105,14 @@ impl Judge {
     pub fn after(
         &mut self,
         bank: &[u8],
-        call: &Call,
-        answer: &Answer,
+        answered: Answered,
         before: Before,
         watch: &Watch,
     ) -> Verdict {
+        let Answered { call, answer, out } = answered;
         let premise = self.premise(call, answer, &before);
         let replay = self.replay(call, answer, before, watch);
-        let history = self.history.take(bank, call, answer);
+        let history = self.history.take(bank, call, answer, out);
         let recovery = self.recovery(bank, answer, watch);
         if let Err(why) = premise {
             self.premise_holds = false;
@@ -136,8 +147,10 @@ impl Judge {
     /// Every recovery point is as demanded, never falls, and covers what was given away.
     fn recovery(&mut self, bank: &[u8], answer: &Answer, watch: &Watch) -> Result<(), String> {
         let layout = Layout::of(bank);
-        if let (Some(owner), 0) = (watch.fetched_from, answer.code) {
-            self.grants[owner] = get32(bank, layout.number(owner)) as u64;
+        if answer.code == 0 {
+            for owner in &watch.givers {
+                self.grants[*owner] = get32(bank, layout.number(*owner)) as u64;
+            }
         }
         for board in 0..layout.boards {
             let point = recovery_point(bank, board);
@@ -236,21 +249,34 @@ impl Judge {
 /// The replay that a restart of this board begins.
 fn replay_of(bank: &[u8], layout: Layout, board: usize) -> Replay {
     let area = layout.selected(bank, board);
-    let stored = bank[layout.stored(area)] as usize;
-    let slot = layout.area_slot(area, stored.max(1) - 1);
-    let page = bank[slot + SLOT_PAGE] as usize;
-    let last = match kind_at(bank, slot) {
-        _ if stored == 0 => Last::None,
-        SHOWN => Last::Shown,
-        DROPPED => Last::Dropped,
-        kind => Last::Got {
-            own: kind == GOT_OWN,
-            page,
-        },
-    };
     Replay {
-        last,
+        last: last_of(bank, layout, area),
         accesses: recovery_point(bank, board) - get32(bank, area) as u64,
         done: 0,
+    }
+}
+
+/// The last record of an area. A got of count 0 goes together with the got right before it.
+fn last_of(bank: &[u8], layout: Layout, area: usize) -> Last {
+    let kind = |slot: usize| kind_at(bank, layout.area_slot(area, slot));
+    let is_got = |slot: usize| matches!(kind(slot), GOT_COPY | GOT_OWN);
+    let count = |slot: usize| layout.get_count(bank, layout.area_slot(area, slot) + SLOT_COUNT);
+    let page = |slot: usize| bank[layout.area_slot(area, slot) + SLOT_PAGE];
+    let stored = bank[layout.stored(area)] as usize;
+    let Some(last) = stored.checked_sub(1) else {
+        return Last::None;
+    };
+    match kind(last) {
+        SHOWN => return Last::Shown,
+        DROPPED => return Last::Dropped,
+        _ => (),
+    }
+    let mut first = last;
+    while first > 0 && count(first) == 0 && is_got(first - 1) {
+        first -= 1;
+    }
+    Last::Got {
+        own: kind(last) == GOT_OWN,
+        pages: (first..=last).fold(0, |pages, slot| pages | 1 << page(slot)),
     }
 }

@@ -315,9 +315,10 @@ mod tests {
         let mut old = fresh::<OLDER>(1, 1);
         let mut early = converted(&old, 7);
         let mut watch = Watch::new();
-        let mut read_old = |old: &mut [u8]| call_in::<OLDER>(old, &READ, Fault::None, &mut watch);
+        let mut read_old =
+            |old: &mut [u8]| call_in::<OLDER>(old, &READ, &mut [], Fault::None, &mut watch);
         let mut watch = Watch::new();
-        let mut read = |bank: &mut [u8]| call(bank, &READ, Fault::None, &mut watch);
+        let mut read = |bank: &mut [u8]| call(bank, &READ, &mut [], Fault::None, &mut watch);
         for _ in 0..65_535 {
             assert_eq!(read_old(&mut old), Answer::default());
             assert_eq!(read(&mut early), Answer::default());
@@ -341,7 +342,7 @@ mod tests {
             layout.put_count(&mut bank, layout.since(0), since);
             put32(&mut bank, layout.number(0), number);
             let before = bank;
-            let answer = call(&mut bank, &READ, Fault::None, &mut Watch::new());
+            let answer = call(&mut bank, &READ, &mut [], Fault::None, &mut Watch::new());
             assert_eq!(bank == before, answer.code == 4);
             answer.code
         };
@@ -365,7 +366,7 @@ mod tests {
     fn old_banks_are_code_1() {
         for (n, p) in (1..=MAX_BOARDS).flat_map(|n| (1..=MAX_PAGES).map(move |p| (n, p))) {
             let mut old = fresh::<OLDER>(n, p);
-            let answer = call(&mut old, &READ, Fault::None, &mut Watch::new());
+            let answer = call(&mut old, &READ, &mut [], Fault::None, &mut Watch::new());
             assert_eq!(answer, Answer::refused(1));
             assert!(old == fresh::<OLDER>(n, p));
         }

@@ -3,13 +3,15 @@
 
 use crate::calls::{Answer, Call};
 use crate::claim::Last;
+use crate::engine::on_copy;
 use crate::layout::*;
 use crate::line::Line;
+use crate::shelves::{Shelf, Shelves, REACHED};
 use crate::trial::Trial;
-use crate::watch::{phase_name, IMPOSSIBLE_PHASE, PHASES};
+use crate::watch::{phase_name, phases, PHASES};
 
 /// The codes that a line of a script can get: no script is long enough for code 4.
-const CODES: [usize; 9] = [0, 1, 2, 3, 5, 6, 7, 8, 9];
+const CODES: [usize; 10] = [0, 1, 2, 3, 5, 6, 7, 8, 9, 10];
 
 const LAST_RECORDS: [&str; 5] = ["none", "shown", "dropped", "got copy", "got own"];
 
@@ -34,7 +36,7 @@ pub struct ZeroFuse {
 
 impl ZeroFuse {
     /// None if the line asks for something else or there is no bank.
-    pub fn asked(trial: &Trial, line: Option<Line>) -> Option<ZeroFuse> {
+    pub fn asked(trial: &Trial, line: Option<&Line>) -> Option<ZeroFuse> {
         let (line, bank) = (line?, trial.session.bank.as_ref()?);
         let Some(Call::Fuse { board, stores: 0 }) = line.call() else {
             return None;
@@ -65,11 +67,44 @@ impl ZeroFuse {
     }
 }
 
+/// What has to be known of a line from before it is taken.
+#[derive(Default)]
+pub struct Asked {
+    zero_fuse: Option<ZeroFuse>,
+    shelf: Option<Shelf>,
+    /// The board has several gots due, and the line asks for a single access.
+    single_at_group: bool,
+}
+
+impl Asked {
+    pub fn of(trial: &Trial, line: Option<&Line>) -> Asked {
+        let (Some(bank), Some(call)) = (&trial.session.bank, line.and_then(|line| line.call()))
+        else {
+            return Asked::default();
+        };
+        Asked {
+            zero_fuse: ZeroFuse::asked(trial, line),
+            shelf: Shelf::asked(bank, &call),
+            single_at_group: at_group(bank, &call),
+        }
+    }
+}
+
+/// Whether a read or write comes while several gots that go together are due.
+fn at_group(bank: &[u8], call: &Call) -> bool {
+    let layout = Layout::of(bank);
+    let board = call.board() as usize;
+    matches!(call, Call::Read { .. } | Call::Write { .. })
+        && board < layout.boards
+        && bank[layout.state(board)] == REPLAYING
+        && on_copy(bank, |engine| engine.group_due(board).len() > 1)
+}
+
 pub struct Counters {
     pub scripts: u64,
     pub premises_broken: u64,
     calls: u64,
-    codes: [u64; 10],
+    codes: [u64; 11],
     phases: [u64; PHASES],
     replays_begun: [u64; 5],
     replays_ended: [u64; 5],
@@ -79,6 +114,9 @@ pub struct Counters {
     zero_fuses: [[u64; 2]; ZERO_FUSES.len()],
     /// Records with a count above 65,535: made, and used in a replay.
     wide_records: [u64; 2],
+    shelves: Shelves,
+    /// Reads and writes that got code 5 because of several gots that go together.
+    single_at_group: u64,
 }
 
 fn last_index(last: Last) -> usize {
@@ -97,18 +135,20 @@ impl Counters {
             scripts: 0,
             premises_broken: 0,
             calls: 0,
-            codes: [0; 10],
+            codes: [0; 11],
             phases: [0; PHASES],
             replays_begun: [0; 5],
             replays_ended: [0; 5],
             gone_live: [0; 9],
             zero_fuses: Default::default(),
             wide_records: [0; 2],
+            shelves: Shelves::new(),
+            single_at_group: 0,
         }
     }
 
     /// Counts a line that the trial has just taken.
-    pub fn count(&mut self, trial: &Trial, zero_fuse: Option<ZeroFuse>, answer: &Answer) {
+    pub fn count(&mut self, trial: &Trial, asked: Asked, answer: &Answer) {
         self.calls += 1;
         self.codes[answer.code as usize] += 1;
         if let (Some(phase), 8) = (trial.session.watch.blown, answer.code) {
@@ -123,9 +163,13 @@ impl Counters {
                 self.gone_live[answer.code as usize] += 1;
             }
         }
-        if let Some(zero_fuse) = zero_fuse {
+        if let Some(zero_fuse) = asked.zero_fuse {
             self.count_zero_fuse(&zero_fuse, answer.code);
         }
+        if let Some(shelf) = asked.shelf {
+            self.shelves.count(&shelf, answer);
+        }
+        self.single_at_group += (asked.single_at_group && answer.code == 5) as u64;
     }
 
     /// Counts those of a whole script.
@@ -144,8 +188,7 @@ impl Counters {
 
     /// What was never met and can be.
     fn never_met(&self) -> usize {
-        let phases =
-            (0..PHASES).filter(|phase| *phase != IMPOSSIBLE_PHASE && self.phases[*phase] == 0);
+        let phases = phases().filter(|phase| self.phases[*phase] == 0);
         let live = [0, 6, 7, 8]
             .iter()
             .filter(|code| self.gone_live[**code] == 0);
@@ -165,6 +208,8 @@ impl Counters {
                 .filter(|count| **count == 0)
                 .count()
             + zero_fuses.iter().filter(|count| **count == 0).count()
+            + self.shelves.never_met(REACHED)
+            + (self.single_at_group == 0) as usize
     }
 
     pub fn print(&self) {
@@ -177,7 +222,7 @@ impl Counters {
             println!("  {code}: {}", self.codes[code]);
         }
         println!("fuses blown in:");
-        for phase in (0..PHASES).filter(|phase| *phase != IMPOSSIBLE_PHASE) {
+        for phase in phases() {
             println!("  {}: {}", phase_name(phase), self.phases[phase]);
         }
         println!("replays by last record, begun and ended:");
@@ -197,6 +242,11 @@ impl Counters {
         }
         let [made, used] = self.wide_records;
         println!("records with a count above 65,535, made and used in a replay: {made} {used}");
+        self.shelves.print(REACHED);
+        println!(
+            "reads and writes with code 5 at several gots that go together: {}",
+            self.single_at_group
+        );
         println!("never met: {}", self.never_met());
     }
 }

@@ -22,6 +22,16 @@ pub struct Engine<'a, const FORM: Form = NEWEST> {
     pub fault: Fault,
     pub watch: &'a mut Watch,
     pub stores: u32,
+    /// What the access has read; handed out only if the whole call is done.
+    pub read: Vec<u8>,
+}
+
+/// Asks an engine about a bank without touching the bank.
+pub fn on_copy<T>(bank: &[u8], ask: impl Fn(&Engine) -> T) -> T {
+    let mut copy = bank.to_vec();
+    let mut watch = Watch::new();
+    let engine = Engine::new(&mut copy, Fault::None, &mut watch);
+    ask(&engine)
 }
 
 impl<'a, const FORM: Form> Engine<'a, FORM> {
@@ -33,6 +43,7 @@ impl<'a, const FORM: Form> Engine<'a, FORM> {
             fault,
             watch,
             stores: 0,
+            read: Vec::new(),
         }
     }
 
@@ -48,7 +59,7 @@ impl<'a, const FORM: Form> Engine<'a, FORM> {
         self.layout.get_count(self.bank, self.layout.since(board))
     }
 
-    fn put_since(&mut self, board: usize, since: u32) {
+    pub fn put_since(&mut self, board: usize, since: u32) {
         self.layout
             .put_count(self.bank, self.layout.since(board), since);
     }

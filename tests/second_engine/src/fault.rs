@@ -1,6 +1,6 @@
 //! The wrong engines: each has one fault, and each must be caught.
 //! The first five are the faults a bench sale would hide, the next six must not satisfy any contract, the next five
-//! get a fuse of 0 wrong, the next two a wide since, and the last six a conversion.
+//! get a fuse of 0 wrong, the next two a wide since, the next six a conversion, and the rest a shelf call.
 
 #[derive(Clone, Copy, PartialEq, Eq, Debug)]
 pub enum Fault {
@@ -29,6 +29,24 @@ pub enum Fault {
     ConvertUnchecked,
     ConvertLowByte,
     ConvertSinceAtEnd,
+    CopiesOneByOne,
+    ShowTogether,
+    FetchAsAsked,
+    HalfShelf,
+    PageOrder,
+    CountCells,
+    GotsKeepCount,
+    GotsOneByOne,
+    PartOfGroup,
+    GroupTooSmall,
+    OwnServesShelf,
+    EndFetchesGroup,
+    ClearBuffer,
+    BufferOfBlown,
+    NeedsOfCells,
+    SixAsAsked,
+    ShelfValue,
+    TenBeforeTwo,
 }
 
 /// What must catch a fault.
@@ -40,6 +58,8 @@ pub enum Catcher {
     Outputs,
     /// The pairs of an old bank and its conversion.
     Pairs,
+    /// The right engine beside it, on the same random scripts: the claim leaves open what it gets wrong.
+    Beside,
 }
 
 impl Fault {
@@ -77,7 +97,7 @@ const fn kind(
     }
 }
 
-pub const FAULTS: [FaultKind; 24] = [
+pub const FAULTS: [FaultKind; 42] = [
     kind(
         Fault::KeepCopy,
         "keep-copy",
@@ -221,6 +241,114 @@ pub const FAULTS: [FaultKind; 24] = [
         "convert-since-at-end",
         Catcher::Pairs,
         "a conversion that puts since's bytes at the wrong end of the field",
+    ),
+    kind(
+        Fault::CopiesOneByOne,
+        "copies-one-by-one",
+        Catcher::Claim,
+        "a shelf call that takes each copy right after its owner's store",
+    ),
+    kind(
+        Fault::ShowTogether,
+        "show-together",
+        Catcher::Beside,
+        "a shelf call whose owners all record before the first stores",
+    ),
+    kind(
+        Fault::FetchAsAsked,
+        "fetch-as-asked",
+        Catcher::Claim,
+        "a shelf call that fetches its pages in the asked order",
+    ),
+    kind(
+        Fault::HalfShelf,
+        "half-shelf",
+        Catcher::Claim,
+        "a shelf call that fetches its first lacking page and skips the others",
+    ),
+    kind(
+        Fault::PageOrder,
+        "page-order",
+        Catcher::Claim,
+        "a shelf call that gives its bytes in page order",
+    ),
+    kind(
+        Fault::CountCells,
+        "count-cells",
+        Catcher::Claim,
+        "a shelf call that counts an access for each cell",
+    ),
+    kind(
+        Fault::GotsKeepCount,
+        "gots-keep-count",
+        Catcher::Claim,
+        "a shelf call whose gots all have the first one's count",
+    ),
+    kind(
+        Fault::GotsOneByOne,
+        "gots-one-by-one",
+        Catcher::Claim,
+        "a replay that uses gots one by one",
+    ),
+    kind(
+        Fault::PartOfGroup,
+        "part-of-group",
+        Catcher::Claim,
+        "a replay that uses a group of gots for an access that needs one of them",
+    ),
+    kind(
+        Fault::GroupTooSmall,
+        "group-too-small",
+        Catcher::Beside,
+        "a replay that goes on with a group although the call lacks a page besides",
+    ),
+    kind(
+        Fault::OwnServesShelf,
+        "own-serves-shelf",
+        Catcher::Claim,
+        "a replay that uses a got own for a shelf call",
+    ),
+    kind(
+        Fault::EndFetchesGroup,
+        "end-fetches-group",
+        Catcher::Claim,
+        "a shelf call that ends a replay and fetches the group's pages alone",
+    ),
+    kind(
+        Fault::ClearBuffer,
+        "clear-buffer",
+        Catcher::Claim,
+        "a shelf call that clears the second buffer before codes 4 to 8",
+    ),
+    kind(
+        Fault::BufferOfBlown,
+        "buffer-of-blown",
+        Catcher::Claim,
+        "a shelf call that writes its bytes although the end of replay blew the fuse",
+    ),
+    kind(
+        Fault::NeedsOfCells,
+        "needs-of-cells",
+        Catcher::Claim,
+        "a shelf call that needs room for a page as often as it names it",
+    ),
+    kind(
+        Fault::SixAsAsked,
+        "six-as-asked",
+        Catcher::Beside,
+        "a shelf call whose code 6 names the first asked page's owner that isn't up",
+    ),
+    kind(
+        Fault::ShelfValue,
+        "shelf-value",
+        Catcher::Beside,
+        "a shelf call that answers its first byte as value",
+    ),
+    kind(
+        Fault::TenBeforeTwo,
+        "ten-before-two",
+        Catcher::Beside,
+        "tests code 10 before code 2",
     ),
 ];
 

@@ -1,12 +1,14 @@
 //! Runs every wrong engine and says what catches it. The claim is tried on random scripts, the answers on the stored
-//! scripts, against what the right engine prints, and a wrong conversion on pairs.
+//! scripts and, where these can't show it, on random ones, against the right engine's; a wrong conversion on pairs.
 
 use crate::counters::Counters;
 use crate::fault::{Catcher, Fault, FaultKind, FAULTS};
 use crate::fuzz::search;
+use crate::gen::Generator;
 use crate::pair_counters::PairCounters;
 use crate::pairs;
-use crate::runner::run;
+use crate::runner::{run, Session};
+use crate::trial::Trial;
 use std::fs;
 use std::io;
 use std::path::{Path, PathBuf};
@@ -14,6 +16,7 @@ use std::path::{Path, PathBuf};
 /// How many random scripts, or pairs, a fault may take to show.
 const SCRIPTS: u64 = 1_000;
 const PAIRS: u64 = 1_000;
+const BESIDE_LINES: u32 = 300;
 
 /// A script of the corpus and what the right engine prints.
 struct Case {
@@ -64,8 +67,33 @@ fn try_fault(kind: &FaultKind, corpus: &[Case]) -> bool {
     let (claim, outputs) = (claim_breaks(kind.fault), outputs_differ(kind.fault, corpus));
     match kind.caught_by {
         Catcher::Claim => claim,
+        Catcher::Beside => differs_beside(kind.fault),
         _ => outputs,
     }
+}
+
+fn differs_beside(fault: Fault) -> bool {
+    let found = (1..=SCRIPTS).find_map(|seed| Some((seed, beside(seed, fault)?)));
+    match &found {
+        Some((seed, line)) => println!("  differs from the right engine at seed {seed}: {line}"),
+        None => println!("  {SCRIPTS} scripts beside the right engine agree"),
+    }
+    found.is_some()
+}
+
+/// The first line of a random script that the wrong engine takes otherwise than the right one: answer, second buffer or
+/// bank.
+fn beside(seed: u64, fault: Fault) -> Option<String> {
+    let mut generator = Generator::with_shelves(seed, BESIDE_LINES);
+    let (mut right, mut wrong) = (Trial::new(Fault::None), Session::new(fault));
+    (0..BESIDE_LINES).find_map(|_| {
+        let line = generator.next(&right);
+        let (answer, _) = right.take(line.read());
+        let other = wrong.take(line.read());
+        let Session { bank, out, .. } = &right.session;
+        let same = answer == other && *out == wrong.out && *bank == wrong.bank;
+        (!same).then(|| format!("{line}: {answer:?}, {other:?}"))
+    })
 }
 
 fn pairs_differ(fault: Fault) -> bool {

@@ -3,12 +3,13 @@
 
 use crate::check::well_formed;
 use crate::claim::Verdict;
-use crate::counters::{Counters, ZeroFuse};
+use crate::counters::{Asked, Counters};
 use crate::fault::Fault;
-use crate::gen::{Generator, ScriptLine, LONG_SCRIPT};
+use crate::gen::{Generator, LONG_SCRIPT};
 use crate::line::Line;
 use crate::pairs::pairs;
 use crate::random::Random;
+use crate::script_line::ScriptLine;
 use crate::trial::Trial;
 use std::io;
 
@@ -43,16 +44,16 @@ fn length_of(seed: u64) -> u32 {
 /// Runs the script of one seed under the claim.
 fn try_seed(seed: u64, fault: Fault, counters: &mut Counters) -> Result<(), Failure> {
     let lines = length_of(seed);
-    let mut generator = Generator::new(seed, lines);
+    let mut generator = Generator::with_shelves(seed, lines);
     let mut trial = Trial::new(fault);
     let mut script = Vec::with_capacity(lines as usize);
     counters.scripts += 1;
     for _ in 0..lines {
         let line = generator.next(&trial);
-        script.push(line);
-        let zero_fuse = ZeroFuse::asked(&trial, line.read());
+        let asked = Asked::of(&trial, line.read().as_ref());
         let (answer, verdict) = trial.take(line.read());
-        counters.count(&trial, zero_fuse, &answer);
+        script.push(line);
+        counters.count(&trial, asked, &answer);
         match verdict {
             Verdict::Held => (),
             Verdict::PremiseBroken(_) => counters.premises_broken += 1,
@@ -85,7 +86,7 @@ fn try_seed(seed: u64, fault: Fault, counters: &mut Counters) -> Result<(), Fail
 
 /// A few calls after a refused make: each has code 1.
 fn try_no_bank(seed: u64, fault: Fault, counters: &mut Counters) {
-    let mut generator = Generator::new(seed, 0);
+    let mut generator = Generator::with_shelves(seed, 0);
     let mut source = Trial::new(fault);
     let mut trial = Trial::new(fault);
     counters.scripts += 1;
@@ -97,11 +98,11 @@ fn try_no_bank(seed: u64, fault: Fault, counters: &mut Counters) {
         let line = generator.next(&source);
         source.take(line.read());
         let (answer, _) = trial.take(if number == 0 {
-            Some(refused)
+            Some(refused.clone())
         } else {
             line.read()
         });
-        counters.count(&trial, None, &answer);
+        counters.count(&trial, Asked::default(), &answer);
     }
 }
 

@@ -2,92 +2,20 @@
 //! A replaying board mostly repeats its lines, as the premise asks.
 
 use crate::access::Access;
-use crate::calls::Call;
-use crate::engine::Engine;
+use crate::calls::{Call, MOST_CELLS};
+use crate::engine::on_copy;
 use crate::fault::Fault;
 use crate::layout::*;
-use crate::line::{read_line, Line};
+use crate::line::Line;
 use crate::profile::Profile;
 use crate::random::Random;
+use crate::script_line::ScriptLine;
 use crate::trial::Trial;
-use crate::watch::Watch;
 use std::io::{self, BufWriter, Write};
 
 /// Scripts at least this long have one board read more often than the older form can count.
 pub const LONG_SCRIPT: u32 = 70_000;
 const LONG_READING: u32 = 65_540;
-
-/// A line of a script, readable or not.
-#[derive(Clone, Copy)]
-pub enum ScriptLine {
-    Readable(Line),
-    Malformed(&'static [u8]),
-}
-
-impl ScriptLine {
-    pub fn read(&self) -> Option<Line> {
-        match self {
-            ScriptLine::Readable(line) => Some(*line),
-            ScriptLine::Malformed(bytes) => read_line(bytes),
-        }
-    }
-
-    pub fn print(&self, output: &mut impl Write) -> io::Result<()> {
-        match self {
-            ScriptLine::Readable(line) => writeln!(output, "{line}"),
-            ScriptLine::Malformed(bytes) => output
-                .write_all(bytes)
-                .and_then(|_| output.write_all(b"\n")),
-        }
-    }
-}
-
-/// Lines that are code 9 after the first line.
-const MALFORMED: [&[u8]; 43] = [
-    b"",
-    b" ",
-    b"R",
-    b"R ",
-    b"R 0",
-    b"R 0 0",
-    b"R 0 0 0 ",
-    b" R 0 0 0",
-    b"R  0 0 0",
-    b"R 0 0  0",
-    b"R 0 0 0 0",
-    b"R 00 0 0",
-    b"R 0 0 01",
-    b"r 0 0 0",
-    b"R 0 0 -1",
-    b"R 0 0 +1",
-    b"R 0 0 4294967296",
-    b"R 0 0 99999999999999999999",
-    b"R,0,0,0",
-    b"R 0 0 x",
-    b"W 0 0 0",
-    b"W 0 0 0 0 0",
-    b"W 0 0 0 1.0",
-    b"C",
-    b"C 0 0",
-    b"C0",
-    b"CC 0",
-    b"K 0\r",
-    b"K\t0",
-    b"K 0 0",
-    b"F 0",
-    b"F 0 00",
-    b"F 0 -0",
-    b"F 0 1 1",
-    b"S 0\0",
-    b"\xff\xfe",
-    b"S 0x0",
-    b"N 2 1",
-    b"N 1 1 ",
-    b"N",
-    b"# R 0 0 0",
-    b"S 0;S 0",
-    b"R 0 0 0 and much more than sixty-four bytes, which no line may have at all",
-];
 
 /// A run of lines that was begun and isn't over.
 enum Run {
@@ -95,9 +23,10 @@ enum Run {
     Repeats(usize, u32),
 }
 
+/// Chooses the lines of a script; without shelf calls unless these are asked for.
 pub struct Generator {
-    random: Random,
-    profile: Profile,
+    pub random: Random,
+    pub profile: Profile,
     /// The last one comes first.
     runs: Vec<Run>,
     long_reading_due: bool,
@@ -118,6 +47,17 @@ impl Generator {
             runs: Vec::new(),
             long_reading_due: long,
         }
+    }
+
+    /// With shelf calls too, which the line runner has no line for.
+    pub fn with_shelves(seed: u64, lines: u32) -> Generator {
+        let mut generator = Generator::new(seed, lines);
+        generator.profile.shelves = Random::new(!seed).pick(&[50, 200, 200, 500]);
+        generator
+    }
+
+    pub fn has_shelves(&self) -> bool {
+        self.profile.shelves > 0
     }
 
     /// The next line for a trial that took all lines before it.
@@ -142,7 +82,7 @@ impl Generator {
             match run {
                 Run::Same(_, 0) | Run::Repeats(_, 0) => (),
                 Run::Same(line, left) => {
-                    self.runs.push(Run::Same(line, left - 1));
+                    self.runs.push(Run::Same(line.clone(), left - 1));
                     return Some(line);
                 }
                 Run::Repeats(board, left) => {
@@ -175,6 +115,11 @@ impl Generator {
             return self.cut(any);
         }
         if self.random.permille(self.profile.fuses) {
+            let up = bank[layout.state(any as usize)] == UP;
+            if self.has_shelves() && up && self.random.permille(300) {
+                let access = self.any_access(any);
+                return self.fused(bank, layout, access).into();
+            }
             return self.fuse(bank, layout, any as usize).into();
         }
         if let Some(board) = self
@@ -195,7 +140,7 @@ impl Generator {
     }
 
     /// A power loss, asked for in either way.
-    fn cut(&mut self, board: u32) -> Line {
+    pub fn cut(&mut self, board: u32) -> Line {
         if self.random.permille(500) {
             return Line::Cut { board };
         }
@@ -210,12 +155,12 @@ impl Generator {
         self.board_in(bank, layout, UP).unwrap_or(board)
     }
 
-    fn any_board(&mut self) -> u32 {
+    pub fn any_board(&mut self) -> u32 {
         self.random.below(self.profile.boards)
     }
 
     /// The first board in a state, counted from a random one.
-    fn board_in(&mut self, bank: &[u8], layout: Layout, state: u8) -> Option<u32> {
+    pub fn board_in(&mut self, bank: &[u8], layout: Layout, state: u8) -> Option<u32> {
         let start = self.any_board() as usize;
         (start..start + layout.boards)
             .map(|board| board % layout.boards)
@@ -224,24 +169,45 @@ impl Generator {
     }
 
     fn any_access(&mut self, board: u32) -> Call {
+        if self.has_shelves() && self.random.permille(self.profile.shelves) {
+            return Call::shelf(board, self.cells());
+        }
+        self.single_access(board)
+    }
+
+    /// A page and an offset in it.
+    fn cell(&mut self) -> (u32, u32) {
         let Profile {
             pages,
             busy_pages,
             busy_offsets,
-            writes,
             ..
         } = self.profile;
-        let page = if self.random.permille(900) {
-            self.random.below(busy_pages)
-        } else {
-            self.random.below(pages)
+        let mut mostly = |busy: u32, all: u32| match self.random.permille(900) {
+            true => self.random.below(busy),
+            false => self.random.below(all),
         };
-        let offset = if self.random.permille(900) {
-            self.random.below(busy_offsets)
-        } else {
-            self.random.below(16)
+        (mostly(busy_pages, pages), mostly(busy_offsets, PAGE as u32))
+    }
+
+    /// The list of a shelf call: in any order, with repeats.
+    pub fn cells(&mut self) -> Vec<u8> {
+        let most = MOST_CELLS as u32;
+        let count = match self.random.below(20) {
+            0 => 1,
+            1 => most,
+            2 => self.random.between(6, most),
+            _ => self.random.between(2, 5),
         };
-        if self.random.permille(writes) {
+        let cells = (0..count).map(|_| self.cell());
+        cells
+            .flat_map(|(page, offset)| [page as u8, offset as u8])
+            .collect()
+    }
+
+    pub fn single_access(&mut self, board: u32) -> Call {
+        let (page, offset) = self.cell();
+        if self.random.permille(self.profile.writes) {
             let value = if self.random.permille(500) {
                 self.random.below(4)
             } else {
@@ -258,6 +224,31 @@ impl Generator {
             board,
             page,
             offset,
+        }
+    }
+
+    /// Sets the fuse of a board that the access makes store, so that it blows in one of these stores; then comes the
+    /// access. The access alone if it makes none store.
+    fn fused(&mut self, bank: &[u8], layout: Layout, call: Call) -> Call {
+        let Some(access) = call.access() else {
+            return call;
+        };
+        let owner = |page: usize| bank[layout.owner(page)] as usize;
+        let stores = |page: &usize| {
+            let fetched = access.names(*page) && owner(*page) != access.board;
+            fetched && bank[layout.state(owner(*page))] == UP
+        };
+        let pages: Vec<usize> = (0..layout.pages).filter(stores).collect();
+        if pages.is_empty() {
+            return call;
+        }
+        let board = owner(self.random.pick(&pages));
+        let given = pages.iter().filter(|page| owner(**page) == board).count();
+        let most = bank[layout.volatile(board)] as u32 + given as u32;
+        self.runs.push(Run::Same(call.into(), 1));
+        Call::Fuse {
+            board: board as u32,
+            stores: self.random.between(1, most),
         }
     }
 
@@ -303,6 +294,10 @@ impl Generator {
                 return self.fuse(bank, layout, board).into()
             }
             3 if self.random.permille(self.profile.cuts * 4) => return self.cut(board as u32),
+            4..=6 if self.has_shelves() && trial.judge.history.to_repeat(board).is_none() => {
+                let access = self.access_at_got(bank, layout, board);
+                return self.fused(bank, layout, access).into();
+            }
             _ => (),
         }
         self.replaying_access(trial, bank, layout, board).into()
@@ -326,7 +321,7 @@ impl Generator {
             }
         }
         match trial.judge.history.to_repeat(board) {
-            Some(entry) => entry.call(),
+            Some(entry) => Call::from(&entry.access),
             None => self.access_at_got(bank, layout, board),
         }
     }
@@ -336,16 +331,29 @@ impl Generator {
         call.access().is_some_and(refuses)
     }
 
-    /// The access that the due got is needed by; any access if there is none.
+    /// An access that the due gots are needed by, sometimes by more than it; any access if none is next.
     fn access_at_got(&mut self, bank: &[u8], layout: Layout, board: usize) -> Call {
-        let call = self.any_access(board as u32);
+        let call = self.single_access(board as u32);
         let (Call::Read { offset, .. } | Call::Write { offset, .. }) = call else {
             return call;
         };
+        let group = on_copy(bank, |engine| engine.group_due(board));
         let place = bank[layout.place(board)] as usize;
         let slot = layout.area_slot(layout.selected(bank, board), place.min(SLOTS - 1));
         let (board, page) = (board as u32, bank[slot + SLOT_PAGE] as u32);
-        match kind_at(bank, slot) {
+        let kind = kind_at(bank, slot);
+        // A got own is not for a shelf call, and a group of several for nothing else.
+        let shelf_chance = match (kind, group.len()) {
+            (_, 0) => 0,
+            (GOT_OWN, _) => 50,
+            (_, 1) => self.profile.shelves * 2,
+            _ => 950,
+        };
+        match kind {
+            _ if self.has_shelves() && self.random.permille(shelf_chance) => {
+                let pages = group.iter().map(|slot| bank[slot + SLOT_PAGE]);
+                Call::shelf(board, self.cells_with(pages.collect()))
+            }
             GOT_COPY => Call::Read {
                 board,
                 page,
@@ -359,6 +367,27 @@ impl Generator {
             },
             _ => call,
         }
+    }
+
+    /// A list with these pages in it, in any order, sometimes with others too.
+    fn cells_with(&mut self, pages: Vec<u8>) -> Vec<u8> {
+        let offset = |random: &mut Random| random.below(PAGE as u32) as u8;
+        let mut cells: Vec<[u8; 2]> = pages
+            .into_iter()
+            .map(|page| [page, offset(&mut self.random)])
+            .collect();
+        let more = self
+            .random
+            .pick(&[0, 0, 1, 2, 4])
+            .min(MOST_CELLS - cells.len());
+        for _ in 0..more {
+            let (page, offset) = self.cell();
+            cells.push([page as u8, offset as u8]);
+        }
+        for place in (1..cells.len()).rev() {
+            cells.swap(place, self.random.below(place as u32 + 1) as usize);
+        }
+        cells.concat()
     }
 
     /// One board reads a page of its own more often than two bytes can count. Then another board takes the page, which
@@ -404,87 +433,9 @@ impl Generator {
         self.runs.push(once(Call::Checkpoint { board: taker }));
         Call::Checkpoint { board: reader }
     }
-
-    /// A line that most likely gets code 2, 3 or 9.
-    fn noise(&mut self, bank: &[u8], layout: Layout) -> ScriptLine {
-        let board = self.any_board();
-        let down = self.board_in(bank, layout, DOWN);
-        let line = match (self.random.below(7), down) {
-            (0, _) => return ScriptLine::Malformed(self.random.pick(&MALFORMED)),
-            (1, _) => Call::Restart { board }.into(),
-            (2, _) => Call::Checkpoint { board }.into(),
-            (3, Some(board)) => self.cut(board),
-            _ => self.out_of_range(layout),
-        };
-        ScriptLine::Readable(line)
-    }
-
-    /// A line with one number that is too large.
-    fn out_of_range(&mut self, layout: Layout) -> Line {
-        let (boards, pages) = (layout.boards as u32, layout.pages as u32);
-        let beyond = self.random.pick(&[0, 0, 0, 1, 255, 65_535, u32::MAX - 300]);
-        let board = self.any_board();
-        let call = self.any_access(board);
-        let (Call::Read { page, offset, .. } | Call::Write { page, offset, .. }) = call else {
-            return call.into();
-        };
-        let call = match self.random.below(10) {
-            0 => Call::Read {
-                board: boards + beyond,
-                page,
-                offset,
-            },
-            1 => Call::Read {
-                board,
-                page: pages + beyond,
-                offset,
-            },
-            2 => Call::Read {
-                board,
-                page,
-                offset: 16 + beyond,
-            },
-            3 => Call::Write {
-                board,
-                page,
-                offset,
-                value: 256 + beyond,
-            },
-            4 => Call::Write {
-                board: boards + beyond,
-                page,
-                offset,
-                value: 0,
-            },
-            5 => Call::Checkpoint {
-                board: boards + beyond,
-            },
-            6 => return self.cut(boards + beyond),
-            7 => Call::Restart {
-                board: boards + beyond,
-            },
-            8 => Call::Fuse {
-                board: boards + beyond,
-                stores: 1,
-            },
-            _ => Call::Fuse {
-                board,
-                stores: self.random.pick(&[65_535, 65_536, 131_072, u32::MAX]),
-            },
-        };
-        call.into()
-    }
 }
 
-/// Asks an engine about a bank without touching the bank.
-fn on_copy<T>(bank: &[u8], ask: impl Fn(&Engine) -> T) -> T {
-    let mut copy = bank.to_vec();
-    let mut watch = Watch::new();
-    let engine = Engine::new(&mut copy, Fault::None, &mut watch);
-    ask(&engine)
-}
-
-/// Prints the random script of a seed.
+/// Prints the random script of a seed, for the line runner.
 pub fn generate(seed: u64, lines: u32, output: impl Write) -> io::Result<()> {
     let mut output = BufWriter::new(output);
     let mut generator = Generator::new(seed, lines);
@@ -495,22 +446,4 @@ pub fn generate(seed: u64, lines: u32, output: impl Write) -> io::Result<()> {
         trial.take(line.read());
     }
     output.flush()
-}
-
-#[cfg(test)]
-mod tests {
-    use super::*;
-
-    #[test]
-    fn malformed_lines_are_code_9() {
-        let mut trial = Trial::new(Fault::None);
-        trial.take(Some(Line::Make {
-            boards: 2,
-            pages: 1,
-        }));
-        for bytes in MALFORMED {
-            let (answer, _) = trial.take(ScriptLine::Malformed(bytes).read());
-            assert_eq!(answer.code, 9, "{:?}", String::from_utf8_lossy(bytes));
-        }
-    }
 }

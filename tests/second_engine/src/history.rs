@@ -1,59 +1,33 @@
 //! The history that no board keeps: which accesses stand, in one order for all boards.
 //! Document 01: the roll. It is fed with calls, their answers and recovery points alone.
 
-use crate::access::Access;
+use crate::access::{Access, Cell, Deed};
 use crate::calls::{Answer, Call};
 use crate::layout::*;
 
 /// One access that was done. Document 01: a line of the roll.
-#[derive(Clone, Copy, PartialEq, Eq, Debug)]
+#[derive(Clone, PartialEq, Eq, Debug)]
 pub struct Entry {
-    pub board: u8,
-    pub write: bool,
-    pub page: u8,
-    pub offset: u8,
-    /// The byte read or written.
-    pub byte: u8,
+    /// All that it names and writes; a repeat is the same.
+    pub access: Access,
+    /// The bytes read, one for each cell; none of a write.
+    pub read: Vec<u8>,
 }
 
 impl Entry {
-    fn new(access: &Access, value: u32) -> Entry {
-        Entry {
-            board: access.board as u8,
-            write: access.write.is_some(),
-            page: access.page as u8,
-            offset: access.offset as u8,
-            byte: access.write.unwrap_or(value as u8),
-        }
+    /// What a call that was done read is its value or, of a shelf call, in the second buffer.
+    fn new(access: Access, answer: &Answer, out: &[u8]) -> Entry {
+        let read = match access.deed {
+            Deed::Read => vec![answer.value as u8],
+            Deed::Shelf => out.to_vec(),
+            Deed::Write(_) => Vec::new(),
+        };
+        Entry { access, read }
     }
 
-    /// Whether an access has the entry's kind, page, offset and, for a write, byte.
+    /// Whether an access has the entry's kind, cells and, for a write, byte.
     pub fn repeated_by(&self, access: &Access) -> bool {
-        let bytes_agree = access.write.is_none_or(|byte| byte == self.byte);
-        *self
-            == Entry {
-                byte: self.byte,
-                ..Entry::new(access, 0)
-            }
-            && bytes_agree
-    }
-
-    pub fn call(&self) -> Call {
-        let (board, page, offset) = (self.board as u32, self.page as u32, self.offset as u32);
-        if self.write {
-            Call::Write {
-                board,
-                page,
-                offset,
-                value: self.byte as u32,
-            }
-        } else {
-            Call::Read {
-                board,
-                page,
-                offset,
-            }
-        }
+        self.access == *access
     }
 }
 
@@ -79,68 +53,73 @@ pub struct History {
 
 impl History {
     /// The entry that a board's next done access repeats, if there is one.
-    pub fn to_repeat(&self, board: usize) -> Option<Entry> {
+    pub fn to_repeat(&self, board: usize) -> Option<&Entry> {
         self.of_board[board]
             .get(self.cursor[board])
-            .map(|place| self.entries[*place])
+            .map(|place| &self.entries[*place])
     }
 
-    /// Takes one call's answer; an error says how one memory or a repeat is contradicted.
-    pub fn take(&mut self, bank: &[u8], call: &Call, answer: &Answer) -> Result<(), String> {
+    /// Takes one call's answer and second buffer; an error says how one memory or a repeat is contradicted.
+    pub fn take(
+        &mut self,
+        bank: &[u8],
+        call: &Call,
+        answer: &Answer,
+        out: &[u8],
+    ) -> Result<(), String> {
         if let Some(board) = gone_down(call, answer) {
             return self.discard(board, bank);
         }
-        match (call, answer.code) {
-            (Call::Restart { board }, 0) => self.cursor[*board as usize] = answer.value as usize,
-            (Call::Read { .. } | Call::Write { .. }, 0) => return self.done(call, answer),
-            _ => (),
+        match (call, call.access()) {
+            _ if answer.code != 0 => Ok(()),
+            (_, Some(access)) => self.done(Entry::new(access, answer, out)),
+            (Call::Restart { board }, _) => {
+                self.cursor[*board as usize] = answer.value as usize;
+                Ok(())
+            }
+            _ => Ok(()),
         }
-        Ok(())
     }
 
-    fn done(&mut self, call: &Call, answer: &Answer) -> Result<(), String> {
-        let Some(access) = call.access() else {
-            return Ok(());
-        };
-        let entry = Entry::new(&access, answer.value);
-        let repeated = self.to_repeat(access.board);
-        self.cursor[access.board] += 1;
-        match repeated {
-            None => self.add(entry),
-            Some(old) if !entry.write && old.byte != entry.byte => Err(format!(
-                "the repeated read gave {}, its line has {}",
-                entry.byte, old.byte
+    fn done(&mut self, entry: Entry) -> Result<(), String> {
+        let board = entry.access.board;
+        let repeated = self.to_repeat(board);
+        let result = match repeated {
+            Some(old) if old.read != entry.read => Err(format!(
+                "the repeated read gave {:?}, its line has {:?}",
+                entry.read, old.read
             )),
             Some(_) => Ok(()),
-        }
+            None => self.add(entry),
+        };
+        self.cursor[board] += 1;
+        result
     }
 
     fn add(&mut self, entry: Entry) -> Result<(), String> {
-        self.of_board[entry.board as usize].push(self.entries.len());
+        let result = self.remember(&entry);
+        self.of_board[entry.access.board].push(self.entries.len());
         self.entries.push(entry);
-        self.remember(entry)
+        result
     }
 
-    /// The one memory takes an entry; a read must find its byte there.
-    fn remember(&mut self, entry: Entry) -> Result<(), String> {
-        let cell = &mut self.memory[entry.page as usize][entry.offset as usize];
-        if entry.write {
-            *cell = entry.byte;
-            return Ok(());
+    /// The one memory takes an entry; a read must find its bytes there.
+    fn remember(&mut self, entry: &Entry) -> Result<(), String> {
+        let Access { board, deed, cells } = &entry.access;
+        if let Deed::Write(byte) = deed {
+            cells
+                .iter()
+                .for_each(|cell| self.memory[cell.page][cell.offset] = *byte);
         }
-        if *cell == entry.byte {
-            return Ok(());
+        for (Cell { page, offset }, byte) in cells.iter().zip(&entry.read) {
+            let held = self.memory[*page][*offset];
+            if held != *byte {
+                return Err(format!(
+                    "board {board} has read {byte} at page {page} offset {offset}, one memory has {held}"
+                ));
+            }
         }
-        let Entry {
-            board,
-            page,
-            offset,
-            byte,
-            ..
-        } = entry;
-        Err(format!(
-            "board {board} has read {byte} at page {page} offset {offset}, one memory has {cell}"
-        ))
+        Ok(())
     }
 
     /// A board went down: its entries above its recovery point are gone. Document 01: struck.
@@ -154,7 +133,7 @@ impl History {
         self.of_board.iter_mut().for_each(Vec::clear);
         self.memory = Default::default();
         let stands =
-            |place: usize, entry: &Entry| place < first_gone || entry.board as usize != board;
+            |place: usize, entry: &Entry| place < first_gone || entry.access.board != board;
         let mut result = Ok(());
         for (place, entry) in old.into_iter().enumerate() {
             if stands(place, &entry) {
@@ -183,7 +162,7 @@ mod tests {
         };
         let fuse = Call::Fuse { board: 0, stores };
         for (call, answer) in [(write, Answer::default()), (fuse, Answer::refused(code))] {
-            history.take(&bank, &call, &answer).unwrap();
+            history.take(&bank, &call, &answer, &[]).unwrap();
         }
         history.entries.len()
     }

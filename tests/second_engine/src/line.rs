@@ -7,7 +7,10 @@ use std::io::{self, BufReader, Bytes, Read};
 
 const LONGEST_LINE: usize = 64;
 
-#[derive(Clone, Copy, PartialEq, Eq, Debug)]
+/// A script of the claim may have shelf calls, whose lines are longer.
+const LONGEST_SCRIPT_LINE: usize = 65_536;
+
+#[derive(Clone, PartialEq, Eq, Debug)]
 pub enum Line {
     Make {
         boards: u32,
@@ -23,10 +26,13 @@ pub enum Line {
 impl Line {
     /// The call that a line asks for; none for a making.
     pub fn call(&self) -> Option<Call> {
-        match *self {
+        match self {
             Line::Make { .. } => None,
-            Line::Cut { board } => Some(Call::Fuse { board, stores: 0 }),
-            Line::Call(call) => Some(call),
+            Line::Cut { board } => Some(Call::Fuse {
+                board: *board,
+                stores: 0,
+            }),
+            Line::Call(call) => Some(call.clone()),
         }
     }
 }
@@ -37,7 +43,26 @@ impl From<Call> for Line {
     }
 }
 
-/// Reads one line, without its byte 10; none if it isn't readable.
+/// Reads a line of a script under the claim: the line runner's, or a shelf call, `H board page offset page offset ..`.
+/// Behind the list `/ room` gives the second buffer another length than one byte for each cell.
+pub fn read_script_line(line: &[u8]) -> Option<Line> {
+    let Some(list) = line.strip_prefix(b"H ") else {
+        return read_line(line);
+    };
+    let fields: Vec<&[u8]> = list.split(|byte| *byte == b' ').collect();
+    let (numbers, room) = match fields[..] {
+        [ref numbers @ .., b"/", room] => (numbers, Some(read_number(room)?)),
+        _ => (&fields[..], None),
+    };
+    let (board, cells) = numbers.split_first()?;
+    let byte = |field: &&[u8]| read_number(field)?.try_into().ok();
+    let cells: Vec<u8> = cells.iter().map(byte).collect::<Option<_>>()?;
+    let room = room.map_or(cells.len() / 2, |room| room as usize);
+    let board = read_number(board)?;
+    Some(Line::Call(Call::Shelf { board, cells, room }))
+}
+
+/// Reads one line of the line runner, without its byte 10; none if it isn't readable.
 pub fn read_line(line: &[u8]) -> Option<Line> {
     if line.len() > LONGEST_LINE {
         return None;
@@ -94,25 +119,41 @@ fn read_number(field: &[u8]) -> Option<u32> {
 
 impl fmt::Display for Line {
     fn fmt(&self, out: &mut fmt::Formatter) -> fmt::Result {
-        match *self {
+        match self {
             Line::Make { boards, pages } => write!(out, "N {boards} {pages}"),
-            Line::Call(Call::Read {
+            Line::Cut { board } => write!(out, "K {board}"),
+            Line::Call(call) => call.fmt(out),
+        }
+    }
+}
+
+impl fmt::Display for Call {
+    fn fmt(&self, out: &mut fmt::Formatter) -> fmt::Result {
+        match self {
+            Call::Read {
                 board,
                 page,
                 offset,
-            }) => write!(out, "R {board} {page} {offset}"),
-            Line::Call(Call::Write {
+            } => write!(out, "R {board} {page} {offset}"),
+            Call::Write {
                 board,
                 page,
                 offset,
                 value,
-            }) => {
+            } => {
                 write!(out, "W {board} {page} {offset} {value}")
             }
-            Line::Call(Call::Checkpoint { board }) => write!(out, "C {board}"),
-            Line::Cut { board } => write!(out, "K {board}"),
-            Line::Call(Call::Fuse { board, stores }) => write!(out, "F {board} {stores}"),
-            Line::Call(Call::Restart { board }) => write!(out, "S {board}"),
+            Call::Shelf { board, cells, room } => {
+                write!(out, "H {board}")?;
+                cells.iter().try_for_each(|byte| write!(out, " {byte}"))?;
+                match *room == cells.len() / 2 {
+                    true => Ok(()),
+                    false => write!(out, " / {room}"),
+                }
+            }
+            Call::Checkpoint { board } => write!(out, "C {board}"),
+            Call::Fuse { board, stores } => write!(out, "F {board} {stores}"),
+            Call::Restart { board } => write!(out, "S {board}"),
         }
     }
 }
@@ -120,12 +161,22 @@ impl fmt::Display for Line {
 /// Cuts an input into lines; keeps no more of a line than shows that it is too long.
 pub struct Lines<R: Read> {
     input: Bytes<BufReader<R>>,
+    longest: usize,
 }
 
 impl<R: Read> Lines<R> {
     pub fn new(input: R) -> Lines<R> {
         Lines {
             input: BufReader::new(input).bytes(),
+            longest: LONGEST_LINE,
+        }
+    }
+
+    /// Those of a script under the claim.
+    pub fn of_script(input: R) -> Lines<R> {
+        Lines {
+            longest: LONGEST_SCRIPT_LINE,
+            ..Lines::new(input)
         }
     }
 }
@@ -138,7 +189,7 @@ impl<R: Read> Iterator for Lines<R> {
         for byte in self.input.by_ref() {
             match byte {
                 Ok(b'\n') => return Some(Ok(line)),
-                Ok(byte) if line.len() <= LONGEST_LINE => line.push(byte),
+                Ok(byte) if line.len() <= self.longest => line.push(byte),
                 Ok(_) => (),
                 Err(error) => return Some(Err(error)),
             }
@@ -152,7 +203,7 @@ mod tests {
     use super::*;
 
     fn read(text: &str) -> Line {
-        read_line(text.as_bytes()).unwrap()
+        read_script_line(text.as_bytes()).unwrap()
     }
 
     #[test]
@@ -160,6 +211,25 @@ mod tests {
         for text in "N 2 1;R 0 1 2;W 0 1 2 3;C 0;K 3;F 3 0;F 3 1;S 0".split(';') {
             assert_eq!(read(text).to_string(), text);
         }
+        for text in "H 0;H 9 1;H 0 1 2;H 0 1 2 255 16 7;H 0 1 2 / 0;H 0 / 3".split(';') {
+            assert_eq!(read(text).to_string(), text);
+        }
+    }
+
+    /// No request gives the line runner a new line.
+    #[test]
+    fn shelf_calls_are_no_lines_of_the_runner() {
+        for text in "H 0;H 0 1 2;H 0 1 2 / 1".split(';') {
+            assert_eq!(read_line(text.as_bytes()), None);
+            assert!(read_script_line(text.as_bytes()).is_some());
+        }
+        for text in "H;H ;H 0 ;H  0;H 0 256;H 0 01;H 0 1 2 /;H 0 / 1 2;H 0 1 2/ 1;h 0".split(';') {
+            assert_eq!(read_script_line(text.as_bytes()), None, "{text}");
+        }
+        let long = format!("H 0{}", " 0 0".repeat(40));
+        assert!(read_script_line(long.as_bytes()).is_some());
+        let mut lines = Lines::of_script(long.as_bytes());
+        assert_eq!(lines.next().unwrap().unwrap(), long.as_bytes());
     }
 
     #[test]
@@ -168,7 +238,7 @@ mod tests {
             board: 3,
             stores: 0,
         };
-        assert_eq!(read("K 3").call(), Some(wanted));
+        assert_eq!(read("K 3").call(), Some(wanted.clone()));
         assert_eq!(read("F 3 0").call(), Some(wanted));
         assert_ne!(read("K 3"), read("F 3 0"));
         assert_eq!(read("N 3 1").call(), None);

@@ -33,7 +33,7 @@ pub fn fill(random: &mut Random, bytes: &mut [u8]) {
 /// The bank that a random script leaves.
 pub fn reached(random: &mut Random) -> Vec<u8> {
     let lines = random.between(20, 300);
-    let mut generator = Generator::new(random.below(u32::MAX) as u64, lines);
+    let mut generator = Generator::with_shelves(random.below(u32::MAX) as u64, lines);
     let mut trial = Trial::new(Fault::None);
     for _ in 0..lines {
         let line = generator.next(&trial).read();
@@ -65,17 +65,27 @@ pub fn bank<const FORM: Form>(random: &mut Random) -> Vec<u8> {
     }
     let records_past = random.permille(400);
     let at_limits = random.pick(&[0, 100, 300, 300, 300]);
+    let groups = random.pick(&[0, 200, 500]);
     let mut making = Making {
         random,
         bank,
         layout,
         records_past,
         at_limits,
+        groups,
+        bare: 500,
     };
     making.states();
     making.directory();
     (0..layout.boards).for_each(|board| making.block(board));
     making.bank
+}
+
+/// A record but for its bytes.
+struct Record {
+    kind: Kind,
+    page: u8,
+    count: u32,
 }
 
 struct Making<'a, const FORM: Form> {
@@ -86,6 +96,10 @@ struct Making<'a, const FORM: Form> {
     records_past: bool,
     /// How often since, a record's count or an access number is near its largest, in thousandths.
     at_limits: u32,
+    /// How often gots come that go together, in thousandths.
+    groups: u32,
+    /// How often a board has no right, in thousandths.
+    bare: u32,
 }
 
 impl<const FORM: Form> Making<'_, FORM> {
@@ -121,6 +135,7 @@ impl<const FORM: Form> Making<'_, FORM> {
         let layout = self.layout;
         let state = self.bank[layout.state(board)];
         self.bank[layout.selector(board)] = self.random.below(2) as u8;
+        self.bare = self.random.pick(&[500, 500, 800, 950]);
         for which in 0..2 {
             let least = (state == REPLAYING) as u8;
             self.area(layout.area(board, which), least);
@@ -186,35 +201,82 @@ impl<const FORM: Form> Making<'_, FORM> {
         }
     }
 
-    /// Valid records in the first slots of a log; many have count 0, so that several are due at once.
+    /// Valid records in the first slots of a log.
     fn records(&mut self, first: usize, count: u8) {
         let count = if self.records_past {
             SLOTS
         } else {
             count as usize
         };
-        for slot in (0..count).map(|slot| first + Layout::<FORM>::SLOT * slot) {
-            let kind = self.random.pick(&[GOT_COPY, GOT_OWN, SHOWN, DROPPED]);
-            let page = self.random.below(self.layout.pages as u32) as u8;
-            let since = match self.random.below(4) {
+        let mut records = Vec::new();
+        while records.len() < count {
+            match self.random.permille(self.groups) {
+                true => self.group(&mut records),
+                false => self.any_record(&mut records),
+            }
+        }
+        // The count may cut a group off.
+        for (place, record) in records.into_iter().take(count).enumerate() {
+            self.record(first + Layout::<FORM>::SLOT * place, record);
+        }
+    }
+
+    /// Many have count 0, so that several are due at once.
+    fn any_record(&mut self, records: &mut Vec<Record>) {
+        records.push(Record {
+            kind: self.random.pick(&[GOT_COPY, GOT_OWN, SHOWN, DROPPED]),
+            page: self.random.below(self.layout.pages as u32) as u8,
+            count: match self.random.below(4) {
                 0 => self.since(),
                 _ => self.random.below(2),
+            },
+        });
+    }
+
+    /// Gots of which all but the first have count 0: mostly copies whose pages rise, as a shelf call leaves them; else
+    /// some own, pages that don't rise, or both.
+    fn group(&mut self, records: &mut Vec<Record>) {
+        let chance = self.random.pick(&[200, 500, 1000]);
+        let pages = 0..self.layout.pages as u8;
+        let mut pages: Vec<u8> = pages.filter(|_| self.random.permille(chance)).collect();
+        if self.random.permille(200) {
+            let page = self.random.below(self.layout.pages as u32) as u8;
+            let place = self.random.below(pages.len() as u32 + 1) as usize;
+            pages.insert(place, page);
+        }
+        let own = self.random.pick(&[0, 0, 0, 200, 1000]);
+        for (place, page) in pages.into_iter().enumerate() {
+            let kind = match self.random.permille(own) {
+                true => GOT_OWN,
+                false => GOT_COPY,
             };
-            self.bank[slot..slot + 2].copy_from_slice(&kind);
-            self.bank[slot + SLOT_PAGE] = page;
-            self.bank[slot + SLOT_ZERO] = 0;
-            let (count, bytes) = (Layout::<FORM>::SLOT_COUNT, Layout::<FORM>::SLOT_BYTES);
-            self.layout.put_count(&mut self.bank, slot + count, since);
-            let bytes = &mut self.bank[slot + bytes..slot + Layout::<FORM>::SLOT];
-            match kind {
-                SHOWN | DROPPED => bytes.fill(0),
-                _ => fill(self.random, bytes),
-            }
+            let count = match place {
+                0 => self.random.below(2),
+                _ => 0,
+            };
+            records.push(Record { kind, page, count });
+        }
+    }
+
+    fn record(&mut self, slot: usize, record: Record) {
+        let Record { kind, page, count } = record;
+        self.bank[slot..slot + 2].copy_from_slice(&kind);
+        self.bank[slot + SLOT_PAGE] = page;
+        self.bank[slot + SLOT_ZERO] = 0;
+        let (at, bytes) = (Layout::<FORM>::SLOT_COUNT, Layout::<FORM>::SLOT_BYTES);
+        self.layout.put_count(&mut self.bank, slot + at, count);
+        let bytes = &mut self.bank[slot + bytes..slot + Layout::<FORM>::SLOT];
+        match kind {
+            SHOWN | DROPPED => bytes.fill(0),
+            _ => fill(self.random, bytes),
         }
     }
 
     fn right(&mut self) -> u8 {
-        self.random.pick(&[NONE, NONE, COPY, OWN])
+        match self.random.permille(self.bare) {
+            true => NONE,
+            false => self.random.pick(&[COPY, OWN]),
+        }
     }
 
     fn count(&mut self, most: u8) -> u8 {

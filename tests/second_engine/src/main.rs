@@ -18,6 +18,7 @@ mod history;
 mod layout;
 mod line;
 mod made;
+mod noise;
 mod older;
 mod pair_counters;
 mod pairs;
@@ -25,8 +26,12 @@ mod profile;
 mod random;
 mod replay;
 mod runner;
+mod script_line;
+mod shelves;
 mod trial;
 mod watch;
+#[cfg(test)]
+mod worked;
 
 use fault::Fault;
 use std::io::{self, stdin, stdout};

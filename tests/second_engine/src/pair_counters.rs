@@ -3,7 +3,7 @@
 use crate::calls::{Answer, Call};
 use crate::layout::*;
 use crate::older;
-use crate::watch::{phase_name, Watch, IMPOSSIBLE_PHASE, PHASES};
+use crate::watch::{phase_name, phases, Watch, PHASES};
 
 /// A counter is near its limit if so many more accesses, or fewer, fill it.
 const NEAR: u32 = 5;
@@ -45,16 +45,18 @@ impl Refusal {
 }
 
 /// Calls on a pair, by what the old bank was like before.
-const CALLS: [&str; 5] = [
+const CALLS: [&str; 7] = [
     "accesses with since within 5 of 65,535",
     "accesses with an access number within 5 of 4,294,967,295",
     "accesses in a replay, done",
+    "shelf calls, done",
+    "shelf calls in a replay, done",
     "fuses of 0, done",
     "restarts, done",
 ];
 
 /// The codes that a call on a pair can answer.
-const CODES: [usize; 8] = [0, 2, 3, 4, 5, 6, 7, 8];
+const CODES: [usize; 9] = [0, 2, 3, 4, 5, 6, 7, 8, 10];
 
 /// What has to be known of the old bank from before a call.
 pub struct Before([bool; CALLS.len()]);
@@ -62,7 +64,7 @@ pub struct Before([bool; CALLS.len()]);
 pub struct PairCounters {
     sources: [u64; SOURCES.len()],
     refusals: [u64; REFUSALS.len()],
-    codes: [u64; 9],
+    codes: [u64; 11],
     phases: [u64; PHASES],
     calls: [u64; CALLS.len()],
 }
@@ -93,12 +95,16 @@ impl PairCounters {
             return Before(Default::default());
         }
         let access = call.access().is_some();
+        let shelf = matches!(call, Call::Shelf { .. });
+        let replaying = old[layout.state(board)] == REPLAYING;
         let since = layout.get_count(old, layout.since(board));
         let number = get32(old, layout.number(board));
         Before([
             access && since >= older::Layout::MOST - NEAR,
             access && number >= u32::MAX - NEAR,
-            access && old[layout.state(board)] == REPLAYING,
+            access && replaying,
+            shelf,
+            shelf && replaying,
             matches!(call, Call::Fuse { stores: 0, .. }),
             matches!(call, Call::Restart { .. }),
         ])
@@ -117,8 +123,7 @@ impl PairCounters {
     }
 
     fn phases_met(&self) -> impl Iterator<Item = (usize, u64)> + '_ {
-        let possible = (0..PHASES).filter(|phase| *phase != IMPOSSIBLE_PHASE);
-        possible.map(|phase| (phase, self.phases[phase]))
+        phases().map(|phase| (phase, self.phases[phase]))
     }
 
     /// What was never met and can be.

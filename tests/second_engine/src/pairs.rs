@@ -4,7 +4,7 @@
 use crate::asked;
 use crate::calls::{call, call_in, Answer, Call};
 use crate::check::well_formed;
-use crate::claim::Verdict;
+use crate::claim::{Answered, Verdict};
 use crate::convert::convert;
 use crate::damage;
 use crate::fault::Fault;
@@ -15,6 +15,7 @@ use crate::made;
 use crate::older;
 use crate::pair_counters::{PairCounters, Refusal, Source};
 use crate::random::Random;
+use crate::runner::Session;
 use crate::trial::Trial;
 use crate::watch::Watch;
 
@@ -59,12 +60,13 @@ impl Pair<'_> {
     }
 
     /// Gives the old bank a call that the converted one, here as it is now, has answered. False if the pair is over.
-    fn take(&mut self, call: &Call, answer: &Answer, new: &[u8]) -> Result<bool, String> {
+    fn take(&mut self, answered: Answered, new: &[u8]) -> Result<bool, String> {
+        let Answered { call, answer, out } = answered;
         self.calls += 1;
         let before = self.counters.before(&self.old, call);
-        let wanted = call_in::<OLDER>(&mut self.old, call, Fault::None, &mut self.watch);
+        let (wanted, wanted_out) = self.old_answer(call);
         self.counters.call(before, &wanted, &self.watch);
-        let told = |what: String| format!("call {}, {}: {what}", self.calls, Line::from(*call));
+        let told = |what: String| format!("call {}, {call}: {what}", self.calls);
         if wanted.code == 4 {
             return match (answer.code == 4) == self.number_is_full(call) {
                 true => Ok(false),
@@ -74,10 +76,20 @@ impl Pair<'_> {
         if wanted != *answer {
             return Err(told(format!("old {wanted:?}, converted {answer:?}")));
         }
+        if wanted_out != out {
+            return Err(told(format!("old {wanted_out:?}, converted {out:?}")));
+        }
         if !same_numbers(&self.old, new) {
             return Err(told("the banks differ".into()));
         }
         Ok(true)
+    }
+
+    /// What the right engine answers on the old bank's own bytes, and the second buffer.
+    fn old_answer(&mut self, call: &Call) -> (Answer, Vec<u8>) {
+        let mut out = call.second_buffer();
+        let answer = call_in::<OLDER>(&mut self.old, call, &mut out, Fault::None, &mut self.watch);
+        (answer, out)
     }
 
     /// Then the converted bank answers 4 too; it doesn't if the old one's since alone is full.
@@ -174,8 +186,16 @@ fn made_by_hand(seed: u64, fault: Fault, counters: &mut PairCounters) -> Result<
         let Some(asked) = asked::fitting(&mut random, &new).call() else {
             continue;
         };
-        let answer = call(&mut new, &asked, fault, &mut watch);
-        if !pair.take(&asked, &answer, &new)? {
+        let mut out = asked.second_buffer();
+        let answer = call(&mut new, &asked, &mut out, fault, &mut watch);
+        if !pair.take(
+            Answered {
+                call: &asked,
+                answer: &answer,
+                out: &out,
+            },
+            &new,
+        )? {
             break;
         }
     }
@@ -189,7 +209,7 @@ fn reached(seed: u64, lines: u32, fault: Fault, counters: &mut PairCounters) -> 
         LONG_SCRIPT.. => Source::LongReading,
         _ => Source::Reached,
     };
-    let mut generator = Generator::new(seed, lines);
+    let mut generator = Generator::with_shelves(seed, lines);
     let mut trial = Trial::new(fault);
     let Some(Line::Make { boards, pages }) = generator.next(&trial).read() else {
         return Err("the script's first line makes no bank".into());
@@ -222,14 +242,23 @@ fn one_line(
     converted: bool,
 ) -> Result<bool, String> {
     let line = generator.next(trial).read();
+    let asked = line.as_ref().and_then(|line| line.call());
     let (answer, verdict) = trial.take(line);
     if let Verdict::ClaimBroken(why) = verdict {
         return Err(why);
     }
-    match (line.and_then(|line| line.call()), &trial.session.bank) {
-        (Some(asked), Some(bank)) if converted => pair.take(&asked, &answer, bank),
+    let Session { bank, out, .. } = &trial.session;
+    match (asked, bank) {
+        (Some(asked), Some(bank)) if converted => pair.take(
+            Answered {
+                call: &asked,
+                answer: &answer,
+                out,
+            },
+            bank,
+        ),
         (Some(asked), _) => {
-            call_in::<OLDER>(&mut pair.old, &asked, Fault::None, &mut pair.watch);
+            pair.old_answer(&asked);
             Ok(true)
         }
         _ => Ok(true),

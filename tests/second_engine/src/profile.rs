@@ -10,6 +10,8 @@ pub struct Profile {
     pub busy_pages: u32,
     pub busy_offsets: u32,
     pub writes: u32,
+    /// Shelf calls among all accesses; none in scripts for the line runner.
+    pub shelves: u32,
     pub checkpoints: u32,
     /// Power losses that are asked for.
     pub cuts: u32,
@@ -47,6 +49,7 @@ impl Profile {
             busy_pages: random.between(1, pages.min(6)),
             busy_offsets: random.pick(&[1, 2, 16]),
             writes: random.pick(&[150, 300, 500, 500, 700]),
+            shelves: 0,
             checkpoints: random.pick(&[0, 2, 10, 30, 60]),
             cuts: random.pick(&[0, 5, 15, 30, 60]),
             fuses: [5, 25, 80][hasty],

@@ -1,7 +1,7 @@
 //! Restart, replay from the stored log, and the end of a replay.
 //! Until its end a replay reads no other board.
 
-use crate::access::Access;
+use crate::access::{Access, Deed};
 use crate::engine::{Engine, Refusal, Step};
 use crate::fault::Fault;
 use crate::layout::*;
@@ -28,8 +28,8 @@ impl<const FORM: Form> Engine<'_, FORM> {
         Ok(number)
     }
 
-    /// An access of a replaying board; gives the byte read, or 0 for a write.
-    pub fn replay(&mut self, access: &Access) -> Step<u8> {
+    /// An access of a replaying board.
+    pub fn replay(&mut self, access: &Access) -> Step {
         let board = access.board;
         if self.replay_refuses(access) {
             return Err(Refusal {
@@ -37,40 +37,78 @@ impl<const FORM: Form> Engine<'_, FORM> {
                 who: board,
             });
         }
-        if self.got_due(board).is_some() {
-            self.take_got(board);
-            if self.nothing_left(board) {
-                self.end_replay(board, During::BeforeLive)?;
-                return self.live(access);
-            }
+        let group = self.group_due(board);
+        group.iter().for_each(|slot| self.take_got(board, *slot));
+        if self.nothing_left(board) {
+            self.end_replay(board, During::BeforeLive)?;
+            return self.go_on_live(access, &group);
         }
-        let value = self.touch(access);
+        self.touch(access);
         self.use_up(board);
         if self.nothing_left(board) {
             self.end_replay(board, During::AfterRepeat)?;
         }
-        Ok(value)
+        Ok(())
     }
 
-    /// Code 5: a due got that the access doesn't need, or a lacking right and no due got.
-    pub fn replay_refuses(&self, access: &Access) -> bool {
-        match self.got_due(access.board) {
-            Some(slot) => !self.needs_got(access, slot),
-            None => !self.is_local(access),
+    /// The end has dropped the copies, so pages that the access didn't lack before may be lacking now.
+    fn go_on_live(&mut self, access: &Access, group: &[usize]) -> Step {
+        if self.fault == Fault::EndFetchesGroup && access.deed == Deed::Shelf {
+            let pages: Vec<usize> = group.iter().map(|slot| self.page_of(*slot)).collect();
+            let mut narrow = access.clone();
+            narrow.cells.retain(|cell| pages.contains(&cell.page));
+            self.live(&narrow)?;
+            self.read = access
+                .cells
+                .iter()
+                .map(|cell| self.page_bytes(access.board, cell.page)[cell.offset])
+                .collect();
+            return Ok(());
         }
+        self.live(access)
     }
 
-    fn needs_got(&self, access: &Access, slot: usize) -> bool {
-        let right = self.right(access.board, access.page);
-        let wanted = match kind_at(self.bank, slot) {
-            GOT_COPY => access.write.is_none() && right == NONE,
-            _ => access.write.is_some() && right != OWN,
+    /// Code 5: gots are due that the access doesn't need, all of them; or it lacks a page besides, and the log goes on
+    /// behind them. Without a due got that is any page.
+    pub fn replay_refuses(&self, access: &Access) -> bool {
+        let lacking = self.lacking(access);
+        let group = self.group_due(access.board);
+        let enough = lacking.len() <= group.len()
+            || self.is_end(access.board, group.len())
+            || self.fault == Fault::GroupTooSmall && !group.is_empty();
+        !enough || !self.needs_group(access, &lacking, &group)
+    }
+
+    /// An access needs gots if all are of its kind, their pages rise, and it lacks each.
+    fn needs_group(&self, access: &Access, lacking: &[usize], group: &[usize]) -> bool {
+        let kind = match access.wanted() {
+            COPY => GOT_COPY,
+            _ => GOT_OWN,
         };
-        wanted && self.bank[slot + SLOT_PAGE] as usize == access.page
+        let any_kind = self.fault == Fault::OwnServesShelf && access.deed == Deed::Shelf;
+        let wanted = |slot: &usize| {
+            (any_kind || kind_at(self.bank, *slot) == kind)
+                && lacking.contains(&self.page_of(*slot))
+        };
+        if self.fault == Fault::PartOfGroup {
+            return group.is_empty() || group.iter().any(wanted);
+        }
+        group.iter().all(wanted)
+            && group.is_sorted_by(|one, next| self.page_of(*one) < self.page_of(*next))
+    }
+
+    fn page_of(&self, slot: usize) -> usize {
+        self.bank[slot + SLOT_PAGE] as usize
+    }
+
+    /// Whether no record is left behind so many more.
+    fn is_end(&self, board: usize, more: usize) -> bool {
+        let place = self.bank[self.layout.place(board)] as usize;
+        place + more >= self.bank[self.layout.stored(self.selected(board))] as usize
     }
 
     fn nothing_left(&self, board: usize) -> bool {
-        self.bank[self.layout.place(board)] >= self.bank[self.layout.stored(self.selected(board))]
+        self.is_end(board, 0)
     }
 
     /// The next stored record's slot, if its count equals since.
@@ -88,18 +126,28 @@ impl<const FORM: Form> Engine<'_, FORM> {
             .get_count(self.bank, slot + Layout::<FORM>::SLOT_COUNT)
     }
 
-    /// The slot of the next record, if it is a got and due.
-    pub fn got_due(&self, board: usize) -> Option<usize> {
-        self.due(board)
-            .filter(|slot| matches!(kind_at(self.bank, *slot), GOT_COPY | GOT_OWN))
+    fn is_got(&self, slot: usize) -> bool {
+        matches!(kind_at(self.bank, slot), GOT_COPY | GOT_OWN)
     }
 
-    /// The frame takes the due got's right and bytes.
-    fn take_got(&mut self, board: usize) {
-        let Some(slot) = self.got_due(board) else {
-            return;
+    /// The slots of the due got and of all gots of count 0 right behind it, of any kind and page; none if none is due.
+    pub fn group_due(&self, board: usize) -> Vec<usize> {
+        let Some(first) = self.due(board).filter(|slot| self.is_got(*slot)) else {
+            return Vec::new();
         };
-        let page = self.bank[slot + SLOT_PAGE] as usize;
+        let area = self.selected(board);
+        let behind = self.bank[self.layout.place(board)] as usize + 1;
+        let left = (behind..self.bank[self.layout.stored(area)] as usize)
+            .map(|slot| self.layout.area_slot(area, slot))
+            .take_while(|slot| {
+                self.fault != Fault::GotsOneByOne && self.is_got(*slot) && self.count_of(*slot) == 0
+            });
+        [first].into_iter().chain(left).collect()
+    }
+
+    /// The frame takes a got's right and bytes.
+    fn take_got(&mut self, board: usize, slot: usize) {
+        let page = self.page_of(slot);
         let right = if kind_at(self.bank, slot) == GOT_COPY {
             COPY
         } else {
@@ -118,7 +166,7 @@ impl<const FORM: Form> Engine<'_, FORM> {
         while let Some(slot) = self.due(board) {
             match kind_at(self.bank, slot) {
                 SHOWN => (),
-                DROPPED => self.clear_frame(board, self.bank[slot + SLOT_PAGE] as usize),
+                DROPPED => self.clear_frame(board, self.page_of(slot)),
                 _ => return,
             }
             self.pass_record(board);

@@ -14,6 +14,8 @@ pub struct Session {
     pub lines: u32,
     pub fault: Fault,
     pub watch: Watch,
+    /// The second buffer of the latest line's call.
+    pub out: Vec<u8>,
 }
 
 impl Session {
@@ -23,18 +25,23 @@ impl Session {
             lines: 0,
             fault,
             watch: Watch::new(),
+            out: Vec::new(),
         }
     }
 
     /// Takes the next line; none is a line that can't be read.
     pub fn take(&mut self, line: Option<Line>) -> Answer {
         self.lines += 1;
+        self.out.clear();
         match line {
             None => Answer::refused(9),
             Some(Line::Make { .. }) if self.lines > 1 => Answer::refused(9),
             Some(Line::Make { boards, pages }) => self.make(boards, pages),
             Some(line) => match (call_for(&line, self.fault), &mut self.bank) {
-                (Some(wanted), Some(bank)) => call(bank, &wanted, self.fault, &mut self.watch),
+                (Some(wanted), Some(bank)) => {
+                    self.out = wanted.second_buffer();
+                    call(bank, &wanted, &mut self.out, self.fault, &mut self.watch)
+                }
                 _ => Answer::refused(1),
             },
         }

@@ -1,10 +1,11 @@
 //! A script under the claim: a session and its judge, line by line.
 //! The `claim` command runs one from its input and says what held.
 
-use crate::calls::Answer;
-use crate::claim::{Judge, Verdict};
+use crate::calls::{self, Answer, Call, UNWRITTEN};
+use crate::claim::{Answered, Before, Judge, Verdict};
 use crate::fault::Fault;
-use crate::line::{read_line, Line, Lines};
+use crate::layout::{Layout, UP};
+use crate::line::{read_script_line, Line, Lines};
 use crate::runner::Session;
 use std::io::{self, Read, Write};
 
@@ -25,36 +26,93 @@ impl Trial {
     }
 
     pub fn take(&mut self, line: Option<Line>) -> (Answer, Verdict) {
-        let asked = line.and_then(|line| line.call());
+        let asked = line.as_ref().and_then(|line| line.call());
         let before = match (&self.session.bank, asked) {
-            (Some(bank), Some(call)) => Some((call, self.judge.before(bank, &call))),
+            (Some(bank), Some(call)) => {
+                let before = self.judge.before(bank, &call);
+                let single = self.single_reads(bank, &call);
+                Some((call, before, single))
+            }
             _ => None,
         };
         (self.judge.began, self.judge.ended) = (None, None);
         let answer = self.session.take(line);
-        let verdict = match (&self.session.bank, before) {
-            (Some(_), _) if answer.code == 1 => {
+        let verdict = match before {
+            Some(_) if answer.code == 1 => {
                 Verdict::ClaimBroken("the calls before left a bank that isn't well formed".into())
             }
-            (Some(_), _) if answer.code == 4 => {
+            Some(_) if answer.code == 4 => {
                 Verdict::ClaimBroken("no script is long enough for code 4".into())
             }
-            (Some(bank), Some((call, before))) => {
-                self.judge
-                    .after(bank, &call, &answer, before, &self.session.watch)
-            }
-            _ => Verdict::Held,
+            Some((call, before, single)) => self.judged(&call, &answer, before, single),
+            None => Verdict::Held,
         };
         self.latest = answer;
         (answer, verdict)
+    }
+
+    fn judged(
+        &mut self,
+        call: &Call,
+        answer: &Answer,
+        before: Before,
+        single: Option<Vec<u8>>,
+    ) -> Verdict {
+        let Session {
+            bank, out, watch, ..
+        } = &self.session;
+        let answered = Answered { call, answer, out };
+        let bank = bank.as_deref().unwrap_or(&[]);
+        let verdict = self.judge.after(bank, answered, before, watch);
+        if let Verdict::Held = verdict {
+            let buffer = buffer_fits(answer, out, single);
+            return buffer.map_or_else(Verdict::ClaimBroken, |_| Verdict::Held);
+        }
+        verdict
+    }
+
+    /// What single reads of a shelf call's cells by an up board give, on a copy of the bank; none if not all are done.
+    fn single_reads(&self, bank: &[u8], call: &Call) -> Option<Vec<u8>> {
+        let layout = Layout::of(bank);
+        let Call::Shelf { board, cells, room } = call else {
+            return None;
+        };
+        let fits = call.in_range(layout) && call.list_fits(*room);
+        if !fits || bank[layout.state(*board as usize)] != UP {
+            return None;
+        }
+        let (mut bank, mut watch) = (bank.to_vec(), self.session.watch.clone());
+        let mut single = |pair: &[u8]| {
+            let read = Call::Read {
+                board: *board,
+                page: pair[0] as u32,
+                offset: pair[1] as u32,
+            };
+            let answer = calls::call(&mut bank, &read, &mut [], self.session.fault, &mut watch);
+            (answer.code == 0).then_some(answer.value as u8)
+        };
+        cells.chunks_exact(2).map(&mut single).collect()
+    }
+}
+
+/// Any code but 0 leaves the second buffer unchanged. Where single reads are all done, so is the shelf call, with the
+/// same bytes.
+fn buffer_fits(answer: &Answer, out: &[u8], single: Option<Vec<u8>>) -> Result<(), String> {
+    if answer.code != 0 && out.iter().any(|byte| *byte != UNWRITTEN) {
+        return Err(format!("code {} writes to the second buffer", answer.code));
+    }
+    match single {
+        Some(_) if answer.code != 0 => Err(format!("code {}, single reads are done", answer.code)),
+        Some(bytes) if bytes != out => Err(format!("gives {out:?}, single reads give {bytes:?}")),
+        _ => Ok(()),
     }
 }
 
 /// Runs a script under the claim; false if the claim broke while the premise held.
 pub fn claim(input: impl Read, mut output: impl Write, fault: Fault) -> io::Result<bool> {
     let mut trial = Trial::new(fault);
-    for line in Lines::new(input).take(u32::MAX as usize) {
-        let (_, verdict) = trial.take(read_line(&line?));
+    for line in Lines::of_script(input).take(u32::MAX as usize) {
+        let (_, verdict) = trial.take(read_script_line(&line?));
         let number = trial.session.lines;
         match verdict {
             Verdict::Held => (),
@@ -80,6 +138,7 @@ pub fn claim(input: impl Read, mut output: impl Write, fault: Fault) -> io::Resu
 mod tests {
     use super::*;
     use crate::layout::recovery_point;
+    use crate::line::read_line;
 
     /// Case B's own facts: recovery point 3, the repeated read 0, 4 stores, then 9 with 2 stores.
     #[test]

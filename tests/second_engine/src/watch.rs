@@ -11,13 +11,42 @@ pub enum During {
     BeforeLive,
 }
 
+/// When an owner stores for a reader: for a page fetched alone, or for which of several.
+#[derive(Clone, Copy, PartialEq, Eq)]
+pub enum Turn {
+    Alone,
+    First,
+    Later,
+    /// For a later page, of an owner that has given one in this call before.
+    Again,
+}
+
 /// Which flush is being made.
 #[derive(Clone, Copy, PartialEq, Eq)]
 pub enum Flush {
-    OwnerShowsReader,
+    OwnerShowsReader(Turn),
     OwnerShowsWriter,
     Writer,
 }
+
+impl Flush {
+    fn index(self) -> usize {
+        match self {
+            Flush::OwnerShowsReader(turn) => turn as usize,
+            Flush::OwnerShowsWriter => 4,
+            Flush::Writer => 5,
+        }
+    }
+}
+
+const FLUSH_NAMES: [&str; 6] = [
+    "owner's flush for a reader of one page",
+    "owner's flush for the first of several pages",
+    "owner's flush for a later page, its first in the call",
+    "owner's flush for a later page, not its first in the call",
+    "owner's flush for a writer",
+    "writer's flush",
+];
 
 /// The step that a store belongs to.
 #[derive(Clone, Copy)]
@@ -39,7 +68,8 @@ pub enum Phase {
     },
 }
 
-const FLUSHES: usize = 6;
+/// A flush stores earlier records and its newest.
+const FLUSHES: usize = 2 * FLUSH_NAMES.len();
 const PARTS: usize = MAX_PAGES + 2;
 pub const PHASES: usize = 2 * FLUSHES + 3 * PARTS;
 
@@ -49,7 +79,7 @@ impl Phase {
         let part = |during: During, part: usize| 2 * FLUSHES + during as usize * PARTS + part;
         match self {
             Phase::Record { flush, newest } => {
-                after_end as usize * FLUSHES + flush as usize * 2 + newest as usize
+                after_end as usize * FLUSHES + flush.index() * 2 + newest as usize
             }
             Phase::Frame { during, page } => part(during, page),
             Phase::Head { during } => part(during, MAX_PAGES),
@@ -58,19 +88,24 @@ impl Phase {
     }
 }
 
-/// No phase of this index can come: a writer's log is empty right after its end of replay.
-pub const IMPOSSIBLE_PHASE: usize = FLUSHES + Flush::Writer as usize * 2;
+/// The phases that can come. A log that was emptied in the call holds no earlier record: that of a writer behind its
+/// end of replay, and that of an owner that has flushed before.
+pub fn phases() -> impl Iterator<Item = usize> {
+    let earlier = |flush: Flush, after_end: usize| after_end * FLUSHES + flush.index() * 2;
+    let again = Flush::OwnerShowsReader(Turn::Again);
+    let impossible = [
+        earlier(Flush::Writer, 1),
+        earlier(again, 0),
+        earlier(again, 1),
+    ];
+    (0..PHASES).filter(move |phase| !impossible.contains(phase))
+}
 
 pub fn phase_name(index: usize) -> String {
     if index < 2 * FLUSHES {
-        let flush = [
-            "owner's flush for a reader",
-            "owner's flush for a writer",
-            "writer's flush",
-        ];
         let record = ["an earlier record", "its newest record"][index % 2];
         let after = ["", " (after a replay ended in the call)"][index / FLUSHES];
-        return format!("{}, {}{}", flush[index % FLUSHES / 2], record, after);
+        return format!("{}, {}{}", FLUSH_NAMES[index % FLUSHES / 2], record, after);
     }
     let during = [
         "checkpoint",
@@ -107,8 +142,8 @@ pub struct Watch {
     pub phase: Phase,
     /// The table index of the phase in which a fuse blew in this call.
     pub blown: Option<usize>,
-    /// The owner that another board fetched from in this call.
-    pub fetched_from: Option<usize>,
+    /// The owners that another board has fetched from in this call, one for each page.
+    pub givers: Vec<usize>,
     /// The board whose replay ended in this call.
     pub replay_ended: Option<usize>,
     /// Records whose count has no room in the older form: made, and used in a replay.
@@ -125,7 +160,7 @@ impl Watch {
                 during: During::Asked,
             },
             blown: None,
-            fetched_from: None,
+            givers: Vec::new(),
             replay_ended: None,
             wide_records_made: 0,
             wide_records_used: 0,
@@ -144,7 +179,7 @@ impl Watch {
 
     pub fn begin_call(&mut self) {
         self.blown = None;
-        self.fetched_from = None;
+        self.givers.clear();
         self.replay_ended = None;
     }
 

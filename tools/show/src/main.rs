@@ -45,23 +45,23 @@ impl Run {
     fn take(&mut self, text: &[u8]) {
         self.lines += 1;
         let line = read_line(text);
-        let answer = self.answer_to(line);
+        let answer = self.answer_to(line.as_ref());
         self.text = text.escape_ascii().to_string();
         self.answer = words::told(line, answer);
     }
 
-    fn answer_to(&mut self, line: Option<Line>) -> Answer {
+    fn answer_to(&mut self, line: Option<&Line>) -> Answer {
         match (line, &mut self.bank) {
             (None, _) => Answer::refused(words::UNREADABLE),
             (Some(Line::Make { .. }), _) if self.lines > 1 => Answer::refused(words::UNREADABLE),
             (Some(make @ Line::Make { boards, pages }), _) => {
-                let mut bytes = vec![0; length(boards, pages)];
-                let answer = unpacked(archive(&mut bytes, &make));
+                let mut bytes = vec![0; length(*boards, *pages)];
+                let answer = unpacked(archive(&mut bytes, make));
                 self.bank = (answer.code == 0).then_some(bytes);
                 answer
             }
             (Some(_), None) => Answer::refused(1),
-            (Some(call), Some(bank)) => unpacked(archive(bank, &call)),
+            (Some(call), Some(bank)) => unpacked(archive(bank, call)),
         }
     }
 }

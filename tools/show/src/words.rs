@@ -12,12 +12,15 @@ pub fn told(line: Option<Line>, answer: Answer) -> String {
         stores => format!("{stores} stores"),
     };
     match answer.code {
-        0 => format!("done{}, {stores}", value(line, answer.value)),
-        code => format!("code {code}, {}, {stores}", refusal(line, code, answer.who)),
+        0 => format!("done{}, {stores}", value(&line, answer.value)),
+        code => format!(
+            "code {code}, {}, {stores}",
+            refusal(&line, code, answer.who)
+        ),
     }
 }
 
-fn value(line: Option<Line>, value: u32) -> String {
+fn value(line: &Option<Line>, value: u32) -> String {
     match line {
         Some(Line::Call(Call::Read { .. })) => format!(", read {value}"),
         Some(Line::Call(Call::Restart { .. })) => format!(", back at access number {value}"),
@@ -25,7 +28,7 @@ fn value(line: Option<Line>, value: u32) -> String {
     }
 }
 
-fn refusal(line: Option<Line>, code: u8, who: u32) -> String {
+fn refusal(line: &Option<Line>, code: u8, who: u32) -> String {
     match code {
         1 => "there is no bank".into(),
         2 => "a number is out of range".into(),

@@ -5,7 +5,7 @@ use mathlib.Core.Logic.{_≢_}
 use Prim.Native.Nat.{ℕ}
 use native.Mathlib.Omega.{arith}
 use mathlib.Core.Bool.{false}
-use mathlib.Core.Option.{Option, none}
+use mathlib.Core.Option.{none}
 use mathlib.Core.List.{List, [], _∷_}
 use lib.Dec.{eqb}
 use borrow.Author.Tests.{eqb-true}
@@ -21,7 +21,8 @@ use Rattle.model.specs.Definitions.Replay.{recordsLeft, tookDue, replayOver, se
 use Rattle.model.specs.Definitions.Calls.{Call, callBank}
 use Rattle.model.specs.Moves.{Move, does, Phase, Begun, Noted, Fetched, Replays, Settled, Finished, MayStore, anyone, taker, ender, Selects, checkpoints}
 use Rattle.model.specs.Moves.{resumes, closes, MayPerform, local, taken, Guard, notesShown, notesGot, storesRecord, storesFrame, storesHead, storesSelector}
-use Rattle.model.specs.Moves.{givesCopy, passesOwnership, dropsCopies, performs, losesPower, setsFuse, loads, repeatsAccess, takesLast, settles, Moves}
+use Rattle.model.specs.Moves.{TakesCopy, first, behind, givesCopy, passesOwnership, dropsCopies, performs, losesPower, setsFuse, loads, repeatsAccess}
+use Rattle.model.specs.Moves.{takesLast, settles, Moves}
 use Rattle.model.specs.History.Statement.{Event}
 use Rattle.model.specs.Laws.Boards.{boardAt-same}
 use Rattle.model.specs.Laws.Runs.{step-going}
@@ -41,7 +42,7 @@ use Rattle.history.specs.Counters.Steps.{withFuse-advances, Over, restar
 unfoldable pub Pending : ℕ → Phase → Bank → ℕ → Type 0
 Pending d Begun k c = ⊥
 Pending d (Noted o p) k c = c ≡ d
-Pending d (Fetched o g p) k c = c ≡ d
+Pending d (Fetched a os ps) k c = c ≡ d
 Pending d (Replays e) k c = (c ≡ d) × (recordsLeft (boardAt k d) ≡ [])
 Pending d (Settled e) k c = c ≡ d
 Pending d (Finished e o) k c = ⊥
@@ -65,10 +66,20 @@ selects-pending j checkpoints c q = q
 selects-pending j resumes c q = q
 selects-pending j closes c q = q
 
-begins-pending : {a : Access} {gave : Option ℕ} {φ : Phase} (d : ℕ) (k : Bank) → MayPerform a gave φ → (c : ℕ) → Pending d φ k c → c ≡ d
+begins-pending : {a : Access} {gave : List ℕ} {φ : Phase} (d : ℕ) (k : Bank) → MayPerform a gave φ → (c : ℕ) → Pending d φ k c → c ≡ d
 unfolding Pending
 begins-pending d k local c q = absurd q
 begins-pending d k taken c q = q
+
+takes-pending : {a : Access} {o p : ℕ} {φ ψ : Phase} (d : ℕ) (k : Bank) → TakesCopy a o p φ ψ → (c : ℕ) → Pending d φ k c → c ≡ d
+unfolding Pending
+takes-pending d k first c q = absurd q
+takes-pending d k (behind l) c q = q
+
+pending-taken : {a : Access} {o p : ℕ} {φ ψ : Phase} (d : ℕ) (k : Bank) → TakesCopy a o p φ ψ → (c : ℕ) → c ≡ d → Pending d ψ k c
+unfolding Pending
+pending-taken d k first c q = q
+pending-taken d k (behind l) c q = q
 
 -- a store that leaves pending what was
 stored-advances : {d : ℕ} {φ : Phase} (b : ℕ) (f : Board → Board) (s : Run) → MayStore d b φ
@@ -88,15 +99,17 @@ pub move-advances : {d : ℕ} {Again : Access → Type 0} {χ ψ : Phase} (s : R
     → RunAdvances (Pending d χ (s .bank)) (Pending d ψ (does m s .bank)) s (does m s)
 unfolding does Pending FormedIn isGot settle
 move-advances s _ n (notesShown b p u m l) h = step-advances _ s (λ e. noted-advances b (Shown p) (zeros pageSize) (s .bank) refl u)
-move-advances {d} s _ n (notesGot o p u m l r) h = step-advances _ s (λ e. got-advances d (Got GotOwn p) (frameOf (s .bank) o p .bytes) (s .bank) u)
+move-advances {d} s _ n (notesGot o p u m l r) h = step-advances _ s (λ e. got-advances d (Got GotOwn p) (frameOf (s .bank) o p .bytes) (s .bank) refl u)
 move-advances s _ n (storesRecord b o u) h =
     stored-advances b storedRecord s o (λ P. advance-one (Stored u refl) (storedRecord-orderly (boardAt (s .bank) b) u))
 move-advances s _ n (storesFrame b p o u) h = stored-advances b (storedFrame p) s o (λ P. advance-quiet (storedFrame-same p (boardAt (s .bank) b)))
 move-advances s _ n (storesHead b o u) h = stored-advances b storedHead s o (λ P. advance-quiet (storedHead-same (boardAt (s .bank) b)))
 move-advances s _ n (storesSelector b o u v) h =
     run-trans (selector-advances b (stores-pending (s .bank) (selects-stores o)) s u v) (run-same _ (selects-pending _ o))
-move-advances {d} s _ n (givesCopy o p g u m r) h = step-advances _ s (λ e. giveCopy-advances o d p (s .bank) u)
-move-advances {d} s _ n (passesOwnership o p g v m) h =
+move-advances {d} s _ n (givesCopy a o p x c i g u m r) h =
+    run-trans (run-same s (takes-pending d (s .bank) x))
+    (run-trans (step-advances _ s (λ e. giveCopy-advances o d p (s .bank) u)) (run-same _ (pending-taken d _ x)))
+move-advances {d} s _ n (passesOwnership a o p c i g v m) h =
     step-advances _ s
     (λ e.
     passOwnership-advances o d p (s .bank)
@@ -112,15 +125,15 @@ move-advances {d} s _ n (setsFuse m p low high) h = step-advances _ s (λ e. wit
 move-advances {d} s _ n (loads l down) h = replay-advances d _ s n (restarted-advances d (s .bank) l down)
 move-advances {d} s _ n (repeatsAccess a z i rep same over) h = replay-advances d _ s n (replayed-advances d (s .bank) (i .board) a rep over)
 move-advances {d} s _ n (takesLast a i rep same over) h =
-    let now : boardAt (onBoard d (tookDue a) (s .bank)) d ≡ tookDue a (boardAt (s .bank) d) = boardAt-same d (tookDue a) (s .bank) (i .board) in
+    let now : boardAt (onBoard d tookDue (s .bank)) d ≡ tookDue (boardAt (s .bank) d) = boardAt-same d tookDue (s .bank) (i .board) in
     replay-advances d _ s n
-    (advances-less (λ c q. q) (λ c q. (q, over-left (boardAt (onBoard d (tookDue a) (s .bank)) d) (rw now over))) (took-advances d (s .bank) (i .board) a rep))
+    (advances-less (λ c q. q) (λ c q. (q, over-left (boardAt (onBoard d tookDue (s .bank)) d) (rw now over))) (took-advances d (s .bank) (i .board) rep))
 move-advances {d} s _ n (settles l rep over) h =
     run-trans (run-same s (λ c q. q .0)) (step-advances _ s (λ e. settled-advances d (s .bank) l rep over))
 
 -- a replay that waits has nothing pending
 waits-advances : (d : ℕ) (e : Event) (s : Run) → replayOver (boardAt (s .bank) d) ≡ false
-    → RunAdvances (Pending d (Replays e) (s .bank)) (Pending d (Finished e none) (s .bank)) s s
+    → RunAdvances (Pending d (Replays e) (s .bank)) (Pending d (Finished e []) (s .bank)) s s
 unfolding Pending
 waits-advances d e s over =
     let g : (q : Record) × (qs : List Record) × (recordsLeft (boardAt (s .bank) d) ≡ q ∷ qs) = going-left (boardAt (s .bank) d) over in

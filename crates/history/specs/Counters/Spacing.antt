@@ -1,26 +1,29 @@
--- The order of a board's records: a got is followed by the access that it was for, so a record behind it has counted at least that one; and a replay
--- waits for its next record. Each step of a board keeps this, but for the steps between a got and its access. Assumes nothing.
-use mathlib.Core.Path.{_≡_, refl, sym, _∙_}
+-- The order of a board's records: gots that go together are followed by the access that they were for, so a record behind them has counted at least that one;
+-- and a replay waits for its next record. Each step of a board keeps this, but for the steps between a got and its access. Assumes nothing.
+use mathlib.Core.Path.{_≡_, refl, sym, _∙_, subst}
 use mathlib.Core.Logic.{_≢_, _⊎_, inl, inr}
 use Prim.Native.Nat.{ℕ, zero, suc, _+_, _≤_, _<_}
 use native.Mathlib.Omega.{arith}
-use mathlib.Core.Bool.{true, false}
+use mathlib.Core.Bool.{Bool, true, false}
 use mathlib.Core.List.{List, [], _∷_, _++_, append-assoc, append-nil}
 use lib.ListN.{drop}
+use Rattle.types.specs.declared.CopyOrOwn.{CopyOrOwn}
 use Rattle.types.specs.declared.Kind.{Kind}
+use Rattle.types.specs.declared.Kind.the-variants.{Got}
 use Rattle.types.specs.declared.Record.{Record}
 use Rattle.types.specs.declared.State.the-variants.{Up, Replaying}
 use Rattle.model.specs.Definitions.Bank.{Board, emptyLog, onWorking}
 use Rattle.model.specs.Definitions.WellFormed.{isGot}
 use Rattle.model.specs.Definitions.Steps.{poweredOff, appended, recorded, storedRecord, storedSelector, restedWorking, Access, accessed}
-use Rattle.model.specs.Definitions.Replay.{loaded, recordsLeft, used, useUp, usedUp, due, tookGot, tookDue, replayed}
-use Rattle.model.specs.Laws.Logic.{byOption, clash}
+use Rattle.model.specs.Definitions.Replay.{loaded, recordsLeft, used, useUp, usedUp, gotsDue, due, tookGot, tookDue, replayed}
+use Rattle.model.specs.Laws.Logic.{byEq, clash}
+use Rattle.model.specs.Laws.Codes.Order.{never}
 use Rattle.model.specs.Laws.Runs.Stores.{recordsOf, Flushed, flushed-storedRecord}
 use Rattle.model.specs.Laws.Keeps.Clauses.{up-not-down, up-not-replaying, down-not-replaying}
 use Rattle.history.specs.Invariant.{NextWaits}
 use Rattle.model.specs.History.RecoveryStatement.{SameCounters}
 use Rattle.history.specs.Replaying.{used-left, usedUp-log}
-use Rattle.history.specs.Repeating.{DueIn, due-some, tookDue-none, tookDue-some, took-stable, took-log, gotDue-none}
+use Rattle.history.specs.Repeating.{takenBy, EntryNext, gotsDue-cases, due-nothing, took-none, took-first, left-got, took-stable, took-log}
 use Rattle.history.specs.Counters.{useUp-cases, quiet-left}
 
 -- ==== records
@@ -30,10 +33,15 @@ unfoldable pub nextCount : List Record → ℕ → ℕ
 nextCount [] n = n
 nextCount (r ∷ rs) n = r .count
 
--- behind every got at least one access is counted; n is counted behind the last record
+-- whether a got is next
+unfoldable pub nextGot : List Record → Bool
+nextGot [] = false
+nextGot (r ∷ rs) = isGot (r .kind)
+
+-- behind every got stands a got, or at least one access is counted; n is counted behind the last record
 unfoldable pub Spaced : List Record → ℕ → Type 0
 Spaced [] n = Unit
-Spaced (r ∷ rs) n = (isGot (r .kind) ≡ true → 0 < nextCount rs n) × Spaced rs n
+Spaced (r ∷ rs) n = (isGot (r .kind) ≡ true → (nextGot rs ≡ true) ⊎ (0 < nextCount rs n)) × Spaced rs n
 
 nextCount-more : (rs : List Record) (m n : ℕ) → (0 < m → 0 < n) → 0 < nextCount rs m → 0 < nextCount rs n
 unfolding nextCount
@@ -43,31 +51,50 @@ nextCount-more (r ∷ rs) m n f h = h
 pub spaced-more : (rs : List Record) (m n : ℕ) → (0 < m → 0 < n) → Spaced rs m → Spaced rs n
 unfolding Spaced
 spaced-more [] m n f h = tt
-spaced-more (r ∷ rs) m n f h = (λ g. nextCount-more rs m n f (h .0 g), spaced-more rs m n f (h .1))
+spaced-more (r ∷ rs) m n f h =
+    (λ g. elim (h .0 g) [ inl i ↦ inl i | inr i ↦ inr (nextCount-more rs m n f i) ], spaced-more rs m n f (h .1))
 
 nextCount-one : (rs : List Record) (r : Record) (n : ℕ) → nextCount (rs ++ (r ∷ [])) n ≡ nextCount rs (r .count)
 unfolding nextCount
 nextCount-one [] r n = refl
 nextCount-one (q ∷ rs) r n = refl
 
+nextGot-one : (rs : List Record) (r : Record) → nextGot rs ≡ true → nextGot (rs ++ (r ∷ [])) ≡ true
+unfolding nextGot
+nextGot-one [] r h = clash h refl
+nextGot-one (q ∷ rs) r h = h
+
 -- one record more
 pub spaced-one : (rs : List Record) (r : Record) (n : ℕ) → Spaced rs (r .count) → (isGot (r .kind) ≡ true → 0 < n) → Spaced (rs ++ (r ∷ [])) n
 unfolding Spaced nextCount
-spaced-one [] r n h g = (g, tt)
-spaced-one (q ∷ rs) r n h g = (λ i. rw (nextCount-one rs r n) (h .0 i), spaced-one rs r n (h .1) g)
+spaced-one [] r n h g = (λ i. inr (g i), tt)
+spaced-one (q ∷ rs) r n h g =
+    (λ i. elim (h .0 i) [ inl j ↦ inl (nextGot-one rs r j) | inr j ↦ inr (rw (nextCount-one rs r n) j) ], spaced-one rs r n (h .1) g)
 
-nextCount-left : (xs ys : List Record) (n : ℕ) → 0 < nextCount (xs ++ ys) n → 0 < nextCount xs 1
-unfolding nextCount
-nextCount-left [] ys n h = omega arith
-nextCount-left (x ∷ xs) ys n h = h
+-- a got more, whatever its count: those before it end in a got, or what is counted behind them is counted by it
+next-either : (rs : List Record) (r : Record) (m : ℕ) → isGot (r .kind) ≡ true → (nextGot rs ≡ true) ⊎ (0 < nextCount rs m)
+    → (nextGot (rs ++ (r ∷ [])) ≡ true) ⊎ (0 < nextCount (rs ++ (r ∷ [])) 1)
+unfolding nextGot nextCount
+next-either [] r m g h = inl g
+next-either (q ∷ rs) r m g h = h
+
+pub spaced-got : (rs : List Record) (r : Record) (m : ℕ) → Spaced rs m → isGot (r .kind) ≡ true → Spaced (rs ++ (r ∷ [])) 1
+unfolding Spaced nextCount
+spaced-got [] r m h g = (λ i. inr (omega arith), tt)
+spaced-got (q ∷ rs) r m h g = (λ i. next-either rs r m g (h .0 i), spaced-got rs r m (h .1) g)
+
+next-left : (xs ys : List Record) (n : ℕ) → (nextGot (xs ++ ys) ≡ true) ⊎ (0 < nextCount (xs ++ ys) n) → (nextGot xs ≡ true) ⊎ (0 < nextCount xs 1)
+unfolding nextGot nextCount
+next-left [] ys n h = inr (omega arith)
+next-left (x ∷ xs) ys n h = h
 
 -- the first records of a list, with the last of them left open
 pub spaced-left : (xs ys : List Record) (n : ℕ) → Spaced (xs ++ ys) n → Spaced xs 1
 unfolding Spaced
 spaced-left [] ys n h = tt
-spaced-left (x ∷ xs) ys n h = (λ g. nextCount-left xs ys n (h .0 g), spaced-left xs ys n (h .1))
+spaced-left (x ∷ xs) ys n h = (λ g. next-left xs ys n (h .0 g), spaced-left xs ys n (h .1))
 
-spaced-drop : (k : ℕ) (rs : List Record) (n : ℕ) → Spaced rs n → Spaced (drop k rs) n
+pub spaced-drop : (k : ℕ) (rs : List Record) (n : ℕ) → Spaced rs n → Spaced (drop k rs) n
 unfolding Spaced
 spaced-drop zero rs n h = h
 spaced-drop (suc k) [] n h = h
@@ -97,13 +124,20 @@ module _ (kind : Kind) (bytes : List ℕ) (x : Board) (u : x .state ≡ Up) (h :
       let r : Record = record { count = x .working .since; kind = kind; bytes = bytes } in
       rw (← append-assoc (x .stable .selected .log .records) (x .working .log .records) (r ∷ [])) (spaced-one (recordsOf x) r n (h .up (λ p. p) u) g)
 
-  pub recorded-pending : {P : Type 0} → P → Orderly P (onWorking (recorded kind bytes) x)
-  unfolding onWorking recorded
-  recorded-pending p = up-orderly u (recorded-spaced 1 (λ g. omega arith)) (λ n. absurd (n p))
-
   pub recorded-orderly : {P : Type 0} → isGot kind ≡ false → Orderly P (onWorking (recorded kind bytes) x)
   unfolding onWorking recorded
   recorded-orderly g = up-orderly u (recorded-spaced 1 (λ i. omega arith)) (λ n. recorded-spaced 0 (λ i. clash i g))
+
+-- a got made where an access is pending joins the gots before it
+pub joined-pending : {P Q : Type 0} (kind : Kind) (bytes : List ℕ) (x : Board) → x .state ≡ Up → isGot kind ≡ true → Q → Orderly P x
+    → Orderly Q (onWorking (recorded kind bytes) x)
+unfolding recordsOf onWorking recorded appended
+joined-pending kind bytes x u g q h =
+    let r : Record = record { count = x .working .since; kind = kind; bytes = bytes } in
+    let s : Spaced (recordsOf x ++ (r ∷ [])) 1 = spaced-got (recordsOf x) r 1 (h .spaced) g in
+    up-orderly u
+    (rw (← append-assoc (x .stable .selected .log .records) (x .working .log .records) (r ∷ [])) s)
+    (λ n. absurd (n q))
 
 -- a record stored stays in its place among the board's records
 pub storedRecord-orderly : {P : Type 0} (x : Board) → x .state ≡ Up → Orderly P x → Orderly P (storedRecord x)
@@ -196,30 +230,49 @@ left-spaced x h =
     let rs : List Record = x .stable .selected .log .records in
     spaced-drop (x .working .place) rs 1 (spaced-left rs (x .working .log .records) 1 (h .spaced))
 
-pub got-spaced : (q r : Record) (rs : List Record) → isGot (q .kind) ≡ true → Spaced (q ∷ r ∷ rs) 1 → 0 < r .count
-unfolding Spaced nextCount
-got-spaced q r rs g h = h .0 g
+got-is : (q : Record) (g : CopyOrOwn) (p : ℕ) → q .kind ≡ Got g p → isGot (q .kind) ≡ true
+unfolding isGot
+got-is q g p k = rw k
 
--- after a due got was taken, if one was, an access comes before the next record
-took-ahead : (a : Access) (x : Board) → x .state ≡ Replaying → Orderly ⊥ x → (r : Record) (rs : List Record) → recordsLeft (tookDue a x) ≡ r ∷ rs
-    → tookDue a x .working .since < r .count
-unfolding due tookGot used onWorking isGot
-took-ahead a x u h r rs left =
-    byOption (due x)
-    (λ e.
-    let l : recordsLeft x ≡ r ∷ rs = rw (tookDue-none a x e) at left in
-    rw (tookDue-none a x e) (gotDue-none r rs (x .working .since) (rw l at e) (rw l at (h .waits (λ p. p) u))))
-    (λ q e.
-    let d : DueIn (recordsLeft x) (x .working .since) q = due-some x q e in
-    let l : d .others ≡ r ∷ rs = sym (used-left x q (d .others) (d .head) _) ∙ (rw (tookDue-some a x q e) at left) in
-    let s : Spaced (q ∷ r ∷ rs) 1 = rw (d .head, l) at (left-spaced x h) in
-    rw (tookDue-some a x q e) (got-spaced q r rs (rw (d .kind)) s))
+-- what comes before the records that are left: a got that was just taken, behind which a got stands or an access is counted; or a replay that waits
+pub data Before (qs : List Record) (since : ℕ) : Type 0 where
+  justTook : since ≡ 0 → (nextGot qs ≡ true) ⊎ (0 < nextCount qs 1) → Before qs since
+  waited : NextWaits qs since → Before qs since
+
+-- a record that doesn't go with the gots before it, or that a replay waits for
+waits-ahead : (q : Record) (qs : List Record) (since : ℕ) → (q .count ≡ since → isGot (q .kind) ≡ false) → Before (q ∷ qs) since → since < q .count
+unfolding NextWaits nextGot nextCount
+waits-ahead q qs since late (justTook z (inl g)) = byEq (q .count) since (λ e. clash g (late e)) (λ ne. omega arith)
+waits-ahead q qs since late (justTook z (inr n)) = omega arith
+waits-ahead q qs since late (waited (inl l)) = l
+waits-ahead q qs since late (waited (inr g)) = clash (g .1) (late (sym (g .0)))
+
+-- where the due gots are taken, if any were, an access comes before the next record
+ahead-from : (qs : List Record) (x : Board) → recordsLeft x ≡ qs → Spaced qs 1 → Before qs (x .working .since)
+    → EntryNext (takenBy (gotsDue qs (x .working .since)) x)
+unfolding tookGot used onWorking Spaced
+ahead-from [] x left s before = rw (due-nothing (x .working .since), took-none x [] refl) (λ r rs l. let z : [] ≡ r ∷ rs = sym left ∙ l in never (cc))
+ahead-from (q ∷ qs) x left s before =
+    gotsDue-cases q qs (x .working .since)
+    (λ e late.
+    subst EntryNext (sym (took-none x _ e))
+    (λ r rs l.
+    let here : q ∷ qs ≡ r ∷ rs = sym left ∙ l in
+    let head : q ≡ r = cc in
+    rw (← head) (waits-ahead q qs (x .working .since) late before)))
+    (λ g p k now e.
+    subst EntryNext (sym (took-first x _ (gotsDue qs 0) q e))
+    (ahead-from qs (onWorking (tookGot q) x) (left-got q qs x left) (s .1) (justTook refl (s .0 (got-is q g p k)))))
+
+took-ahead : (x : Board) → x .state ≡ Replaying → Orderly ⊥ x → EntryNext (tookDue x)
+unfolding due tookDue
+took-ahead x u h = ahead-from (recordsLeft x) x refl (left-spaced x h) (waited (h .waits (λ p. p) u))
 
 -- the access that follows: the records that it makes due are used up
-pub replayed-orderly : (a : Access) (x : Board) → x .state ≡ Replaying → Orderly ⊥ x → tookDue a x .state ≡ Replaying
-    → Orderly (recordsLeft (replayed a (tookDue a x)) ≡ []) (replayed a (tookDue a x))
+pub replayed-orderly : (a : Access) (x : Board) → x .state ≡ Replaying → Orderly ⊥ x → tookDue x .state ≡ Replaying
+    → Orderly (recordsLeft (replayed a (tookDue x)) ≡ []) (replayed a (tookDue x))
 unfolding replayed recordsOf onWorking accessed recordsLeft
 replayed-orderly a x u h v =
-    usedUp-orderly (onWorking (accessed a) (tookDue a x)) v
-    (rw (took-stable a x, took-log a x) (h .spaced))
-    (λ r rs e. omega (arith, took-ahead a x u h r rs e))
+    usedUp-orderly (onWorking (accessed a) (tookDue x)) v
+    (rw (took-stable x, took-log x) (h .spaced))
+    (λ r rs e. omega (arith, took-ahead x u h r rs e))

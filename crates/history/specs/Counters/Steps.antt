@@ -15,15 +15,15 @@ use Rattle.model.specs.Definitions.Layout.{pageSize}
 use Rattle.model.specs.Definitions.Bank.{Board, Bank, emptyFrame, boardAt, entryAt, onBoard, onWorking}
 use Rattle.model.specs.Definitions.WellFormed.{isGot}
 use Rattle.model.specs.Definitions.Steps.{withFuse, recorded, note, Access, accessed, access, frameOf, giveCopy, dropped, dropCopies, passOwnership}
-use Rattle.model.specs.Definitions.Replay.{loaded, recordsLeft, usedUp, due, tookDue, replayOver, settled, replayed, settle}
-use Rattle.model.specs.Laws.Logic.{byOption, byEq, cases}
-use Rattle.model.specs.Laws.Boards.{boardAt-same, onBoard-onBoard, tookCopy, tookOwn, droppedIf, boardAt-giveCopy-same, boardAt-giveCopy-other}
+use Rattle.model.specs.Definitions.Replay.{loaded, recordsLeft, usedUp, tookDue, replayOver, settled, replayed, settle}
+use Rattle.model.specs.Laws.Logic.{byEq, cases}
+use Rattle.model.specs.Laws.Boards.{boardAt-same, onBoard-onBoard, tookDue-state, tookCopy, tookOwn, droppedIf, boardAt-giveCopy-same, boardAt-giveCopy-other}
 use Rattle.model.specs.Laws.Boards.{boardAt-dropCopies, boardAt-passOwnership-same, boardAt-passOwnership-other}
 use Rattle.model.specs.Laws.Runs.{sizes-giveCopy, sizes-dropCopies, sizes-passOwnership}
 use Rattle.model.specs.Laws.Runs.Stores.{recordsOf}
 use Rattle.model.specs.History.RecoveryStatement.{SameCounters, Made, Accessed, Loaded, Took, Replayed, Settled, unchanged, next}
-use Rattle.history.specs.Repeating.{tookDue-none, tookDue-some, took-stable, took-log}
-use Rattle.history.specs.Counters.Spacing.{orderly-less, recorded-pending, recorded-orderly, accessed-orderly, same-pending, restarted-orderly}
+use Rattle.history.specs.Repeating.{took-stable, took-log}
+use Rattle.history.specs.Counters.Spacing.{orderly-less, joined-pending, recorded-orderly, accessed-orderly, same-pending, restarted-orderly}
 use Rattle.history.specs.Counters.Spacing.{replayed-orderly}
 use Rattle.history.specs.Counters.BoardsInProgress.{Advance, advance-same, advance-one, advance-trans, advance-less, advance-quiet, withFrame-same}
 use Rattle.history.specs.Counters.BoardsInProgress.{Advances, Nobody, Only, onBoard-advances}
@@ -35,9 +35,10 @@ recorded-advance : {P : Type 0} (kind : Kind) (bytes : List ℕ) (x : Board) →
     → Advance ⊥ P x (onWorking (recorded kind bytes) x)
 recorded-advance kind bytes x g u = advance-one (Made kind bytes u refl) (λ h. recorded-orderly kind bytes x u h g)
 
--- a got: its access is pending
-got-advance : {P : Type 0} → P → (kind : Kind) (bytes : List ℕ) (x : Board) → x .state ≡ Up → Advance ⊥ P x (onWorking (recorded kind bytes) x)
-got-advance p kind bytes x u = advance-one (Made kind bytes u refl) (λ h. recorded-pending kind bytes x u h p)
+-- a got: its access is pending; others may be pending with it
+got-advance : {P Q : Type 0} → Q → (kind : Kind) (bytes : List ℕ) (x : Board) → isGot kind ≡ true → x .state ≡ Up
+    → Advance P Q x (onWorking (recorded kind bytes) x)
+got-advance q kind bytes x g u = advance-one (Made kind bytes u refl) (joined-pending kind bytes x u g q)
 
 pub noted-advances : (b : ℕ) (kind : Kind) (bytes : List ℕ) (k : Bank) → isGot kind ≡ false → boardAt k b .state ≡ Up
     → Advances Nobody Nobody k (note b kind bytes k)
@@ -45,10 +46,11 @@ unfolding note
 noted-advances b kind bytes k g u =
     onBoard-advances b k (λ c n p. p) (onWorking (recorded kind bytes)) (λ l. recorded-advance kind bytes (boardAt k b) g u)
 
-pub got-advances : (b : ℕ) (kind : Kind) (bytes : List ℕ) (k : Bank) → boardAt k b .state ≡ Up → Advances Nobody (Only b) k (note b kind bytes k)
+pub got-advances : (b : ℕ) (kind : Kind) (bytes : List ℕ) (k : Bank) → isGot kind ≡ true → boardAt k b .state ≡ Up
+    → Advances Nobody (Only b) k (note b kind bytes k)
 unfolding note
-got-advances b kind bytes k u =
-    onBoard-advances b k (λ c n p. absurd p) (onWorking (recorded kind bytes)) (λ l. got-advance refl kind bytes (boardAt k b) u)
+got-advances b kind bytes k g u =
+    onBoard-advances b k (λ c n p. absurd p) (onWorking (recorded kind bytes)) (λ l. got-advance refl kind bytes (boardAt k b) g u)
 
 -- ---- fetches
 
@@ -61,8 +63,8 @@ dropped-advance {P} t p x u =
     (advance-quiet (withFrame-same p emptyFrame (onWorking (recorded (Dropped p) (zeros pageSize)) x))))
     (λ e. advance-same absurd)
 
-pub giveCopy-advances : (o b p : ℕ) (k : Bank) → boardAt k b .state ≡ Up → Advances Nobody (Only b) k (giveCopy o b p k)
-unfolding tookCopy
+pub giveCopy-advances : (o b p : ℕ) (k : Bank) → boardAt k b .state ≡ Up → Advances (Only b) (Only b) k (giveCopy o b p k)
+unfolding tookCopy isGot
 giveCopy-advances o b p k u =
     let bytes : List ℕ = frameOf k o p .bytes in
     let x : Board = boardAt k b in
@@ -72,8 +74,9 @@ giveCopy-advances o b p k u =
           byEq c b
           (λ e.
           rw (e, boardAt-giveCopy-same o b p k (rw e at l))
-          (advance-trans (got-advance refl (Got GotCopy p) bytes x u) (advance-quiet (withFrame-same p _ (onWorking (recorded (Got GotCopy p) bytes) x)))))
-          (λ n. rw (boardAt-giveCopy-other o b p k c n) (advance-same absurd));
+          (advance-trans (got-advance refl (Got GotCopy p) bytes x refl u)
+          (advance-quiet (withFrame-same p _ (onWorking (recorded (Got GotCopy p) bytes) x)))))
+          (λ n. rw (boardAt-giveCopy-other o b p k c n) (advance-same (λ q. q)));
     }
 
 -- the holders are up
@@ -117,10 +120,6 @@ withFuse-advances b n k = onBoard-advances b k (λ c m p. p) (withFuse n) (λ l.
 
 -- ---- restart and replay
 
-pub took-state : (a : Access) (x : Board) → tookDue a x .state ≡ x .state
-unfolding onWorking
-took-state a x = byOption (due x) (λ e. rw (tookDue-none a x e)) (λ r e. rw (tookDue-some a x r e))
-
 -- board b may have no record left
 abbrev pub Over : ℕ → Bank → ℕ → Type 0
 Over b k c = (c ≡ b) × (recordsLeft (boardAt k b) ≡ [])
@@ -134,26 +133,26 @@ module _ (b : ℕ) (k : Bank) (l : b < length (k .boards)) where
       (advance-one (Loaded u refl) (λ h. orderly-less (λ e. (refl, e)) (restarted-orderly (boardAt k b) h))))
 
   -- the access is pending, or the replay is over
-  pub took-advances : (a : Access) → boardAt k b .state ≡ Replaying → Advances Nobody (Only b) k (onBoard b (tookDue a) k)
+  pub took-advances : boardAt k b .state ≡ Replaying → Advances Nobody (Only b) k (onBoard b tookDue k)
   unfolding recordsOf
-  took-advances a u =
+  took-advances u =
       let x : Board = boardAt k b in
-      onBoard-advances b k (λ c n p. absurd p) (tookDue a)
-      (λ i. advance-one (Took a u refl) (same-pending (rw (took-stable a x, took-log a x)) refl))
+      onBoard-advances b k (λ c n p. absurd p) tookDue
+      (λ i. advance-one (Took u refl) (same-pending (rw (took-stable x, took-log x)) refl))
 
-  -- a got that is due is taken, then the access is repeated
-  pub replayed-advances : (a : Access) → boardAt k b .state ≡ Replaying → replayOver (tookDue a (boardAt k b)) ≡ false
-      → Advances Nobody (Over b (onBoard b (replayed a) (onBoard b (tookDue a) k))) k (onBoard b (replayed a) (onBoard b (tookDue a) k))
+  -- the gots that are due are taken, then the access is repeated
+  pub replayed-advances : (a : Access) → boardAt k b .state ≡ Replaying → replayOver (tookDue (boardAt k b)) ≡ false
+      → Advances Nobody (Over b (onBoard b (replayed a) (onBoard b tookDue k))) k (onBoard b (replayed a) (onBoard b tookDue k))
   replayed-advances a u o =
       let x : Board = boardAt k b in
-      let f : Board → Board = λ y. replayed a (tookDue a y) in
-      let v : tookDue a x .state ≡ Replaying = took-state a x ∙ u in
-      rw (onBoard-onBoard b (tookDue a) (replayed a) k)
+      let f : Board → Board = λ y. replayed a (tookDue y) in
+      let v : tookDue x .state ≡ Replaying = tookDue-state x ∙ u in
+      rw (onBoard-onBoard b tookDue (replayed a) k)
       (onBoard-advances b k (λ c n p. absurd p) f
       (λ i.
       rw (boardAt-same b f k l)
       (record {
-        changes = next (next unchanged (Took a u refl)) (Replayed a v o refl);
+        changes = next (next unchanged (Took u refl)) (Replayed a v o refl);
         orderly = λ h. orderly-less (λ e. (refl, e)) (replayed-orderly a x u h v);
       })))
 

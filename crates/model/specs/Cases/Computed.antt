@@ -1,4 +1,5 @@
--- The worked cases and histories, computed on the bank. Nothing here rests on a law, so a wrong definition is refused by a value that differs. Assumes nothing.
+-- The worked cases and histories, computed on the bank. Nothing here rests on a law, so a wrong definition is refused by a value that differs.
+-- Assumes nothing.
 use mathlib.Core.Path.{_≡_, refl}
 use mathlib.Core.Bool.{true, false, _&&_}
 use mathlib.Core.List.{[], _∷_}
@@ -6,8 +7,8 @@ use Rattle.model.specs.Definitions.Parts.{every}
 use Rattle.model.specs.Definitions.Bank.{fresh}
 use Rattle.model.specs.Definitions.Steps.{Read, Write}
 use Rattle.model.specs.Definitions.Calls.{Accessing, Fusing}
-use Rattle.model.specs.History.Statement.{noHistory, ofBoard, discard, doneEvent, eventOf, entryCount, repeats, withNumberOf, bytesFrom, withEntry, fed}
-use Rattle.model.specs.History.Statement.{zeroMemory, byteIn, written, accessOf, liveBank, giverIn, gaveIn, grantedAfter, nextEntry}
+use Rattle.model.specs.History.Statement.{noHistory, ofBoard, discard, doneEvent, eventOf, entryCount, repeats, withNumberOf, bytesSeen, withEntry, fed}
+use Rattle.model.specs.History.Statement.{zeroMemory, byteIn, written, accessOf, liveBank, giversIn, gaveIn, grantedAfter, nextEntry}
 use Rattle.model.specs.History.Tests.{sameBytes, sameAccess, doneOrLost, repeatsEntry, premiseFor, oneMemoryTest, gaveEntry, repeatFor, grantsFor}
 use Rattle.model.specs.History.Banks.{historyAfter, grantsAfter}
 use Rattle.model.specs.Cases.Evaluate.{evaluate}
@@ -15,19 +16,23 @@ use Rattle.model.specs.Cases.Digest.{taken, digestFrom, digest}
 use Rattle.model.specs.Cases.Table.{agrees, caseA, caseBCut, caseB, boardOutOfRange, restartOfUpBoard, replayDiffers, ownerNotUp, alternating}
 use Rattle.model.specs.Cases.Table.{alternatingWrites, fuseBlows, lastOffset, zeroFuse, scripts, lengths}
 use Rattle.model.specs.Cases.Conversions.{oldBank, newBank, bothLengths, converts, reads}
+use Rattle.model.specs.Cases.Cells.{glancesOn, twoPages, giverLost, firstGiverLost, endLost, replayEnds, wrongLists, withStored, glancesFrom, needsAdded}
+use Rattle.model.specs.Cases.Cells.{differsWith, groupsDiffer, glances}
 use Rattle.model.specs.Cases.Worked.{callsOf, fuseAtReplayEnd, everyEntry, fuseInFlush, fuseAtSelector, givenAfterReplay, takerCut, refusedInReplay}
-use Rattle.model.specs.Cases.Worked.{histories, otherByte, otherByteRepeated, twoDue}
+use Rattle.model.specs.Cases.Worked.{cellsRepeated, histories, otherByte, otherByteRepeated, otherOrder, readForCells, otherOrderLost, twoGivers}
+use Rattle.model.specs.Cases.Worked.{giverCut, twoDue}
 use Rattle.model.specs.Cases.Running.{leavesOn, passesOn, passesFresh, premisesOn, claimsOn, holdsOn, grantsIn}
 use Rattle.model.specs.Definitions.Check.{sizesAllowed}
 
 -- A theorem that says `unfolding evaluate tables` computes with the definitions of the history and of the tables too
 unfoldable pub tables : Unit {0}
-unfolding noHistory ofBoard discard doneEvent eventOf entryCount repeats withNumberOf bytesFrom withEntry fed zeroMemory byteIn written accessOf liveBank
-    giverIn gaveIn grantedAfter nextEntry sameBytes sameAccess doneOrLost repeatsEntry premiseFor oneMemoryTest gaveEntry repeatFor grantsFor historyAfter
+unfolding noHistory ofBoard discard doneEvent eventOf entryCount repeats withNumberOf bytesSeen withEntry fed zeroMemory byteIn written accessOf liveBank
+    giversIn gaveIn grantedAfter nextEntry sameBytes sameAccess doneOrLost repeatsEntry premiseFor oneMemoryTest gaveEntry repeatFor grantsFor historyAfter
     grantsAfter leavesOn passesOn passesFresh premisesOn claimsOn holdsOn grantsIn taken digestFrom digest agrees caseA caseBCut caseB boardOutOfRange
-    restartOfUpBoard replayDiffers ownerNotUp alternating alternatingWrites fuseBlows lastOffset zeroFuse scripts lengths oldBank newBank bothLengths converts
-    reads callsOf fuseAtReplayEnd everyEntry
-    fuseInFlush fuseAtSelector givenAfterReplay takerCut refusedInReplay histories otherByte otherByteRepeated twoDue
+    restartOfUpBoard replayDiffers ownerNotUp alternating alternatingWrites fuseBlows lastOffset zeroFuse scripts lengths oldBank newBank bothLengths
+    converts reads callsOf fuseAtReplayEnd everyEntry fuseInFlush fuseAtSelector givenAfterReplay takerCut refusedInReplay cellsRepeated histories otherByte
+    otherByteRepeated otherOrder readForCells otherOrderLost twoGivers giverCut twoDue glancesOn twoPages giverLost firstGiverLost endLost replayEnds
+    wrongLists withStored glancesFrom needsAdded differsWith groupsDiffer glances
 tables = tt
 
 pub lengths-hold : lengths ≡ true
@@ -37,6 +42,10 @@ lengths-hold = refl
 pub conversions-hold : (bothLengths && (converts && reads)) ≡ true
 unfolding evaluate tables
 conversions-hold = refl
+
+pub glances-hold : glances ≡ true
+unfolding evaluate tables
+glances-hold = refl
 
 pub scripts-sized : every (λ c. sizesAllowed (c .boards) (c .pages)) scripts ≡ true
 unfolding evaluate tables
@@ -54,10 +63,10 @@ pub twoDue-holds : passesFresh twoDue ≡ true
 unfolding evaluate tables
 twoDue-holds = refl
 
--- two boards and up to three pages are in range
-pub sized : (sizesAllowed 2 1 ≡ true) × (sizesAllowed 2 3 ≡ true)
+-- two boards and up to three pages are in range, and three of each
+pub sized : (sizesAllowed 2 1 ≡ true) × (sizesAllowed 2 3 ≡ true) × (sizesAllowed 3 3 ≡ true)
 unfolding evaluate tables
-sized = (refl, refl)
+sized = (refl, refl, refl)
 
 pub otherByte-breaks : (premisesOn otherByte (fresh 2 1) noHistory ≡ false) × (claimsOn otherByte (fresh 2 1) noHistory (λ b. 0) ≡ false)
 unfolding evaluate tables
@@ -68,9 +77,26 @@ pub otherByteRepeated-breaks : claimsOn otherByteRepeated (fresh 2 1) noHistory 
 unfolding evaluate tables
 otherByteRepeated-breaks = refl
 
+-- other cells, or the same in another order, are no repeat
+pub cells-break :
+    (premisesOn otherOrder (fresh 3 3) noHistory ≡ false)
+    × (premisesOn readForCells (fresh 3 3) noHistory ≡ false)
+    × (premisesOn otherOrderLost (fresh 3 3) noHistory ≡ false)
+unfolding evaluate tables
+cells-break = (refl, refl, refl)
+
 -- what is given is noted, live and after a replay that ended in the same access; a recovery point below what was given breaks the claim
 pub grants-noted :
     (grantsIn (Accessing 0 (Write 0 0 5) ∷ Accessing 1 (Read 0 0) ∷ []) (fresh 2 1) (λ b. 0) 0 ≡ 1)
     × ((grantsIn givenAfterReplay (fresh 2 2) (λ b. 0) 1 ≡ 1) × (claimsOn (Fusing 0 0 ∷ []) (fresh 2 1) noHistory (λ b. 1) ≡ false))
 unfolding evaluate tables
 grants-noted = (refl, (refl, refl))
+
+-- of two givers each has its own number; where one of them loses power nothing is given
+pub cells-granted :
+    (grantsIn twoGivers (fresh 3 3) (λ b. 0) 1 ≡ 3)
+    × (grantsIn twoGivers (fresh 3 3) (λ b. 0) 2 ≡ 2)
+    × (grantsIn twoGivers (fresh 3 3) (λ b. 0) 0 ≡ 0)
+    × (grantsIn giverCut (fresh 3 3) (λ b. 0) 1 ≡ 0)
+unfolding evaluate tables
+cells-granted = (refl, refl, refl, refl)

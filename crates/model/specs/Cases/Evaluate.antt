@@ -1,7 +1,8 @@
 -- A theorem that says `unfolding evaluate` computes with every definition of the documents. This list is the only use of the name. Assumes nothing.
 use Rattle.words.specs.LittleEndian.{bytesOf, numberOf}
 use Rattle.model.specs.Definitions.Parts.{part, splice, byteAt, zeros, encodeAll, decodeAll, update, eachFrom, each, tabulateFrom, tabulate, every}
-use Rattle.model.specs.Definitions.Parts.{everyFrom, everyBelow, firstFrom, firstBelow, member, withMember, withoutMember}
+use Rattle.model.specs.Definitions.Parts.{everyFrom, everyBelow, firstFrom, firstBelow, allFrom, allBelow, sumFrom, sumBelow, member, withMember}
+use Rattle.model.specs.Definitions.Parts.{withoutMember}
 use Rattle.model.specs.Definitions.Bank.{emptyFrame, emptyLog, noBoard, boardAt, entryAt, frameAt, onBoard, onEntry, onWorking, onSpare, onFrames}
 use Rattle.model.specs.Definitions.Bank.{freshFrames, freshBoard, fresh, logOver, areaOver, boardOver}
 use Rattle.model.specs.Definitions.Codec.{encodeEntry, decodeEntry, rightByte, rightOf, encodeFrame, decodeFrame, mark0, mark1, pageOf, kindOf}
@@ -15,34 +16,35 @@ use Rattle.model.specs.Definitions.Check.{blockFits, gotMark, bareMark, 
 use Rattle.model.specs.Definitions.Check.{recordValid, recordsValid, blockOfIn, wellFormedIn}
 use Rattle.model.specs.Definitions.Steps.{start, step, poweredOff, forgotten, powerOff, withFuse, fuseBoard, burnt, store, storeAll, appended, recorded}
 use Rattle.model.specs.Definitions.Steps.{note, movedRecord, storedRecord, recordStores, flush, storedFrame, storedHead, storedSelector, spareStores}
-use Rattle.model.specs.Definitions.Steps.{checkpointStores, restedWorking, checkpoint, pageNamed, cellsRead, cellsWritten, lacks, takes, cellByte}
+use Rattle.model.specs.Definitions.Steps.{checkpointStores, restedWorking, checkpoint, cellsAsked, cellsRead, cellsWritten, anyCell, anyWrite, names}
+use Rattle.model.specs.Definitions.Steps.{takes, lacks, lacksPage, lackingPages, cellByte, readFrom, givenOf}
 use Rattle.model.specs.Definitions.Steps.{withByte, withBytes, valueOf, accessed, access, withFrame, frameOf, giver, show, giveCopy, dropped, dropAt}
-use Rattle.model.specs.Definitions.Steps.{dropCopies, passOwnership, readFetch, writeFetch, fetch}
-use Rattle.model.specs.Definitions.Replay.{loaded, recordsLeft, used, useUp, usedUp, gotDue, due, sameGot, lacking, needsGot, differs, rightGot, tookGot}
-use Rattle.model.specs.Definitions.Replay.{tookDue, replayOver, settledFrame, settled, settle, endReplay, endIfOver, replayed, countSum, recoveryPoint}
+use Rattle.model.specs.Definitions.Steps.{dropCopies, passOwnership, showAll, giveCopies, readFetch, writeFetch, fetch}
+use Rattle.model.specs.Definitions.Replay.{loaded, recordsLeft, used, useUp, usedUp, gotsDue, due, sameGot, lacking, needsGot, needsGots, differs}
+use Rattle.model.specs.Definitions.Replay.{rightGot, tookGot, tookGots, tookDue, replayOver, settledFrame, settled, settle, endReplay, endIfOver}
+use Rattle.model.specs.Definitions.Replay.{replayed, countSum, recoveryPoint}
 use Rattle.model.specs.Definitions.Answers.{code, value, who}
-use Rattle.model.specs.Definitions.Calls.{firstOf, unless, finished, copiesOut, fetchNeed, dropNeed, lackingOf, need, short, shortBoard, isSome}
-use Rattle.model.specs.Definitions.Calls.{numberIn, liveRefusals, prepared, performed, live, liveAfterEnd, replaying, accessInRange, countersFull}
-use Rattle.model.specs.Definitions.Calls.{refusalsWithin, accessWithin, checkpointBank, fuseBank, restartBank, callBank, refused, replyOf, call, make}
-use Rattle.model.specs.Definitions.Calls.{callWithin}
+use Rattle.model.specs.Definitions.Calls.{firstOf, unless, finished, pageWritten, copiesOut, fetchNeed, dropNeed, lackingOf, pagesLacking, pageNeed}
+use Rattle.model.specs.Definitions.Calls.{need, short, shortBoard, isSome, numberIn, pageMissing, liveRefusals, prepared, performed, live, liveAfterEnd}
+use Rattle.model.specs.Definitions.Calls.{replaying, cellInRange, accessInRange, wrongCells, countersFull, refusalsWithin, accessWithin, checkpointBank}
+use Rattle.model.specs.Definitions.Calls.{fuseBank, restartBank, callBank, refused, replyOf, callWithin, call, make, bufferAfter}
 use Rattle.model.specs.Definitions.Older.{unused, clearedBoard, cleared, fitsTarget, convert}
 
 unfoldable pub evaluate : Unit {0}
 unfolding bytesOf numberOf part splice byteAt zeros encodeAll decodeAll update eachFrom each tabulateFrom tabulate every everyFrom everyBelow firstFrom
-    firstBelow member withMember withoutMember emptyFrame emptyLog noBoard boardAt entryAt frameAt onBoard onEntry onWorking onSpare onFrames freshFrames
-    freshBoard fresh logOver areaOver boardOver encodeEntry decodeEntry rightByte rightOf encodeFrame decodeFrame mark0 mark1 pageOf kindOf encodeRecordIn
-    decodeRecordIn encodeLogIn decodeLogIn
-    encodeAreaIn decodeFrames decodeAreaIn stateByte stateOf selectorByte encodeFixedIn encodeStableIn decodeStable encodeBoardIn decodeBoardIn encodeIn
-    decodeIn isGot
-    PlaceOk rightIn isUp isDown isReplaying isZero headValid entryValid directoryValid areaCount countsValid frameValid framesValid allFramesValid fieldsValid
-    selectedCount isBlank stateValid boardValid sameRight pageAgrees pageAgreesAt pagesAgree blockFits gotMark bareMark markFits slotValid recordValid
-    storedValid slotsValid recordsValid directoryOf blockOfIn blocksFit logsValid wellFormedIn start step poweredOff forgotten powerOff withFuse fuseBoard
-    burnt
-    store storeAll appended recorded note movedRecord storedRecord recordStores flush storedFrame storedHead storedSelector spareStores checkpointStores
-    restedWorking checkpoint pageNamed cellsRead cellsWritten lacks takes cellByte withByte withBytes valueOf accessed access withFrame frameOf giver show
-    giveCopy dropped dropAt dropCopies passOwnership readFetch writeFetch fetch loaded recordsLeft used useUp usedUp gotDue due sameGot lacking needsGot
-    differs rightGot tookGot tookDue replayOver settledFrame settled settle endReplay endIfOver replayed countSum recoveryPoint code value who firstOf unless
-    finished copiesOut fetchNeed dropNeed lackingOf need short shortBoard isSome numberIn liveRefusals prepared performed live liveAfterEnd replaying
-    accessInRange countersFull refusalsWithin accessWithin checkpointBank fuseBank restartBank callBank callWithin refused replyOf call make unused
-    clearedBoard cleared fitsTarget convert
+    firstBelow allFrom allBelow sumFrom sumBelow member withMember withoutMember emptyFrame emptyLog noBoard boardAt entryAt frameAt onBoard onEntry
+    onWorking onSpare onFrames freshFrames freshBoard fresh logOver areaOver boardOver encodeEntry decodeEntry rightByte rightOf encodeFrame decodeFrame
+    mark0 mark1 pageOf kindOf encodeRecordIn decodeRecordIn encodeLogIn decodeLogIn encodeAreaIn decodeFrames decodeAreaIn stateByte stateOf selectorByte
+    encodeFixedIn encodeStableIn decodeStable encodeBoardIn decodeBoardIn encodeIn decodeIn isGot PlaceOk rightIn isUp isDown isReplaying isZero headValid
+    entryValid directoryValid areaCount countsValid frameValid framesValid allFramesValid fieldsValid selectedCount isBlank stateValid boardValid sameRight
+    pageAgrees pageAgreesAt pagesAgree blockFits gotMark bareMark markFits slotValid recordValid storedValid slotsValid recordsValid directoryOf blockOfIn
+    blocksFit logsValid wellFormedIn start step poweredOff forgotten powerOff withFuse fuseBoard burnt store storeAll appended recorded note movedRecord
+    storedRecord recordStores flush storedFrame storedHead storedSelector spareStores checkpointStores restedWorking checkpoint cellsAsked cellsRead
+    cellsWritten anyCell anyWrite names takes lacks lacksPage lackingPages cellByte readFrom givenOf withByte withBytes valueOf accessed access withFrame
+    frameOf giver show giveCopy dropped dropAt dropCopies passOwnership showAll giveCopies readFetch writeFetch fetch loaded recordsLeft used useUp usedUp
+    gotsDue due sameGot lacking needsGot needsGots differs rightGot tookGot tookGots tookDue replayOver settledFrame settled settle endReplay endIfOver
+    replayed countSum recoveryPoint code value who firstOf unless finished pageWritten copiesOut fetchNeed dropNeed lackingOf pagesLacking pageNeed need
+    short shortBoard isSome numberIn pageMissing liveRefusals prepared performed live liveAfterEnd replaying cellInRange accessInRange wrongCells
+    countersFull refusalsWithin accessWithin checkpointBank fuseBank restartBank callBank callWithin refused replyOf call make unused clearedBoard cleared
+    fitsTarget convert bufferAfter
 evaluate = tt

@@ -3,18 +3,20 @@
 use mathlib.Core.Path.{_≡_, _∙_}
 use Prim.Native.Nat.{ℕ}
 use mathlib.Core.Bool.{true, false, _&&_}
+use mathlib.Core.List.{List}
 use Rattle.words.specs.Bytes.{Each}
 use Rattle.model.specs.Definitions.Bank.{fresh}
 use Rattle.model.specs.Definitions.WellFormed.{SizesOk}
 use Rattle.model.specs.Definitions.Check.{sizesAllowed}
+use Rattle.model.specs.Definitions.Calls.{Call}
 use Rattle.model.specs.Laws.Logic.{and-left, and-right}
 use Rattle.model.specs.Laws.Lists.{every-each}
 use Rattle.model.specs.History.Statement.{noHistory, begin, Premises, Claims}
 use Rattle.model.specs.History.Tests.{premisesTest, claimsTest, says-premises, says-claims}
 use Rattle.model.specs.Cases.Table.{passes}
-use Rattle.model.specs.Cases.Worked.{Worked, histories, otherByte, otherByteRepeated, twoDue}
+use Rattle.model.specs.Cases.Worked.{Worked, histories, otherByte, otherByteRepeated, otherOrder, readForCells, otherOrderLost, twoDue}
 use Rattle.model.specs.Cases.Running.{premisesOn, claimsOn, holdsOn}
-use Rattle.model.specs.Cases.Computed.{histories-hold, sized, twoDue-holds, otherByte-breaks, otherByteRepeated-breaks}
+use Rattle.model.specs.Cases.Computed.{histories-hold, sized, twoDue-holds, otherByte-breaks, otherByteRepeated-breaks, cells-break}
 use Rattle.model.specs.Cases.OnBank.{passes-fresh, premises-fresh, claims-fresh}
 use Rattle.model.specs.Laws.Fresh.{sizes-say}
 
@@ -46,7 +48,16 @@ two-due = passes-fresh twoDue (sizes-say 2 3 (sized .1)) ∙ twoDue-holds
 -- without the premise the claim is false: the premise is needed
 pub premise-needed : (premisesTest otherByte (begin 2 1) ≡ false) × (claimsTest otherByte (begin 2 1) ≡ false)
 premise-needed =
-    (premises-fresh 2 1 (sizes-say 2 1 (sized .0)) otherByte ∙ otherByte-breaks .0, claims-fresh 2 1 (sizes-say 2 1 (sized .0)) otherByte ∙ otherByte-breaks .1)
+    let s : SizesOk 2 1 = sizes-say 2 1 (sized .0) in
+    (premises-fresh 2 1 s otherByte ∙ otherByte-breaks .0, claims-fresh 2 1 s otherByte ∙ otherByte-breaks .1)
 
 pub repeat-needed : claimsTest otherByteRepeated (begin 2 1) ≡ false
 repeat-needed = claims-fresh 2 1 (sizes-say 2 1 (sized .0)) otherByteRepeated ∙ otherByteRepeated-breaks
+
+-- cells repeated in another order, or by a read, don't keep the premise
+breaks : (cs : List Call) → premisesOn cs (fresh 3 3) noHistory ≡ false → premisesTest cs (begin 3 3) ≡ false
+breaks cs e = premises-fresh 3 3 (sizes-say 3 3 (sized .2)) cs ∙ e
+
+pub cells-needed :
+    (premisesTest otherOrder (begin 3 3) ≡ false) × (premisesTest readForCells (begin 3 3) ≡ false) × (premisesTest otherOrderLost (begin 3 3) ≡ false)
+cells-needed = (breaks otherOrder (cells-break .0), breaks readForCells (cells-break .1), breaks otherOrderLost (cells-break .2))

@@ -42,7 +42,7 @@ passes-bank (l ∷ ls) left k w =
 
 -- a bank made in a buffer of its length
 made : (n p : ℕ) → SizesOk n p
-    → make n p (zeros (bankSize n p)) ≡ record { outcome = record { answer = Done 0; stores = 0 }; bytes = encode (fresh n p) }
+    → make n p (zeros (bankSize n p)) ≡ record { outcome = record { answer = Done 0; stores = 0 }; bytes = encode (fresh n p); given = [] }
 unfolding make zeros
 made n p s =
     cc (
@@ -84,18 +84,19 @@ premises-bank (c ∷ cs) k h granted w =
 
 claim-bank : (c : Call) (k : Bank) (h : History) (granted : ℕ → ℕ) → WellFormed k → claimTest c (systemOf k h granted)
     ≡ (oneMemoryTest zeroMemory (historyAfter c k h .entries)
-    && (repeatFor (callBank c k .answer) h (accessOf c) && grantsFor (callBank c k .run .bank) (grantsAfter c k granted)))
+    && (repeatFor (callBank c k .answer) (callBank c k .given) h (accessOf c) && grantsFor (callBank c k .run .bank) (grantsAfter c k granted)))
 unfolding claimTest systemOf replyOf
 claim-bank c k h granted w =
     let v : WellFormed (callBank c k .run .bank) = call-keeps c k w in
     ap
     (λ (t : System).
     oneMemoryTest zeroMemory (t .history .entries)
-    && (repeatFor (call c (encode k) .outcome .answer) h (accessOf c) && grantsFor (decode (t .bytes)) (t .granted)))
+    && (repeatFor (call c (encode k) .outcome .answer) (call c (encode k) .given) h (accessOf c) && grantsFor (decode (t .bytes)) (t .granted)))
     (after-system c k h granted w v)
     ∙ ap₂
     (λ (r : Reply) (j : Bank).
-    oneMemoryTest zeroMemory (historyAfter c k h .entries) && (repeatFor (r .outcome .answer) h (accessOf c) && grantsFor j (grantsAfter c k granted)))
+    oneMemoryTest zeroMemory (historyAfter c k h .entries)
+    && (repeatFor (r .outcome .answer) (r .given) h (accessOf c) && grantsFor j (grantsAfter c k granted)))
     (call-encode c k w)
     (decoded (callBank c k .run .bank) v)
 

@@ -42,7 +42,7 @@ unfoldable pub claimsOn : List Call → Bank → History → (ℕ → ℕ) → B
 claimsOn [] k h granted = true
 claimsOn (c ∷ cs) k h granted =
     (oneMemoryTest zeroMemory (historyAfter c k h .entries)
-    && (repeatFor (callBank c k .answer) h (accessOf c) && grantsFor (callBank c k .run .bank) (grantsAfter c k granted)))
+    && (repeatFor (callBank c k .answer) (callBank c k .given) h (accessOf c) && grantsFor (callBank c k .run .bank) (grantsAfter c k granted)))
     && claimsOn cs (callBank c k .run .bank) (historyAfter c k h) (grantsAfter c k granted)
 
 -- the sizes are in range, and premise and claim hold throughout

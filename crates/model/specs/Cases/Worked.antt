@@ -1,7 +1,7 @@
 -- Worked histories: lists of calls on a fresh bank, for the history's premise and claim. Definitions only. Assumes nothing.
 use Prim.Native.Nat.{ℕ}
 use mathlib.Core.List.{List, [], _∷_, map}
-use Rattle.model.specs.Definitions.Steps.{Read, Write}
+use Rattle.model.specs.Definitions.Steps.{Read, Write, ReadCells}
 use Rattle.model.specs.Definitions.Calls.{Call, Accessing, Checkpointing, Fusing, Restarting}
 use Rattle.model.specs.Cases.Table.{Script, Anything, caseA, caseB}
 
@@ -55,6 +55,14 @@ refusedInReplay =
     Accessing 0 (Write 0 0 5) ∷ Accessing 1 (Read 0 0) ∷ Fusing 0 0 ∷ Restarting 0 ∷ Accessing 0 (Read 1 0) ∷ Accessing 0 (Write 0 0 5)
     ∷ Accessing 0 (Write 0 0 7) ∷ Accessing 1 (Read 0 0) ∷ []
 
+-- cells of two other boards' pages and of an own one, repeated in their order, then read anew; board 2 has written since
+unfoldable pub cellsRepeated : List Call
+cellsRepeated =
+    Accessing 1 (Write 1 0 7) ∷ Accessing 2 (Write 2 0 8) ∷ Accessing 0 (Read 0 0) ∷ Accessing 0 (ReadCells (2 ∷ 0 ∷ 1 ∷ 0 ∷ 0 ∷ 0 ∷ 2 ∷ 0 ∷ []) 4)
+    ∷ Accessing 0 (Write 0 0 9) ∷ Accessing 1 (Read 0 0) ∷ Accessing 2 (Write 2 0 18) ∷ Fusing 0 0 ∷ Restarting 0 ∷ Accessing 0 (Read 0 0)
+    ∷ Accessing 0 (ReadCells (2 ∷ 0 ∷ 1 ∷ 0 ∷ 0 ∷ 0 ∷ 2 ∷ 0 ∷ []) 4) ∷ Accessing 0 (Write 0 0 9)
+    ∷ Accessing 0 (ReadCells (2 ∷ 0 ∷ 1 ∷ 0 ∷ 0 ∷ 0 ∷ 2 ∷ 0 ∷ []) 4) ∷ []
+
 unfoldable pub histories : List Worked
 histories =
     record { boards = 2; pages = 1; calls = callsOf caseA }
@@ -66,6 +74,7 @@ histories =
     ∷ record { boards = 2; pages = 2; calls = givenAfterReplay }
     ∷ record { boards = 2; pages = 3; calls = takerCut }
     ∷ record { boards = 2; pages = 2; calls = refusedInReplay }
+    ∷ record { boards = 3; pages = 3; calls = cellsRepeated }
     ∷ []
 
 -- ---- those that break it
@@ -79,6 +88,35 @@ unfoldable pub otherByteRepeated : List Call
 otherByteRepeated =
     Accessing 0 (Write 0 0 5) ∷ Accessing 0 (Read 0 0) ∷ Accessing 1 (Read 0 0) ∷ Fusing 0 0 ∷ Restarting 0 ∷ Accessing 0 (Write 0 0 7)
     ∷ Accessing 0 (Read 0 0) ∷ []
+
+-- board 0 asks for the same cells in another order
+unfoldable pub otherOrder : List Call
+otherOrder =
+    Accessing 0 (ReadCells (2 ∷ 0 ∷ 1 ∷ 0 ∷ []) 2) ∷ Accessing 1 (Read 0 0) ∷ Fusing 0 0 ∷ Restarting 0 ∷ Accessing 0 (ReadCells (1 ∷ 0 ∷ 2 ∷ 0 ∷ []) 2) ∷ []
+
+-- a read in place of a list of that one cell
+unfoldable pub readForCells : List Call
+readForCells = Accessing 0 (ReadCells (1 ∷ 0 ∷ []) 1) ∷ Accessing 1 (Read 0 0) ∷ Fusing 0 0 ∷ Restarting 0 ∷ Accessing 0 (Read 1 0) ∷ []
+
+-- another order answered 8: the fuse of board 0 blows at the end of its replay
+unfoldable pub otherOrderLost : List Call
+otherOrderLost =
+    Accessing 0 (ReadCells (2 ∷ 0 ∷ 1 ∷ 0 ∷ []) 2) ∷ Accessing 1 (Read 0 0) ∷ Fusing 0 0 ∷ Restarting 0 ∷ Fusing 0 1
+    ∷ Accessing 0 (ReadCells (1 ∷ 0 ∷ 2 ∷ 0 ∷ []) 2) ∷ []
+
+-- ---- pages given
+
+-- boards 1 and 2, after three and two accesses, give a page each to board 0
+unfoldable pub twoGivers : List Call
+twoGivers =
+    Accessing 1 (Read 1 0) ∷ Accessing 1 (Read 1 0) ∷ Accessing 1 (Read 1 0) ∷ Accessing 2 (Read 2 0) ∷ Accessing 2 (Read 2 0)
+    ∷ Accessing 0 (ReadCells (2 ∷ 0 ∷ 1 ∷ 0 ∷ []) 2) ∷ []
+
+-- the same, but the fuse of board 2 blows
+unfoldable pub giverCut : List Call
+giverCut =
+    Accessing 1 (Read 1 0) ∷ Accessing 1 (Read 1 0) ∷ Accessing 1 (Read 1 0) ∷ Accessing 2 (Read 2 0) ∷ Accessing 2 (Read 2 0) ∷ Fusing 2 1
+    ∷ Accessing 0 (ReadCells (2 ∷ 0 ∷ 1 ∷ 0 ∷ []) 2) ∷ []
 
 -- ---- a replay
 

@@ -1,7 +1,8 @@
--- Document 01, "Codes": for each case of an answer its row of numbers: code, value, who. The contracts use these. Assumes nothing.
+-- Document 01, "Codes", with document 02's: for each case of an answer its row of numbers: code, value, who. The contracts use these. Assumes nothing.
 use Prim.Native.Nat.{ℕ}
 use Rattle.types.specs.declared.Answer.{Answer}
 use Rattle.types.specs.declared.Answer.the-variants.{Done, Malformed, OutOfRange, WrongState, CountersFull, ReplayDiffers, OwnerNotUp, LogFull, PowerLost}
+use Rattle.types.specs.declared.Answer.the-variants.{WrongCells}
 use Rattle.types.specs.declared.AnswerNumbers.{AnswerNumbers}
 
 abbrev pub numbersOf : Answer → AnswerNumbers
@@ -14,6 +15,7 @@ numbersOf (ReplayDiffers b) = record { code = 5; value = 0; who = b }
 numbersOf (OwnerNotUp b) = record { code = 6; value = 0; who = b }
 numbersOf (LogFull b) = record { code = 7; value = 0; who = b }
 numbersOf (PowerLost b) = record { code = 8; value = 0; who = b }
+numbersOf WrongCells = record { code = 10; value = 0; who = 0 }
 
 unfoldable pub code : Answer → ℕ
 code a = numbersOf a .code

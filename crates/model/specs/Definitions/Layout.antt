@@ -11,6 +11,10 @@ mostBoards = 8
 abbrev pub mostPages : ℕ
 mostPages = 16
 
+-- "The front display wants up to 32 cells in one call." (document 02, F-3)
+abbrev pub mostCells : ℕ
+mostCells = 32
+
 abbrev pub pageSize : ℕ
 pageSize = 16
 

@@ -3,7 +3,7 @@
 -- conversion cites it. Assumes nothing.
 use Prim.Native.Nat.{ℕ, _-_, _*_}
 use mathlib.Core.Bool.{Bool, true, false, _&&_}
-use mathlib.Core.List.{List, map}
+use mathlib.Core.List.{List, [], map}
 use lib.ListN.{length}
 use lib.Dec.{eqb}
 use Rattle.types.specs.declared.Answer.the-variants.{Done, Malformed}
@@ -57,5 +57,5 @@ unfoldable pub convert : (old new : List ℕ) → Reply
 convert old new =
     elim (olderWellFormed old && fitsTarget old new) [
       | false ↦ refused Malformed new
-      | true ↦ record { outcome = record { answer = Done 0; stores = 0 }; bytes = encode (cleared (olderBank old)) }
+      | true ↦ record { outcome = record { answer = Done 0; stores = 0 }; bytes = encode (cleared (olderBank old)); given = [] }
     ]

@@ -78,6 +78,24 @@ firstFrom i (suc n) f = elim (f i) [ true ↦ some i | false ↦ firstFrom (suc 
 unfoldable pub firstBelow : ℕ → (ℕ → Bool) → Option ℕ
 firstBelow n f = firstFrom 0 n f
 
+-- the indices, of the `n` from `i` on, that pass a test: rising
+unfoldable pub allFrom : ℕ → ℕ → (ℕ → Bool) → List ℕ
+allFrom i zero f = []
+allFrom i (suc n) f = elim (f i) [ true ↦ i ∷ allFrom (suc i) n f | false ↦ allFrom (suc i) n f ]
+
+-- the indices below `n` that pass a test
+unfoldable pub allBelow : ℕ → (ℕ → Bool) → List ℕ
+allBelow n f = allFrom 0 n f
+
+-- the sum of `f` over the `n` indices from `i` on
+unfoldable pub sumFrom : ℕ → ℕ → (ℕ → ℕ) → ℕ
+sumFrom i zero f = 0
+sumFrom i (suc n) f = f i + sumFrom (suc i) n f
+
+-- the sum of `f` over the indices below `n`
+unfoldable pub sumBelow : ℕ → (ℕ → ℕ) → ℕ
+sumBelow n f = sumFrom 0 n f
+
 -- ---- a set of boards as a number: "bit b stands for board b"
 
 unfoldable pub member : ℕ → ℕ → Bool

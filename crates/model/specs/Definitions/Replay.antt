@@ -1,9 +1,8 @@
--- Document 01, "Restart", "Replay" and "End of replay". A replaying board goes by itself: each step is of one board and of the pages that the
--- directory gives it, and no other board is read. Assumes nothing.
-use Prim.Native.Nat.{ℕ, _+_}
-use mathlib.Core.Bool.{Bool, true, false, _&&_, not}
-use mathlib.Core.Option.{Option, none, some}
-use mathlib.Core.List.{List, [], _∷_}
+-- Document 01, "Restart", "Replay" and "End of replay", with document 02's F-3. A replaying board goes by itself: each step is of one board and of the pages
+-- that the directory gives it, and no other board is read. Assumes nothing.
+use Prim.Native.Nat.{ℕ, suc, _+_}
+use mathlib.Core.Bool.{Bool, true, false, _&&_, _||_, not}
+use mathlib.Core.List.{List, [], _∷_, foldl}
 use lib.ListN.{length, drop, set}
 use lib.Dec.{eqb, leb}
 use Rattle.types.specs.declared.Right.{Right}
@@ -16,9 +15,10 @@ use Rattle.types.specs.declared.Kind.the-variants.{Got, Shown, Dropped}
 use Rattle.types.specs.declared.Record.{Record}
 use Rattle.types.specs.declared.State.the-variants.{Up, Replaying}
 use Rattle.model.specs.Definitions.Parts.{each}
-use Rattle.model.specs.Definitions.Bank.{Area, Working, Board, Bank, emptyFrame, boardAt, entryAt, frameAt, withState, withWorking, withNumber, withSince}
-use Rattle.model.specs.Definitions.Bank.{withPlace, withFrames, onBoard, onWorking}
-use Rattle.model.specs.Definitions.Steps.{Run, step, checkpoint, Access, pageNamed, lacks, takes, accessed}
+use Rattle.model.specs.Definitions.Bank.{Area, Working, Board, Bank, emptyFrame, boardAt, entryAt, frameAt, withState, withWorking, withNumber}
+use Rattle.model.specs.Definitions.Bank.{withSince, withPlace, withFrames, onBoard, onWorking}
+use Rattle.model.specs.Definitions.Codec.{pageOf}
+use Rattle.model.specs.Definitions.Steps.{Run, step, checkpoint, Access, takes, lacksPage, lackingPages, accessed}
 
 -- "Restart: frames and number from the selected area, state replaying, place and since 0."
 unfoldable pub loaded : Board → Board
@@ -55,17 +55,17 @@ usedUp x = onWorking (useUp (recordsLeft x)) x
 abbrev pub restarted : Board → Board
 restarted x = usedUp (loaded x)
 
--- "A got record is due when it is next and its count equals since."
-unfoldable pub gotDue : List Record → ℕ → Option Record
-gotDue [] since = none
-gotDue (r ∷ rs) since =
+-- "A got record is due when it is next and its count equals since."; "a due got and the count 0 gots right behind it go together" (document 02, F-3)
+unfoldable pub gotsDue : List Record → ℕ → List Record
+gotsDue [] since = []
+gotsDue (r ∷ rs) since =
     elim (eqb (r .count) since) [
-      | false ↦ none
-      | true ↦ elim (r .kind) [ Got g p ↦ some r | Shown p ↦ none | Dropped p ↦ none ]
+      | false ↦ []
+      | true ↦ elim (r .kind) [ Got g p ↦ r ∷ gotsDue rs 0 | Shown p ↦ [] | Dropped p ↦ [] ]
     ]
 
-unfoldable pub due : Board → Option Record
-due x = gotDue (recordsLeft x) (x .working .since)
+unfoldable pub due : Board → List Record
+due x = gotsDue (recordsLeft x) (x .working .since)
 
 unfoldable pub sameGot : CopyOrOwn → CopyOrOwn → Bool
 sameGot GotCopy GotCopy = true
@@ -73,19 +73,20 @@ sameGot GotCopy GotOwn = false
 sameGot GotOwn GotCopy = false
 sameGot GotOwn GotOwn = true
 
--- whether an access lacks the right to its page in these frames
+-- whether an access lacks the right to some page that it names
 unfoldable pub lacking : Access → List Frame → Bool
-lacking a fs = lacks a (frameAt fs (pageNamed a) .right)
+lacking a fs = elim (lackingPages a fs) [ [] ↦ false | p ∷ ps ↦ true ]
 
 -- "an access that needs it: its page, a read with right none for copy, a write without right own for own"
 unfoldable pub needsGot : Access → List Frame → Kind → Bool
-needsGot a fs (Got g p) = eqb p (pageNamed a) && (sameGot g (takes a) && lacking a fs)
+needsGot a fs (Got g p) = sameGot g (takes a) && lacksPage a fs p
 needsGot a fs (Shown p) = false
 needsGot a fs (Dropped p) = false
 
--- code 5: "a got is due and the access doesn't need it, or the access lacks a right and no fitting got is due"
-unfoldable pub differs : Access → Board → Bool
-differs a x = elim (due x) [ some r ↦ not (needsGot a (x .working .frames) (r .kind)) | none ↦ lacking a (x .working .frames) ]
+-- "It needs them if their pages rise and it lacks each" (F-3); n is the lowest page that the next may have
+unfoldable pub needsGots : Access → List Frame → ℕ → List Record → Bool
+needsGots a fs n [] = true
+needsGots a fs n (r ∷ rs) = needsGot a fs (r .kind) && (leb n (pageOf (r .kind)) && needsGots a fs (suc (pageOf (r .kind))) rs)
 
 -- the right that a got record gives
 unfoldable pub rightGot : Kind → Right
@@ -95,16 +96,25 @@ rightGot (Shown p) = None
 rightGot (Dropped p) = None
 
 -- "The frame then takes its right and bytes, and since becomes 0."
-unfoldable pub tookGot : ℕ → Record → Working → Working
-tookGot p r w = used (set (w .frames) p (record { right = rightGot (r .kind); bytes = r .bytes })) w
+unfoldable pub tookGot : Record → Working → Working
+tookGot r w = used (set (w .frames) (pageOf (r .kind)) (record { right = rightGot (r .kind); bytes = r .bytes })) w
 
--- a due got is used by the access that needs it; without one nothing changes
-unfoldable pub tookDue : Access → Board → Board
-tookDue a x = elim (due x) [ none ↦ x | some r ↦ onWorking (tookGot (pageNamed a) r) x ]
+unfoldable pub tookGots : List Record → Working → Working
+tookGots rs w = foldl (λ v r. tookGot r v) w rs
+
+-- the gots that are due are used together by the access that needs them; without one nothing changes
+unfoldable pub tookDue : Board → Board
+tookDue x = onWorking (tookGots (due x)) x
 
 -- "when no record is left"
 unfoldable pub replayOver : Board → Bool
 replayOver x = leb (length (x .stable .selected .log .records)) (x .working .place)
+
+-- code 5: "a got is due and the access doesn't need it, or the access lacks a right and no fitting got is due"; "a call that doesn't need them all gets code
+-- 5"; "if replay ends with them every page then lacking is fetched live" (F-3), and else none may be lacking
+unfoldable pub differs : Access → Board → Bool
+differs a x =
+    not (needsGots a (x .working .frames) 0 (due x)) || (not (replayOver (tookDue x)) && lacking a (tookDue x .working .frames))
 
 -- "pages the directory gives to others lose their right; those it gives this board are own"
 unfoldable pub settledFrame : Bool → Frame → Frame

@@ -1,5 +1,5 @@
--- Document 01, "Steps", up to the cut, with F-1: what one board or several do to the bank, one micro-step each, and the stores that a power loss can follow.
--- A call in progress is a `Run`: once a fuse blew, every later step passes it on unchanged. Assumes nothing.
+-- Document 01, "Steps", up to the cut, with document 02's F-1 and F-3: what one board or several do to the bank, one micro-step each, and the stores that a
+-- power loss can follow. A call in progress is a `Run`: once a fuse blew, every later step passes it on unchanged. Assumes nothing.
 use Prim.Native.Nat.{ℕ, zero, suc, _+_, _-_}
 use mathlib.Core.Bool.{Bool, true, false, _&&_, _||_, not}
 use mathlib.Core.Option.{Option, none, some}
@@ -15,7 +15,7 @@ use Rattle.types.specs.declared.Kind.{Kind}
 use Rattle.types.specs.declared.Kind.the-variants.{Got, Shown, Dropped}
 use Rattle.types.specs.declared.Record.{Record}
 use Rattle.types.specs.declared.State.the-variants.{Down}
-use Rattle.model.specs.Definitions.Parts.{zeros, each, tabulate, member, withMember, withoutMember}
+use Rattle.model.specs.Definitions.Parts.{zeros, each, tabulate, allBelow, member, withMember, withoutMember}
 use Rattle.model.specs.Definitions.Layout.{pageSize, slotSize, noFuse}
 use Rattle.model.specs.Definitions.Bank.{Entry, Log, Area, Working, Board, Bank, emptyFrame, emptyLog, zeroWorking, boardAt, entryAt, frameAt}
 use Rattle.model.specs.Definitions.Bank.{withWorking, withStable, withSelectedArea, withAreaNumber, withAreaFrames, withAreaLog, withNumber, withSince}
@@ -80,7 +80,8 @@ store b f r =
           ]
     ]
 
--- A flush and a checkpoint are lists of stores, each a change of its board. Here they are made on the bank, one after the other; in BoardRuns on a board alone.
+-- A flush and a checkpoint are lists of stores, each a change of its board. Here they are made on the bank, one after the other; in BoardRuns on a board
+-- alone.
 unfoldable pub storeAll : ℕ → List (Board → Board) → Run → Run
 storeAll b fs r = foldl (λ s f. store b f s) r fs
 
@@ -156,43 +157,71 @@ checkpoint b r = step (onBoard b (onWorking restedWorking)) (storeAll b (checkpo
 
 -- ==== accesses
 
--- what a read or a write asks for
+-- What an access asks for: one byte read, one byte written, or "up to 32 cells in one call" (document 02, F-3). The bytes of a `ReadCells` are what was lent,
+-- well chosen or not, and `outLength` is the length of the second buffer.
 pub data Access : Type 0 where
   Read : (page offset : ℕ) → Access
   Write : (page offset value : ℕ) → Access
+  ReadCells : (cells : List ℕ) (outLength : ℕ) → Access
 
 -- one byte of the shared memory
 pub record Cell : Type 0 where
   pub page : ℕ
   pub offset : ℕ
 
-unfoldable pub pageNamed : Access → ℕ
-pageNamed (Read p o) = p
-pageNamed (Write p o v) = p
+-- "The cells are asked as page byte and offset byte, in any order, repeats allowed." An odd last byte is no cell.
+unfoldable pub cellsAsked : List ℕ → List Cell
+cellsAsked [] = []
+cellsAsked (p ∷ []) = []
+cellsAsked (p ∷ o ∷ more) = record { page = p; offset = o } ∷ cellsAsked more
 
--- which cells an access reads
+-- which cells an access reads, in the asked order
 unfoldable pub cellsRead : Access → List Cell
 cellsRead (Read p o) = record { page = p; offset = o } ∷ []
 cellsRead (Write p o v) = []
+cellsRead (ReadCells cells outLength) = cellsAsked cells
 
 -- which cells an access writes, each with its byte
 unfoldable pub cellsWritten : Access → List (Cell × ℕ)
 cellsWritten (Read p o) = []
 cellsWritten (Write p o v) = (record { page = p; offset = o }, v) ∷ []
+cellsWritten (ReadCells cells outLength) = []
 
--- "local if a read has any right or a write has right own": whether a right is too little
-unfoldable pub lacks : Access → Right → Bool
-lacks (Read p o) None = true
-lacks (Read p o) Copy = false
-lacks (Read p o) Own = false
-lacks (Write p o v) None = true
-lacks (Write p o v) Copy = true
-lacks (Write p o v) Own = false
+-- whether some cell is of page p
+unfoldable pub anyCell : List Cell → ℕ → Bool
+anyCell [] p = false
+anyCell (c ∷ cs) p = eqb (c .page) p || anyCell cs p
+
+unfoldable pub anyWrite : List (Cell × ℕ) → ℕ → Bool
+anyWrite [] p = false
+anyWrite (w ∷ ws) p = eqb (w .0 .page) p || anyWrite ws p
+
+-- whether an access names page p
+unfoldable pub names : Access → ℕ → Bool
+names a p = anyCell (cellsRead a) p || anyWrite (cellsWritten a) p
 
 -- which got record an access that lacks a right takes
 unfoldable pub takes : Access → CopyOrOwn
 takes (Read p o) = GotCopy
 takes (Write p o v) = GotOwn
+takes (ReadCells cells outLength) = GotCopy
+
+-- "local if a read has any right or a write has right own": whether a right is too little, of an access that takes a copy and of one that takes ownership
+unfoldable pub lacks : CopyOrOwn → Right → Bool
+lacks GotCopy None = true
+lacks GotCopy Copy = false
+lacks GotCopy Own = false
+lacks GotOwn None = true
+lacks GotOwn Copy = true
+lacks GotOwn Own = false
+
+-- whether an access names page p and its right in these frames is too little
+unfoldable pub lacksPage : Access → List Frame → ℕ → Bool
+lacksPage a fs p = names a p && lacks (takes a) (frameAt fs p .right)
+
+-- "each lacking page once, in page order" (F-3)
+unfoldable pub lackingPages : Access → List Frame → List ℕ
+lackingPages a fs = allBelow (length fs) (lacksPage a fs)
 
 unfoldable pub cellByte : List Frame → Cell → ℕ
 cellByte fs c = getD (frameAt fs (c .page) .bytes) (c .offset) 0
@@ -205,11 +234,23 @@ unfoldable pub withBytes : List (Cell × ℕ) → List Frame → List Frame
 withBytes [] fs = fs
 withBytes (w ∷ ws) fs = withBytes ws (withByte (w .0) (w .1) fs)
 
+-- the bytes that an access reads from these frames, in the order of its cells
+unfoldable pub readFrom : Access → List Frame → List ℕ
+readFrom a fs = map (cellByte fs) (cellsRead a)
+
 -- "value (the byte read ..; 0 for the rest)"
 unfoldable pub valueOf : Access → List Frame → ℕ
-valueOf a fs = elim (cellsRead a) [ [] ↦ 0 | c ∷ cs ↦ cellByte fs c ]
+valueOf (Read p o) fs = cellByte fs (record { page = p; offset = o })
+valueOf (Write p o v) fs = 0
+valueOf (ReadCells cells outLength) fs = 0
 
--- "A done access adds 1 to access number and since"
+-- "The bytes go in the asked order into a second lent buffer" (F-3); a read or a write has none
+unfoldable pub givenOf : Access → List Frame → List ℕ
+givenOf (Read p o) fs = []
+givenOf (Write p o v) fs = []
+givenOf (ReadCells cells outLength) fs = readFrom (ReadCells cells outLength) fs
+
+-- "A done access adds 1 to access number and since"; of cells "The whole call is one access" (F-3)
 unfoldable pub accessed : Access → Working → Working
 accessed a w = withNumber (w .number + 1) (withSince (w .since + 1) (withFrames (withBytes (cellsWritten a) (w .frames)) w))
 
@@ -262,9 +303,17 @@ passOwnership o w p k =
     (onBoard w (withFrame p (record { right = Own; bytes = frameOf k o p .bytes }))
     (dropAt (λ c. not (eqb c w) && (eqb c o || member c (entryAt k p .copies))) p k))
 
--- "Read fetch: owner records shown and flushes; reader records got copy, gains the copy and its bit."
-unfoldable pub readFetch : ℕ → ℕ → Run → Run
-readFetch b p r = let o : ℕ = giver (r .bank) p in step (giveCopy o b p) (show o p r)
+-- "All givers record and store first, page by page." (F-3)
+unfoldable pub showAll : List ℕ → Run → Run
+showAll ps r = foldl (λ s p. show (giver (s .bank) p) p s) r ps
+
+-- "Only then are the copies taken, together. The got records follow each other, the later ones with count 0." (F-3)
+unfoldable pub giveCopies : ℕ → List ℕ → Bank → Bank
+giveCopies b ps k = foldl (λ j p. giveCopy (giver j p) b p j) k ps
+
+-- "Read fetch: owner records shown and flushes; reader records got copy, gains the copy and its bit.", of each page in turn
+unfoldable pub readFetch : ℕ → List ℕ → Run → Run
+readFetch b ps r = step (giveCopies b ps) (showAll ps r)
 
 -- "Write fetch: owner records shown and flushes; writer records got own and flushes; then together .."
 unfoldable pub writeFetch : ℕ → ℕ → Run → Run
@@ -272,7 +321,7 @@ writeFetch w p r =
     let o : ℕ = giver (r .bank) p in
     step (passOwnership o w p) (flush w (step (λ k. note w (Got GotOwn p) (frameOf k o p .bytes) k) (show o p r)))
 
--- the fetch that brings a copy, or ownership
-unfoldable pub fetch : CopyOrOwn → ℕ → ℕ → Run → Run
-fetch GotCopy b p r = readFetch b p r
-fetch GotOwn b p r = writeFetch b p r
+-- the fetch that brings copies of pages, or ownership; a write names one page
+unfoldable pub fetch : CopyOrOwn → ℕ → List ℕ → Run → Run
+fetch GotCopy b ps r = readFetch b ps r
+fetch GotOwn b ps r = foldl (λ s p. writeFetch b p s) r ps

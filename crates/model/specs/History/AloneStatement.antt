@@ -51,14 +51,16 @@ seen x =
       stored = x .stable .selected .log .records;
     }
 
--- Answer, stores and the board left. An access that goes on live has no answer yet: its stores and its board are those of the end of replay.
+-- Answer, stores, the bytes for a second buffer and the board left. An access that goes on live has no answer yet: its stores and its board are those of the
+-- end of replay.
 pub record Heard : Type 0 where
   pub answer : Option Answer
   pub stores : ℕ
+  pub given : List ℕ
   pub left : Seen
 
-unfoldable pub heardOf : ℕ → Option Answer → Run → Heard
-heardOf b a r = record { answer = a; stores = r .stores; left = seen (boardAt (r .bank) b) }
+unfoldable pub heardOf : ℕ → Option Answer → List ℕ → Run → Heard
+heardOf b a given r = record { answer = a; stores = r .stores; given = given; left = seen (boardAt (r .bank) b) }
 
 -- ==== a replay
 
@@ -68,9 +70,9 @@ goesOnLive b a k =
     elim (firstOf (accessRefusals b a k)) [
       | some r ↦ none
       | none ↦
-          elim (replayOver (boardAt (onBoard b (tookDue a) k) b)) [
+          elim (replayOver (boardAt (onBoard b tookDue k) b)) [
             | false ↦ none
-            | true ↦ elim (afterReplay b a k .lost) [ some c ↦ none | none ↦ some (afterReplay b a k) ]
+            | true ↦ elim (afterReplay b k .lost) [ some c ↦ none | none ↦ some (afterReplay b k) ]
           ]
     ]
 
@@ -90,8 +92,8 @@ heard b (c ∷ cs) k =
             | false ↦ heard b cs (callBank c k .run .bank)
             | true ↦
                 elim (liveIn (accessOf c) k) [
-                  | some r ↦ heardOf b none r ∷ []
-                  | none ↦ heardOf b (some (callBank c k .answer)) (callBank c k .run) ∷ heard b cs (callBank c k .run .bank)
+                  | some r ↦ heardOf b none [] r ∷ []
+                  | none ↦ heardOf b (some (callBank c k .answer)) (callBank c k .given) (callBank c k .run) ∷ heard b cs (callBank c k .run .bank)
                 ]
           ]
     ]
@@ -99,7 +101,8 @@ heard b (c ∷ cs) k =
 -- "From a restart on"
 unfoldable pub heardFrom : ℕ → List Call → Bank → List Heard
 heardFrom b cs k =
-    heardOf b (some (callBank (Restarting b) k .answer)) (callBank (Restarting b) k .run) ∷ heard b cs (callBank (Restarting b) k .run .bank)
+    heardOf b (some (callBank (Restarting b) k .answer)) (callBank (Restarting b) k .given) (callBank (Restarting b) k .run)
+    ∷ heard b cs (callBank (Restarting b) k .run .bank)
 
 -- ==== its end
 

@@ -11,7 +11,7 @@ systemOf k h granted = record { bytes = encode k; history = h; granted = granted
 
 -- the history and the grants after a call, on the bank
 unfoldable pub historyAfter : Call → Bank → History → History
-historyAfter c k h = fed (eventOf c (callBank c k .answer)) (callBank c k .run .bank) h
+historyAfter c k h = fed (eventOf c (callBank c k .answer) (callBank c k .given)) (callBank c k .run .bank) h
 
 unfoldable pub grantsAfter : Call → Bank → (ℕ → ℕ) → ℕ → ℕ
-grantsAfter c k granted = grantedAfter (gaveIn (eventOf c (callBank c k .answer)) k) k granted
+grantsAfter c k granted = grantedAfter (gaveIn (eventOf c (callBank c k .answer) (callBank c k .given)) k) k granted

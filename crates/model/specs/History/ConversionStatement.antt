@@ -50,29 +50,34 @@ pub record ConversionWrites (old new : List ℕ) : Type 0 where
 
 -- ---- what it answers later
 
+-- what a call answers: code, value, who and stores, and the bytes for a second buffer
+pub record Told : Type 0 where
+  pub outcome : Outcome
+  pub given : List ℕ
+
 -- what a list of calls answers on a bank, under this largest since
-unfoldable pub outcomesWithin : (largest : ℕ) → List Call → Bank → List Outcome
-outcomesWithin largest [] k = []
-outcomesWithin largest (c ∷ cs) k =
+unfoldable pub toldWithin : (largest : ℕ) → List Call → Bank → List Told
+toldWithin largest [] k = []
+toldWithin largest (c ∷ cs) k =
     let t : Result = callWithin largest c k in
-    record { answer = t .answer; stores = t .run .stores } ∷ outcomesWithin largest cs (t .run .bank)
+    record { outcome = record { answer = t .answer; stores = t .run .stores }; given = t .given } ∷ toldWithin largest cs (t .run .bank)
 
 -- what it answers on bytes
-unfoldable pub outcomesOn : List Call → List ℕ → List Outcome
-outcomesOn cs s = map (λ (x : Observed). x .outcome) (runOf cs s)
+unfoldable pub toldOn : List Call → List ℕ → List Told
+toldOn cs s = map (λ (x : Observed). record { outcome = x .outcome; given = x .given }) (runOf cs s)
 
--- "answers every later call as the old one would until its first code 4": code, value, who and stores, call by call
-unfoldable pub SameUntilFull : (old converted : List Outcome) → Type 0
+-- "answers every later call as the old one would until its first code 4", call by call
+unfoldable pub SameUntilFull : (old converted : List Told) → Type 0
 SameUntilFull [] [] = Unit
 SameUntilFull [] (y ∷ ys) = ⊥
 SameUntilFull (x ∷ xs) [] = ⊥
-SameUntilFull (x ∷ xs) (y ∷ ys) = (code (x .answer) ≡ 4) ⊎ ((y ≡ x) × SameUntilFull xs ys)
+SameUntilFull (x ∷ xs) (y ∷ ys) = (code (x .outcome .answer) ≡ 4) ⊎ ((y ≡ x) × SameUntilFull xs ys)
 
 -- "Both under the rules of the day": the old one keeps its largest since, and begins with what stands in its slots at or past a count. It is run as a bank:
 -- what its steps leave past a count has today's width, and no answer looks there (Likeness/Slots).
 abbrev pub ConvertedAnswers : (old new : List ℕ) → Type 0
 ConvertedAnswers old new =
-    Converts old new → (cs : List Call) → SameUntilFull (outcomesWithin olderLastSince cs (olderBank old)) (outcomesOn cs (convert old new .bytes))
+    Converts old new → (cs : List Call) → SameUntilFull (toldWithin olderLastSince cs (olderBank old)) (toldOn cs (convert old new .bytes))
 
 -- ---- what it is until then
 

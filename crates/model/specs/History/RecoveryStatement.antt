@@ -21,7 +21,8 @@ pub record SameCounters (x y : Board) : Type 0 where
   pub second : y .stable .second ≡ x .stable .second
   pub selected : y .stable .selected ≡ x .stable .selected
 
--- What one micro-step does to a board, with what holds of the board before it. A record is made, stored or lost, and an area selected, by the first four alone.
+-- What one micro-step does to a board, with what holds of the board before it. A record is made, stored or lost, and an area selected, by the first four
+-- alone.
 pub data Change (x y : Board) : Type 0 where
   Made : (kind : Kind) (bytes : List ℕ) → x .state ≡ Up → y ≡ onWorking (recorded kind bytes) x → Change x y
   Stored : x .state ≡ Up → y ≡ storedRecord x → Change x y
@@ -31,7 +32,7 @@ pub data Change (x y : Board) : Type 0 where
   Lost : y ≡ poweredOff x → Change x y
   Accessed : (a : Access) → x .state ≡ Up → y ≡ onWorking (accessed a) x → Change x y
   Loaded : x .state ≡ Down → y ≡ usedUp (loaded x) → Change x y
-  Took : (a : Access) → x .state ≡ Replaying → y ≡ tookDue a x → Change x y
+  Took : x .state ≡ Replaying → y ≡ tookDue x → Change x y
   Replayed : (a : Access) → x .state ≡ Replaying → replayOver x ≡ false → y ≡ replayed a x → Change x y
   Settled : (owned : ℕ → Bool) → x .state ≡ Replaying → replayOver x ≡ true → y ≡ settled owned x → Change x y
   Quiet : SameCounters x y → Change x y
@@ -61,7 +62,7 @@ demandAfter {x} (Selected u n r e) d = record { made = []; point = x .working .n
 demandAfter (Lost e) d = record { made = []; point = d .point }
 demandAfter (Accessed a u e) d = d
 demandAfter (Loaded u e) d = d
-demandAfter (Took a u e) d = d
+demandAfter (Took u e) d = d
 demandAfter (Replayed a u o e) d = d
 demandAfter (Settled owned u o e) d = d
 demandAfter (Quiet s) d = d

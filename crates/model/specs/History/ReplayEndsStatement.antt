@@ -1,5 +1,5 @@
--- Document 01, end of "Steps": "A replay ends after exactly that many accesses [the recovery point] less the area's number, or, if the last record is a got, on
--- entering the next one that needs it, which is then a new access and no repeat; this holds in banks reached from a fresh one under demand 3's premise."
+-- Document 01, end of "Steps": "A replay ends after exactly that many accesses [the recovery point] less the area's number, or, if the last record is a got,
+-- on entering the next one that needs it, which is then a new access and no repeat; this holds in banks reached from a fresh one under demand 3's premise."
 -- Definitions only. Assumes nothing.
 use mathlib.Core.Path.{_≡_}
 use mathlib.Core.Logic.{_≢_, _↔_, _⊎_}
@@ -19,7 +19,7 @@ use Rattle.model.specs.Definitions.Steps.{Access}
 use Rattle.model.specs.Definitions.Replay.{recoveryPoint}
 use Rattle.model.specs.Definitions.Answers.{code}
 use Rattle.model.specs.Definitions.Calls.{Call, Restarting, call}
-use Rattle.model.specs.Laws.Codes.Statement.{Due, NeedsGot}
+use Rattle.model.specs.Laws.Codes.Statement.{Due, NeedsGots}
 use Rattle.model.specs.History.Statement.{repeats, System, begin, accessOf, after, Premises}
 
 -- ==== a board
@@ -59,9 +59,9 @@ isAccessOf b (some w) = eqb (w .0) b
 unfoldable pub doneBy : ℕ → Call → Answer → ℕ
 doneBy b c a = elim (isAccessOf b (accessOf c) && eqb (code a) 0) [ true ↦ 1 | false ↦ 0 ]
 
--- codes 2 to 5: the tests on entry
+-- codes 2 to 5 and 10: the tests on entry
 abbrev pub RefusedOnEntry : Answer → Type 0
-RefusedOnEntry a = (2 ≤ code a) × (code a ≤ 5)
+RefusedOnEntry a = ((2 ≤ code a) × (code a ≤ 5)) ⊎ (code a ≡ 10)
 
 -- how many accesses of board b are done in a list of calls
 unfoldable pub doneIn : ℕ → List Call → System → ℕ
@@ -99,9 +99,10 @@ pub data Ends (b : ℕ) (x : Board) (m : ℕ) (c : Call) (t : System) : Type 0 w
   -- "after exactly that many accesses": c is the last of them, and repeats an entry
   exactly : (a : Access) (v : ℕ) → accessOf c ≡ some (b, a) → answerIn c t ≡ Done v → endsInGot x ≡ false → m + 1 ≡ replayLength x
       → repeats b (t .history) ≡ true → Ends b x m c t
-  -- "or, if the last record is a got, on entering the next one that needs it, which is then a new access and no repeat"
-  entering : (a : Access) (r : Record) → accessOf c ≡ some (b, a) → endsInGot x ≡ true → m ≡ replayLength x
-      → Due (boardIn b t) r [] → NeedsGot a (boardIn b t .working .frames) (r .kind) → repeats b (t .history) ≡ false → Ends b x m c t
+  -- "or, if the last record is a got, on entering the next one that needs it, which is then a new access and no repeat"; with it go the gots that are due
+  -- together
+  entering : (a : Access) (r : Record) (rs : List Record) → accessOf c ≡ some (b, a) → endsInGot x ≡ true → m ≡ replayLength x
+      → Due (boardIn b t) (r ∷ rs) [] → NeedsGots a (boardIn b t .working .frames) (r ∷ rs) → repeats b (t .history) ≡ false → Ends b x m c t
 
 -- ==== the claim
 
@@ -109,7 +110,7 @@ pub data Ends (b : ℕ) (x : Board) (m : ℕ) (c : Call) (t : System) : Type 0 w
 pub record EndsAsSaid (b : ℕ) (t : System) : Type 0 where
   -- the restart itself ends it exactly where no access is missing and the last record is no got
   pub atOnce : (boardIn b (after (Restarting b) t) .state ≡ Up) ↔ ((replayLength (boardIn b t) ≡ 0) × (endsInGot (boardIn b t) ≡ false))
-  -- while it goes on, accesses are missing, or only the one that needs the last record
+  -- while it goes on, accesses are missing, or only the one that needs the last gots
   pub going : (cs : List Call) → Replay b cs t
       → (doneSince b cs t < replayLength (boardIn b t))
       ⊎ ((doneSince b cs t ≡ replayLength (boardIn b t)) × (endsInGot (boardIn b t) ≡ true))

@@ -13,20 +13,21 @@ use Rattle.types.specs.declared.State.the-variants.{Replaying}
 use Rattle.types.specs.declared.Answer.{Answer}
 use Rattle.types.specs.declared.Outcome.{Outcome}
 use Rattle.types.specs.declared.Answer.the-variants.{Done, Malformed, OutOfRange, WrongState, CountersFull, ReplayDiffers, OwnerNotUp, LogFull, PowerLost}
+use Rattle.types.specs.declared.Answer.the-variants.{WrongCells}
 use Rattle.model.specs.Definitions.Parts.{zeros}
 use Rattle.model.specs.Definitions.Layout.{pageSize}
 use Rattle.model.specs.Definitions.Bank.{Bank, boardAt, onBoard, fresh}
 use Rattle.model.specs.Definitions.Codec.{encode, decode}
 use Rattle.model.specs.Definitions.WellFormed.{isReplaying}
-use Rattle.model.specs.Definitions.Steps.{start, Access, pageNamed, Cell, cellsRead, cellsWritten, giver}
+use Rattle.model.specs.Definitions.Steps.{start, Access, Read, Write, ReadCells, Cell, cellsRead, cellsWritten, giver}
 use Rattle.model.specs.Definitions.Replay.{tookDue, replayOver, endReplay, recoveryPoint}
 use Rattle.model.specs.Definitions.Answers.{code}
-use Rattle.model.specs.Definitions.Calls.{Call, Accessing, Checkpointing, Fusing, Restarting, call, lackingOf}
+use Rattle.model.specs.Definitions.Calls.{Call, Accessing, Checkpointing, Fusing, Restarting, call, pagesLacking}
 
 -- ==== the history
 
--- A line of the roll: "board, kind, page, offset, the byte read or written". The access says the cells it reads and writes; a byte for each cell read
--- stands beside it.
+-- A line of the roll: "board, kind, page, offset, the byte read or written"; "each new kind of access .. is one line of all that it names, reads and writes"
+-- (document 02, F-3). The access says the cells it reads and writes; a byte for each cell read stands beside it.
 pub record HistoryEntry : Type 0 where
   pub board : ℕ
   pub access : Access
@@ -59,30 +60,37 @@ discard b n (e ∷ es) =
 -- ==== what a call does to the history
 
 pub data Event : Type 0 where
-  Accessed : (board : ℕ) (access : Access) (value : ℕ) → Event
+  Accessed : (board : ℕ) (access : Access) (bytesRead : List ℕ) → Event
   Restarted : (board value : ℕ) → Event
   LostPower : (board : ℕ) → Event
   Nothing : Event
 
--- a call answered 0; "in the roll fuse 0 answered 0 is a cut answered 0" (document 02, F-1)
-unfoldable pub doneEvent : Call → ℕ → Event
-doneEvent (Accessing b a) v = Accessed b a v
-doneEvent (Checkpointing b) v = Nothing
-doneEvent (Fusing b zero) v = LostPower b
-doneEvent (Fusing b (suc n)) v = Nothing
-doneEvent (Restarting b) v = Restarted b v
+-- the bytes that a done access read: the value, or what stands in the second buffer
+unfoldable pub bytesSeen : Access → ℕ → List ℕ → List ℕ
+bytesSeen (Read p o) v given = v ∷ []
+bytesSeen (Write p o v) w given = []
+bytesSeen (ReadCells cells outLength) v given = given
 
--- "Cut answered 0", and "any call answered 8": under 8 it is the board that `who` names. "All else: nothing."
-unfoldable pub eventOf : Call → Answer → Event
-eventOf c (Done v) = doneEvent c v
-eventOf c Malformed = Nothing
-eventOf c OutOfRange = Nothing
-eventOf c (WrongState b) = Nothing
-eventOf c (CountersFull b) = Nothing
-eventOf c (ReplayDiffers b) = Nothing
-eventOf c (OwnerNotUp b) = Nothing
-eventOf c (LogFull b) = Nothing
-eventOf c (PowerLost b) = LostPower b
+-- a call answered 0; "in the roll fuse 0 answered 0 is a cut answered 0" (document 02, F-1)
+unfoldable pub doneEvent : Call → ℕ → List ℕ → Event
+doneEvent (Accessing b a) v given = Accessed b a (bytesSeen a v given)
+doneEvent (Checkpointing b) v given = Nothing
+doneEvent (Fusing b zero) v given = LostPower b
+doneEvent (Fusing b (suc n)) v given = Nothing
+doneEvent (Restarting b) v given = Restarted b v
+
+-- "Cut answered 0", and "any call answered 8": under 8 it is the board that `who` names. "All else: nothing." `given` is the second buffer after a done call.
+unfoldable pub eventOf : Call → Answer → List ℕ → Event
+eventOf c (Done v) given = doneEvent c v given
+eventOf c Malformed given = Nothing
+eventOf c OutOfRange given = Nothing
+eventOf c (WrongState b) given = Nothing
+eventOf c (CountersFull b) given = Nothing
+eventOf c (ReplayDiffers b) given = Nothing
+eventOf c (OwnerNotUp b) given = Nothing
+eventOf c (LogFull b) given = Nothing
+eventOf c (PowerLost b) given = LostPower b
+eventOf c WrongCells given = Nothing
 
 -- how many entries a board has
 unfoldable pub entryCount : ℕ → History → ℕ
@@ -95,21 +103,17 @@ repeats b h = ltb (h .cursor b) (entryCount b h)
 unfoldable pub withNumberOf : ℕ → ℕ → (ℕ → ℕ) → ℕ → ℕ
 withNumberOf b n cursor c = elim (eqb c b) [ true ↦ n | false ↦ cursor c ]
 
--- the byte that an access read, if it reads
-unfoldable pub bytesFrom : Access → ℕ → List ℕ
-bytesFrom a v = elim (cellsRead a) [ [] ↦ [] | c ∷ cs ↦ v ∷ [] ]
-
 -- "Else it adds a line at the end"
-unfoldable pub withEntry : ℕ → Access → ℕ → History → List HistoryEntry
-withEntry b a v h =
+unfoldable pub withEntry : ℕ → Access → List ℕ → History → List HistoryEntry
+withEntry b a bytes h =
     elim (repeats b h) [
       | true ↦ h .entries
-      | false ↦ h .entries ++ (record { board = b; access = a; bytesRead = bytesFrom a v } ∷ [])
+      | false ↦ h .entries ++ (record { board = b; access = a; bytesRead = bytes } ∷ [])
     ]
 
 -- the history after an event; `k` is the bank that the call left
 unfoldable pub fed : Event → Bank → History → History
-fed (Accessed b a v) k h = record { entries = withEntry b a v h; cursor = withNumberOf b (h .cursor b + 1) (h .cursor) }
+fed (Accessed b a bytes) k h = record { entries = withEntry b a bytes h; cursor = withNumberOf b (h .cursor b + 1) (h .cursor) }
 fed (Restarted b v) k h = record { entries = h .entries; cursor = withNumberOf b v (h .cursor) }
 fed (LostPower b) k h = record { entries = discard b (recoveryPoint (boardAt k b)) (h .entries); cursor = h .cursor }
 fed Nothing k h = h
@@ -158,43 +162,44 @@ accessOf (Checkpointing b) = none
 accessOf (Fusing b n) = none
 accessOf (Restarting b) = none
 
--- the bank on which an access answered 0 goes on live, if it does: of an up board, and of a replaying board whose due got was the last record
+-- the bank on which an access answered 0 goes on live, if it does: of an up board, and of a replaying board whose due gots were the last records
 unfoldable pub liveBank : ℕ → Access → Bank → Option Bank
 liveBank b a k =
     elim (isReplaying (boardAt k b .state)) [
       | false ↦ some k
       | true ↦
-          elim (replayOver (boardAt (onBoard b (tookDue a) k) b)) [
-            | true ↦ some (endReplay b (start (onBoard b (tookDue a) k)) .bank)
+          elim (replayOver (boardAt (onBoard b tookDue k) b)) [
+            | true ↦ some (endReplay b (start (onBoard b tookDue k)) .bank)
             | false ↦ none
           ]
     ]
 
--- who gave a page away: "A board gives a page away when another board's fetch from it is done."
-unfoldable pub giverIn : ℕ → Access → Option Bank → Option ℕ
-giverIn b a none = none
-giverIn b a (some k) = elim (lackingOf b a k) [ true ↦ some (giver k (pageNamed a)) | false ↦ none ]
+-- who gave a page away, one for each page fetched: "A board gives a page away when another board's fetch from it is done."
+unfoldable pub giversIn : ℕ → Access → Option Bank → List ℕ
+giversIn b a none = []
+giversIn b a (some k) = map (giver k) (pagesLacking b a k)
 
-unfoldable pub gaveIn : Event → Bank → Option ℕ
-gaveIn (Accessed b a v) k = giverIn b a (liveBank b a k)
-gaveIn (Restarted b v) k = none
-gaveIn (LostPower b) k = none
-gaveIn Nothing k = none
+unfoldable pub gaveIn : Event → Bank → List ℕ
+gaveIn (Accessed b a bytes) k = giversIn b a (liveBank b a k)
+gaveIn (Restarted b v) k = []
+gaveIn (LostPower b) k = []
+gaveIn Nothing k = []
 
 -- a giver's access number, which the call doesn't change, is noted
-unfoldable pub grantedAfter : Option ℕ → Bank → (ℕ → ℕ) → ℕ → ℕ
-grantedAfter none k g = g
-grantedAfter (some o) k g = withNumberOf o (boardAt k o .working .number) g
+unfoldable pub grantedAfter : List ℕ → Bank → (ℕ → ℕ) → ℕ → ℕ
+grantedAfter [] k g = g
+grantedAfter (o ∷ os) k g = withNumberOf o (boardAt k o .working .number) (grantedAfter os k g)
 
--- a call as a caller sees it: what was asked, the outcome it answered and the bytes it left
+-- a call as a caller sees it: what was asked, the outcome it answered, the bytes it left, and the second buffer of a done call that has one
 pub record Observed : Type 0 where
   pub asked : Call
   pub outcome : Outcome
   pub bytes : List ℕ
+  pub given : List ℕ
 
 -- what the definitions answer and leave
 abbrev pub defined : Call → List ℕ → Observed
-defined c s = record { asked = c; outcome = call c s .outcome; bytes = call c s .bytes }
+defined c s = record { asked = c; outcome = call c s .outcome; bytes = call c s .bytes; given = call c s .given }
 
 -- a list of calls, each run on the bytes that the last one left
 unfoldable pub runOf : List Call → List ℕ → List Observed
@@ -204,7 +209,7 @@ runOf (c ∷ cs) s = defined c s ∷ runOf cs (call c s .bytes)
 -- bank and history after a call
 unfoldable pub afterSeen : Observed → System → System
 afterSeen x t =
-    let e : Event = eventOf (x .asked) (x .outcome .answer) in
+    let e : Event = eventOf (x .asked) (x .outcome .answer) (x .given) in
     record {
       bytes = x .bytes;
       history = fed e (decode (x .bytes)) (t .history);
@@ -221,7 +226,7 @@ unfoldable pub nextEntry : ℕ → History → Option HistoryEntry
 nextEntry b h = getElem? (ofBoard b (h .entries)) (h .cursor b)
 
 -- "while a replaying board's mark is below the number of its lines, a read or write of its own answered 0 or 8 has the kind, page, offset and,
--- for a write, byte of its line mark + 1"
+-- for a write, byte of its line mark + 1"; "a repeat names and writes the same" (document 02, F-3): the cells in the asked order
 unfoldable pub PremiseSeen : Observed → System → Type 0
 PremiseSeen x t =
     (b : ℕ) (a : Access) (e : HistoryEntry)
@@ -238,7 +243,7 @@ RepeatSeen x t =
     → accessOf (x .asked) ≡ some (b, a)
     → x .outcome .answer ≡ Done v
     → nextEntry b (t .history) ≡ some e
-    → e .bytesRead ≡ bytesFrom a v
+    → e .bytesRead ≡ bytesSeen a v (x .given)
 
 -- "the stand points are as demanded": none is below its board's access number when the board last gave a page away.
 -- That it is the access number at the last stored record or selector store is in RecoveryStatement, and needs no premise.

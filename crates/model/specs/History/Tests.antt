@@ -12,17 +12,18 @@ use Rattle.types.specs.declared.State.{State}
 use Rattle.types.specs.declared.State.the-variants.{Replaying}
 use Rattle.types.specs.declared.Answer.{Answer}
 use Rattle.types.specs.declared.Answer.the-variants.{Done, Malformed, OutOfRange, WrongState, CountersFull, ReplayDiffers, OwnerNotUp, LogFull, PowerLost}
+use Rattle.types.specs.declared.Answer.the-variants.{WrongCells}
 use Rattle.model.specs.Definitions.Parts.{everyBelow}
 use Rattle.model.specs.Definitions.Bank.{Bank, boardAt}
 use Rattle.model.specs.Definitions.Codec.{decode}
 use Rattle.model.specs.Definitions.WellFormed.{isReplaying}
-use Rattle.model.specs.Definitions.Steps.{Access, Read, Write, cellsRead, cellsWritten}
+use Rattle.model.specs.Definitions.Steps.{Access, Read, Write, ReadCells, cellsRead, cellsWritten}
 use Rattle.model.specs.Definitions.Replay.{recoveryPoint}
 use Rattle.model.specs.Definitions.Answers.{code}
 use Rattle.model.specs.Definitions.Calls.{Call, call}
 use Rattle.model.specs.Laws.Logic.{clash, or-then, then-or}
 use Rattle.model.specs.Laws.Tests.{Says, says-and, says-below, says-le, says-eq, says-replaying}
-use Rattle.model.specs.History.Statement.{HistoryEntry, History, System, Memory, zeroMemory, byteIn, written, OneMemory, accessOf, bytesFrom, nextEntry}
+use Rattle.model.specs.History.Statement.{HistoryEntry, History, System, Memory, zeroMemory, byteIn, written, OneMemory, accessOf, bytesSeen, nextEntry}
 use Rattle.model.specs.History.Statement.{after, Premise, RepeatAgrees, GrantsStand, Claim, Premises, Claims, afterSeen, PremiseSeen, RepeatSeen}
 use Rattle.model.specs.History.Statement.{PremisesSeen, ClaimsSeen, runOf}
 
@@ -37,8 +38,13 @@ sameBytes (b ∷ bs) (c ∷ cs) = eqb b c && sameBytes bs cs
 unfoldable pub sameAccess : Access → Access → Bool
 sameAccess (Read p o) (Read q r) = eqb p q && eqb o r
 sameAccess (Read p o) (Write q r v) = false
+sameAccess (Read p o) (ReadCells bs m) = false
 sameAccess (Write p o v) (Read q r) = false
 sameAccess (Write p o v) (Write q r w) = eqb p q && (eqb o r && eqb v w)
+sameAccess (Write p o v) (ReadCells bs m) = false
+sameAccess (ReadCells bs m) (Read q r) = false
+sameAccess (ReadCells bs m) (Write q r v) = false
+sameAccess (ReadCells bs m) (ReadCells cs n) = sameBytes bs cs && eqb m n
 
 says-sameBytes : (bs cs : List ℕ) → Says (sameBytes bs cs) (bs ≡ cs)
 unfolding sameBytes
@@ -55,7 +61,14 @@ says-sameAccess (Read p o) (Read q r) =
     let both : Says (eqb p q && eqb o r) ((p ≡ q) × (o ≡ r)) = says-and (says-eq p q) (says-eq o r) in
     (λ h. let e = both .0 h in cc, λ e. both .1 (cc, cc))
 says-sameAccess (Read p o) (Write q r v) = (λ h. clash h refl, λ e. cc)
+says-sameAccess (Read p o) (ReadCells bs m) = (λ h. clash h refl, λ e. cc)
 says-sameAccess (Write p o v) (Read q r) = (λ h. clash h refl, λ e. cc)
+says-sameAccess (Write p o v) (ReadCells bs m) = (λ h. clash h refl, λ e. cc)
+says-sameAccess (ReadCells bs m) (Read q r) = (λ h. clash h refl, λ e. cc)
+says-sameAccess (ReadCells bs m) (Write q r v) = (λ h. clash h refl, λ e. cc)
+says-sameAccess (ReadCells bs m) (ReadCells cs n) =
+    let both : Says (sameBytes bs cs && eqb m n) ((bs ≡ cs) × (m ≡ n)) = says-and (says-sameBytes bs cs) (says-eq m n) in
+    (λ h. let e = both .0 h in cc, λ e. both .1 (cc, cc))
 says-sameAccess (Write p o v) (Write q r w) =
     let all : Says (eqb p q && (eqb o r && eqb v w)) ((p ≡ q) × ((o ≡ r) × (v ≡ w))) = says-and (says-eq p q) (says-and (says-eq o r) (says-eq v w)) in
     (λ h. let e = all .0 h in cc, λ e. all .1 (cc, (cc, cc)))
@@ -86,21 +99,22 @@ oneMemoryTest m [] = true
 oneMemoryTest m (e ∷ es) =
     sameBytes (e .bytesRead) (map (byteIn m) (cellsRead (e .access))) && oneMemoryTest (written (cellsWritten (e .access)) m) es
 
-unfoldable pub gaveEntry : Access → Option HistoryEntry → Answer → Bool
-gaveEntry a none r = true
-gaveEntry a (some e) (Done v) = sameBytes (e .bytesRead) (bytesFrom a v)
-gaveEntry a (some e) Malformed = true
-gaveEntry a (some e) OutOfRange = true
-gaveEntry a (some e) (WrongState b) = true
-gaveEntry a (some e) (CountersFull b) = true
-gaveEntry a (some e) (ReplayDiffers b) = true
-gaveEntry a (some e) (OwnerNotUp b) = true
-gaveEntry a (some e) (LogFull b) = true
-gaveEntry a (some e) (PowerLost b) = true
+unfoldable pub gaveEntry : Access → Option HistoryEntry → Answer → List ℕ → Bool
+gaveEntry a none r given = true
+gaveEntry a (some e) (Done v) given = sameBytes (e .bytesRead) (bytesSeen a v given)
+gaveEntry a (some e) Malformed given = true
+gaveEntry a (some e) OutOfRange given = true
+gaveEntry a (some e) (WrongState b) given = true
+gaveEntry a (some e) (CountersFull b) given = true
+gaveEntry a (some e) (ReplayDiffers b) given = true
+gaveEntry a (some e) (OwnerNotUp b) given = true
+gaveEntry a (some e) (LogFull b) given = true
+gaveEntry a (some e) (PowerLost b) given = true
+gaveEntry a (some e) WrongCells given = true
 
-unfoldable pub repeatFor : Answer → History → Option (ℕ × Access) → Bool
-repeatFor r h none = true
-repeatFor r h (some w) = gaveEntry (w .1) (nextEntry (w .0) h) r
+unfoldable pub repeatFor : Answer → List ℕ → History → Option (ℕ × Access) → Bool
+repeatFor r given h none = true
+repeatFor r given h (some w) = gaveEntry (w .1) (nextEntry (w .0) h) r given
 
 unfoldable pub grantsFor : Bank → (ℕ → ℕ) → Bool
 grantsFor k granted = everyBelow (length (k .boards)) (λ b. leb (granted b) (recoveryPoint (boardAt k b)))
@@ -108,7 +122,8 @@ grantsFor k granted = everyBelow (length (k .boards)) (λ b. leb (granted b) (re
 unfoldable pub claimTest : Call → System → Bool
 claimTest c t =
     oneMemoryTest zeroMemory (after c t .history .entries)
-    && (repeatFor (call c (t .bytes) .outcome .answer) (t .history) (accessOf c) && grantsFor (decode (after c t .bytes)) (after c t .granted))
+    && (repeatFor (call c (t .bytes) .outcome .answer) (call c (t .bytes) .given) (t .history) (accessOf c)
+    && grantsFor (decode (after c t .bytes)) (after c t .granted))
 
 unfoldable pub premisesTest : List Call → System → Bool
 premisesTest [] t = true
@@ -169,42 +184,45 @@ says-oneMemory m [] = (λ h. tt, λ h. refl)
 says-oneMemory m (e ∷ es) =
     says-and (says-sameBytes (e .bytesRead) (map (byteIn m) (cellsRead (e .access)))) (says-oneMemory (written (cellsWritten (e .access)) m) es)
 
-gaveEntry-some : (a : Access) (o : Option HistoryEntry) (r : Answer) (e : HistoryEntry) (v : ℕ) → o ≡ some e → r ≡ Done v
-    → gaveEntry a o r ≡ true → e .bytesRead ≡ bytesFrom a v
+gaveEntry-some : (a : Access) (o : Option HistoryEntry) (r : Answer) (given : List ℕ) (e : HistoryEntry) (v : ℕ) → o ≡ some e → r ≡ Done v
+    → gaveEntry a o r given ≡ true → e .bytesRead ≡ bytesSeen a v given
 unfolding gaveEntry
-gaveEntry-some a o r e v s d h =
-    let g : sameBytes (e .bytesRead) (bytesFrom a v) ≡ true = cc in
-    says-sameBytes (e .bytesRead) (bytesFrom a v) .0 g
+gaveEntry-some a o r given e v s d h =
+    let g : sameBytes (e .bytesRead) (bytesSeen a v given) ≡ true = cc in
+    says-sameBytes (e .bytesRead) (bytesSeen a v given) .0 g
 
-gaveEntry-all : (a : Access) (o : Option HistoryEntry) (r : Answer)
-    → ((e : HistoryEntry) (v : ℕ) → o ≡ some e → r ≡ Done v → e .bytesRead ≡ bytesFrom a v) → gaveEntry a o r ≡ true
+gaveEntry-all : (a : Access) (o : Option HistoryEntry) (r : Answer) (given : List ℕ)
+    → ((e : HistoryEntry) (v : ℕ) → o ≡ some e → r ≡ Done v → e .bytesRead ≡ bytesSeen a v given) → gaveEntry a o r given ≡ true
 unfolding gaveEntry
-gaveEntry-all a none r h = refl
-gaveEntry-all a (some e) (Done v) h = says-sameBytes (e .bytesRead) (bytesFrom a v) .1 (h e v refl refl)
-gaveEntry-all a (some e) Malformed h = refl
-gaveEntry-all a (some e) OutOfRange h = refl
-gaveEntry-all a (some e) (WrongState b) h = refl
-gaveEntry-all a (some e) (CountersFull b) h = refl
-gaveEntry-all a (some e) (ReplayDiffers b) h = refl
-gaveEntry-all a (some e) (OwnerNotUp b) h = refl
-gaveEntry-all a (some e) (LogFull b) h = refl
-gaveEntry-all a (some e) (PowerLost b) h = refl
+gaveEntry-all a none r given h = refl
+gaveEntry-all a (some e) (Done v) given h = says-sameBytes (e .bytesRead) (bytesSeen a v given) .1 (h e v refl refl)
+gaveEntry-all a (some e) Malformed given h = refl
+gaveEntry-all a (some e) OutOfRange given h = refl
+gaveEntry-all a (some e) (WrongState b) given h = refl
+gaveEntry-all a (some e) (CountersFull b) given h = refl
+gaveEntry-all a (some e) (ReplayDiffers b) given h = refl
+gaveEntry-all a (some e) (OwnerNotUp b) given h = refl
+gaveEntry-all a (some e) (LogFull b) given h = refl
+gaveEntry-all a (some e) (PowerLost b) given h = refl
+gaveEntry-all a (some e) WrongCells given h = refl
 
 repeat-for : (c : Call) (t : System) (o : Option (ℕ × Access)) → accessOf c ≡ o
-    → Says (repeatFor (call c (t .bytes) .outcome .answer) (t .history) o) (RepeatAgrees c t)
+    → Says (repeatFor (call c (t .bytes) .outcome .answer) (call c (t .bytes) .given) (t .history) o) (RepeatAgrees c t)
 unfolding repeatFor RepeatSeen
 repeat-for c t none n = (λ h b a v e s. let z : _≡_ {A = ℕ} 0 1 = cc in absurd (omega arith), λ h. refl)
 repeat-for c t (some w) n =
-    let r : Answer = call c (t .bytes) .outcome .answer in (
+    let r : Answer = call c (t .bytes) .outcome .answer in
+    let given : List ℕ = call c (t .bytes) .given in (
       λ h b a v e s d f.
           let z : w ≡ (b, a) = cc in
           let zb : w .0 ≡ b = ap (λ (v : ℕ × Access). v .0) z in
           let za : w .1 ≡ a = ap (λ (v : ℕ × Access). v .1) z in
-          rw za at (gaveEntry-some (w .1) (nextEntry (w .0) (t .history)) r e v (rw zb f) d h),
-      λ q. gaveEntry-all (w .1) (nextEntry (w .0) (t .history)) r (λ e v f d. q (w .0) (w .1) v e n d f),
+          rw za at (gaveEntry-some (w .1) (nextEntry (w .0) (t .history)) r given e v (rw zb f) d h),
+      λ q. gaveEntry-all (w .1) (nextEntry (w .0) (t .history)) r given (λ e v f d. q (w .0) (w .1) v e n d f),
     )
 
-says-repeat : (c : Call) (t : System) → Says (repeatFor (call c (t .bytes) .outcome .answer) (t .history) (accessOf c)) (RepeatAgrees c t)
+says-repeat : (c : Call) (t : System)
+    → Says (repeatFor (call c (t .bytes) .outcome .answer) (call c (t .bytes) .given) (t .history) (accessOf c)) (RepeatAgrees c t)
 says-repeat c t = repeat-for c t (accessOf c) refl
 
 says-grants : (t : System) → Says (grantsFor (decode (t .bytes)) (t .granted)) (GrantsStand t)

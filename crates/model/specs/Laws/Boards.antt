@@ -295,9 +295,9 @@ module _ (o w p : ℕ) (k : Bank) where
 
 -- ---- a repeated access leaves its board's state
 
-pub tookDue-state : (a : Access) (x : Board) → tookDue a x .state ≡ x .state
+pub tookDue-state : (x : Board) → tookDue x .state ≡ x .state
 unfolding tookDue onWorking
-tookDue-state a x = casesOption (λ (y : Board). y .state ≡ x .state) (due x) (λ n. refl) (λ r e. refl)
+tookDue-state x = refl
 
 pub replayed-state : (a : Access) (x : Board) → replayed a x .state ≡ x .state
 unfolding replayed usedUp onWorking

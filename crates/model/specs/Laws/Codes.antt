@@ -1,5 +1,5 @@
--- Document 01's table "Codes", checked: on any bytes a call answers the code of the first row that holds, and 0 where none does; who and value as the
--- table says. `codes` is the theorem, what follows it reads it code by code. Assumes nothing.
+-- Document 01's table "Codes", with document 02's code 10, checked: on any bytes a call answers the code of the first row that holds, and 0 where none
+-- does; who and value as the table says. `codes` is the theorem, what follows it reads it code by code. Assumes nothing.
 pub mod Statement
 pub mod Order
 pub mod Tests
@@ -10,7 +10,7 @@ pub mod Ends
 pub mod Losses
 use mathlib.Core.Path.{_≡_, refl, ap}
 use mathlib.Core.Logic.{_≢_, inl, inr, _↔_}
-use Prim.Native.Nat.{ℕ, suc, _+_}
+use Prim.Native.Nat.{ℕ, _<_}
 use native.Mathlib.Omega.{arith}
 use mathlib.Core.Bool.{Bool, true, false, _&&_, not}
 use mathlib.Core.List.{List, [], _∷_}
@@ -19,6 +19,7 @@ use lib.Dec.{eqb, ltb, leb}
 use borrow.Author.Tests.{eqb-true, eqb-false}
 use Rattle.types.specs.declared.Answer.{Answer}
 use Rattle.types.specs.declared.Answer.the-variants.{Done, Malformed, OutOfRange, WrongState, CountersFull, ReplayDiffers, OwnerNotUp, LogFull, PowerLost}
+use Rattle.types.specs.declared.Answer.the-variants.{WrongCells}
 use Rattle.model.specs.Definitions.Layout.{mostBoards, mostPages, bankSize}
 use Rattle.model.specs.Definitions.Bank.{Bank}
 use Rattle.model.specs.Definitions.Codec.{decode}
@@ -29,10 +30,11 @@ use Rattle.model.specs.Definitions.Calls.{Call, callBank, Reply, refused
 use Rattle.model.specs.Laws.Logic.{cases, clash}
 use Rattle.model.specs.Laws.WellFormedTest.{wellFormed-sound, wellFormed-iff}
 use Rattle.model.specs.Laws.Tests.{Says}
-use Rattle.model.specs.Laws.Codes.Statement.{Row, First, NoRow, WhoIn, OfAccess, boardNamed, NumbersOut, StateOut, CountersOut, ReplayOut, OwnerOut}
-use Rattle.model.specs.Laws.Codes.Statement.{RoomOut, Live, ownerOf, LowestShort, LosesPower, refusalRows, table, SizesOut, LengthOut}
+use Rattle.model.specs.Laws.Codes.Statement.{Row, First, NoRow, WhoIn, codeIn, OfAccess, boardNamed, NumbersOut, AskedOut, StateOut, CountersOut}
+use Rattle.model.specs.Laws.Codes.Statement.{ReplayOut, OwnerOut, RoomOut, Live, LowestNotUp, LowestShort, LosesPower, refusalRows, table, SizesOut}
+use Rattle.model.specs.Laws.Codes.Statement.{LengthOut}
 use Rattle.model.specs.Laws.Codes.Order.{never, fails, refuted, says-not-and, says-not-pos, says-not-le, Judged, byRow, IsDone, judged-nil, judged-past}
-use Rattle.model.specs.Laws.Codes.Order.{judged-append, judged-code, judged-done, judged-who, judged-value}
+use Rattle.model.specs.Laws.Codes.Order.{noCode, differ, apart, judged-append, judged-code, judged-done, judged-who, judged-value}
 use Rattle.model.specs.Laws.Codes.Rows.{Ran, rows-judged}
 use Rattle.model.specs.Laws.Codes.Losses.{loses-power}
 
@@ -50,12 +52,13 @@ power-lost-form (ReplayDiffers b) e = never (omega arith)
 power-lost-form (OwnerNotUp b) e = never (omega arith)
 power-lost-form (LogFull b) e = never (omega arith)
 power-lost-form (PowerLost b) e = refl
+power-lost-form WrongCells e = never (omega arith)
 
 module _ (c : Call) (k : Bank) (w : WellFormed k) where
   -- row 8 of a call that nothing refused
   loss-judged : Ran (callBank c k .answer)
-      → Judged IsDone 8 (record { when = (b : ℕ) × LosesPower c k b; who = λ b. LosesPower c k b } ∷ []) (callBank c k .answer)
-  unfolding code value First WhoIn
+      → Judged IsDone (record { code = 8; when = (b : ℕ) × LosesPower c k b; who = λ b. LosesPower c k b } ∷ []) (callBank c k .answer)
+  unfolding code value First WhoIn codeIn
   loss-judged (inl e) =
       judged-past _ (λ u. let f : code (callBank c k .answer) ≡ 8 = ap code (loses-power c k w (u .0) .1 (u .1)) in absurd (omega arith)) (judged-nil e)
   loss-judged (inr e) =
@@ -71,30 +74,34 @@ is-true true n = refl
 is-true false n = absurd (n refl)
 
 module _ (c : Call) (s : List ℕ) where
-  judged : Judged IsDone 1 (table c s) (answerTo c s)
-  unfolding call replyOf refused table refusalRows code who value First WhoIn
+  judged : Judged IsDone (table c s) (answerTo c s)
+  unfolding call replyOf refused table refusalRows code who value First WhoIn codeIn
   judged =
       let k : Bank = decode s in
       let t : List Row = table c s in
-      cases (λ (y : Reply). Judged IsDone 1 t (y .outcome .answer)) (wellFormed s)
+      cases (λ (y : Reply). Judged IsDone t (y .outcome .answer)) (wellFormed s)
       (λ e.
       judged-past _ (λ n. clash e n)
-      (judged-append 2 (refusalRows c k) _ (callBank c k .answer)
+      (judged-append (refusalRows c k) _ (callBank c k .answer)
       (rows-judged c k (wellFormed-sound s e))
       (loss-judged c k (wellFormed-sound s e))))
       (λ e. byRow 0 e refl refl refl)
 
-  -- CODES: a code is answered exactly where its row is the first that holds ..
-  pub codes : (i : ℕ) → (code (answerTo c s) ≡ suc i) ↔ First (table c s) i
-  codes i = let e : 1 + i ≡ suc i = omega arith in rw e at (judged-code judged i)
+  told : apart (table c s) ≡ true
+  unfolding table refusalRows apart noCode differ
+  told = refl
+
+  -- CODES: a row's code is answered exactly where it is the first that holds ..
+  pub codes : (i : ℕ) → i < length (table c s) → (code (answerTo c s) ≡ codeIn (table c s) i) ↔ First (table c s) i
+  codes i l = judged-code (table c s) (answerTo c s) told judged i l
 
   -- .. 0 where none does ..
   pub codes-done : (code (answerTo c s) ≡ 0) ↔ NoRow (table c s)
-  codes-done = judged-done judged
+  codes-done = judged-done (table c s) (answerTo c s) told judged
 
   -- .. with that row's who ..
-  pub codes-who : (i : ℕ) → code (answerTo c s) ≡ suc i → WhoIn (table c s) i (who (answerTo c s))
-  codes-who i h = judged-who judged i (omega arith)
+  pub codes-who : (i : ℕ) → i < length (table c s) → code (answerTo c s) ≡ codeIn (table c s) i → WhoIn (table c s) i (who (answerTo c s))
+  codes-who i l e = judged-who (table c s) (answerTo c s) told judged i l e
 
   -- .. and value "0 .. for every code but 0"
   pub codes-value : code (answerTo c s) ≢ 0 → value (answerTo c s) ≡ 0
@@ -103,8 +110,8 @@ module _ (c : Call) (s : List ℕ) where
   -- ==== the same code by code
 
   pub code-1 : (code (answerTo c s) ≡ 1) ↔ (wellFormed s ≡ false)
-  unfolding table First
-  code-1 = codes 0
+  unfolding table First codeIn
+  code-1 = codes 0 (omega arith)
 
   -- well formed as the clauses of Definitions.WellFormed say
   pub code-1-clauses : (code (answerTo c s) ≡ 1) ↔ (¬ WellFormedBytes s)
@@ -112,65 +119,98 @@ module _ (c : Call) (s : List ℕ) where
       (λ e w. clash (wellFormed-iff s .1 w) (code-1 .0 e), λ n. code-1 .1 (refuted (wellFormed s) (wellFormed-iff s) n))
 
   pub code-2 : (code (answerTo c s) ≡ 2) ↔ ((wellFormed s ≡ true) × NumbersOut c (decode s))
-  unfolding table refusalRows First
-  code-2 = (λ e. let f = codes 1 .0 e in (is-true (wellFormed s) (f .0), f .1), λ u. codes 1 .1 (λ n. clash (u .0) n, u .1))
+  unfolding table refusalRows First codeIn
+  code-2 =
+      let row = codes 1 (omega arith) in
+      (λ e. let f = row .0 e in (is-true (wellFormed s) (f .0), f .1), λ u. row .1 (λ n. clash (u .0) n, u .1))
 
-  pub code-3 : (code (answerTo c s) ≡ 3) ↔ ((wellFormed s ≡ true) × (¬ NumbersOut c (decode s)) × StateOut c (decode s))
-  unfolding table refusalRows First
-  code-3 = (
-    λ e. let f = codes 2 .0 e in (is-true (wellFormed s) (f .0), f .1 .0, f .1 .1),
-    λ u. codes 2 .1 (λ n. clash (u .0) n, (u .1, u .2)),
-  )
+  pub code-10 : (code (answerTo c s) ≡ 10) ↔ ((wellFormed s ≡ true) × (¬ NumbersOut c (decode s)) × AskedOut c (decode s))
+  unfolding table refusalRows First codeIn
+  code-10 =
+      let row = codes 2 (omega arith) in (
+        λ e. let f = row .0 e in (is-true (wellFormed s) (f .0), f .1 .0, f .1 .1),
+        λ u. row .1 (λ n. clash (u .0) n, (u .1, u .2)),
+      )
+
+  pub code-3 : (code (answerTo c s) ≡ 3)
+      ↔ ((wellFormed s ≡ true) × (¬ NumbersOut c (decode s)) × (¬ AskedOut c (decode s)) × StateOut c (decode s))
+  unfolding table refusalRows First codeIn
+  code-3 =
+      let row = codes 3 (omega arith) in (
+        λ e. let f = row .0 e in (is-true (wellFormed s) (f .0), f .1 .0, f .1 .1 .0, f .1 .1 .1),
+        λ u. row .1 (λ n. clash (u .0) n, (u .1, (u .2, u .3))),
+      )
 
   pub code-4 : (code (answerTo c s) ≡ 4)
-      ↔ ((wellFormed s ≡ true) × (¬ NumbersOut c (decode s)) × (¬ StateOut c (decode s)) × CountersOut c (decode s))
-  unfolding table refusalRows First
-  code-4 = (
-    λ e. let f = codes 3 .0 e in (is-true (wellFormed s) (f .0), f .1 .0, f .1 .1 .0, f .1 .1 .1),
-    λ u. codes 3 .1 (λ n. clash (u .0) n, (u .1, (u .2, u .3))),
-  )
+      ↔ ((wellFormed s ≡ true) × (¬ NumbersOut c (decode s)) × (¬ AskedOut c (decode s)) × (¬ StateOut c (decode s)) × CountersOut c (decode s))
+  unfolding table refusalRows First codeIn
+  code-4 =
+      let row = codes 4 (omega arith) in (
+        λ e. let f = row .0 e in (is-true (wellFormed s) (f .0), f .1 .0, f .1 .1 .0, f .1 .1 .1 .0, f .1 .1 .1 .1),
+        λ u. row .1 (λ n. clash (u .0) n, (u .1, (u .2, (u .3, u .4)))),
+      )
 
   pub code-5 : (code (answerTo c s) ≡ 5)
-      ↔ ((wellFormed s ≡ true) × (¬ NumbersOut c (decode s)) × (¬ StateOut c (decode s)) × (¬ CountersOut c (decode s)) × ReplayOut c (decode s))
-  unfolding table refusalRows First
-  code-5 = (
-    λ e. let f = codes 4 .0 e in (is-true (wellFormed s) (f .0), f .1 .0, f .1 .1 .0, f .1 .1 .1 .0, f .1 .1 .1 .1),
-    λ u. codes 4 .1 (λ n. clash (u .0) n, (u .1, (u .2, (u .3, u .4)))),
-  )
+      ↔ ((wellFormed s ≡ true) × (¬ NumbersOut c (decode s)) × (¬ AskedOut c (decode s)) × (¬ StateOut c (decode s)) × (¬ CountersOut c (decode s))
+      × ReplayOut c (decode s))
+  unfolding table refusalRows First codeIn
+  code-5 =
+      let row = codes 5 (omega arith) in (
+        λ e. let f = row .0 e in (
+          is-true (wellFormed s) (f .0),
+          f .1 .0,
+          f .1 .1 .0,
+          f .1 .1 .1 .0,
+          f .1 .1 .1 .1 .0,
+          f .1 .1 .1 .1 .1,
+        ),
+        λ u. row .1 (λ n. clash (u .0) n, (u .1, (u .2, (u .3, (u .4, u .5))))),
+      )
 
   pub code-6 : (code (answerTo c s) ≡ 6)
-      ↔ ((wellFormed s ≡ true) × (¬ NumbersOut c (decode s)) × (¬ StateOut c (decode s)) × (¬ CountersOut c (decode s))
+      ↔ ((wellFormed s ≡ true) × (¬ NumbersOut c (decode s)) × (¬ AskedOut c (decode s)) × (¬ StateOut c (decode s)) × (¬ CountersOut c (decode s))
       × (¬ ReplayOut c (decode s)) × OwnerOut c (decode s))
-  unfolding table refusalRows First
-  code-6 = (
-    λ e. let f = codes 5 .0 e in (is-true (wellFormed s) (f .0), f .1 .0, f .1 .1 .0, f .1 .1 .1 .0, f .1 .1 .1 .1 .0, f .1 .1 .1 .1 .1),
-    λ u. codes 5 .1 (λ n. clash (u .0) n, (u .1, (u .2, (u .3, (u .4, u .5))))),
-  )
+  unfolding table refusalRows First codeIn
+  code-6 =
+      let row = codes 6 (omega arith) in (
+        λ e. let f = row .0 e in (
+          is-true (wellFormed s) (f .0),
+          f .1 .0,
+          f .1 .1 .0,
+          f .1 .1 .1 .0,
+          f .1 .1 .1 .1 .0,
+          f .1 .1 .1 .1 .1 .0,
+          f .1 .1 .1 .1 .1 .1,
+        ),
+        λ u. row .1 (λ n. clash (u .0) n, (u .1, (u .2, (u .3, (u .4, (u .5, u .6)))))),
+      )
 
   pub code-7 : (code (answerTo c s) ≡ 7)
-      ↔ ((wellFormed s ≡ true) × (¬ NumbersOut c (decode s)) × (¬ StateOut c (decode s)) × (¬ CountersOut c (decode s))
+      ↔ ((wellFormed s ≡ true) × (¬ NumbersOut c (decode s)) × (¬ AskedOut c (decode s)) × (¬ StateOut c (decode s)) × (¬ CountersOut c (decode s))
       × (¬ ReplayOut c (decode s)) × (¬ OwnerOut c (decode s)) × RoomOut c (decode s))
-  unfolding table refusalRows First
-  code-7 = (
-    λ e. let f = codes 6 .0 e in (
-      is-true (wellFormed s) (f .0),
-      f .1 .0,
-      f .1 .1 .0,
-      f .1 .1 .1 .0,
-      f .1 .1 .1 .1 .0,
-      f .1 .1 .1 .1 .1 .0,
-      f .1 .1 .1 .1 .1 .1,
-    ),
-    λ u. codes 6 .1 (λ n. clash (u .0) n, (u .1, (u .2, (u .3, (u .4, (u .5, u .6)))))),
-  )
+  unfolding table refusalRows First codeIn
+  code-7 =
+      let row = codes 7 (omega arith) in (
+        λ e. let f = row .0 e in (
+          is-true (wellFormed s) (f .0),
+          f .1 .0,
+          f .1 .1 .0,
+          f .1 .1 .1 .0,
+          f .1 .1 .1 .1 .0,
+          f .1 .1 .1 .1 .1 .0,
+          f .1 .1 .1 .1 .1 .1 .0,
+          f .1 .1 .1 .1 .1 .1 .1,
+        ),
+        λ u. row .1 (λ n. clash (u .0) n, (u .1, (u .2, (u .3, (u .4, (u .5, (u .6, u .7))))))),
+      )
 
   -- board b is answered with code 8 exactly where it was not down before and is down after; then no row before holds
   pub code-8 : (b : ℕ) → ((code (answerTo c s) ≡ 8) × (who (answerTo c s) ≡ b)) ↔ ((wellFormed s ≡ true) × LosesPower c (decode s) b)
-  unfolding table refusalRows First WhoIn call replyOf code who
+  unfolding table refusalRows First WhoIn codeIn call replyOf code who
   code-8 b = (
     λ u.
-        let f = codes 7 .0 (u .0) in
-        let l : LosesPower c (decode s) (who (answerTo c s)) = codes-who 7 (u .0) in
+        let f = codes 8 (omega arith) .0 (u .0) in
+        let l : LosesPower c (decode s) (who (answerTo c s)) = codes-who 8 (omega arith) (u .0) in
         (is-true (wellFormed s) (f .0), rw (u .1) at l),
     λ u.
         let w : wellFormed s ≡ true = u .0 in
@@ -182,32 +222,36 @@ module _ (c : Call) (s : List ℕ) where
   -- ---- who
 
   pub who-1 : code (answerTo c s) ≡ 1 → who (answerTo c s) ≡ 0
-  unfolding table WhoIn
-  who-1 e = codes-who 0 e
+  unfolding table WhoIn codeIn
+  who-1 e = codes-who 0 (omega arith) e
 
   pub who-2 : code (answerTo c s) ≡ 2 → who (answerTo c s) ≡ 0
-  unfolding table refusalRows WhoIn
-  who-2 e = codes-who 1 e
+  unfolding table refusalRows WhoIn codeIn
+  who-2 e = codes-who 1 (omega arith) e
+
+  pub who-10 : code (answerTo c s) ≡ 10 → who (answerTo c s) ≡ 0
+  unfolding table refusalRows WhoIn codeIn
+  who-10 e = codes-who 2 (omega arith) e
 
   pub who-3 : code (answerTo c s) ≡ 3 → who (answerTo c s) ≡ boardNamed c
-  unfolding table refusalRows WhoIn
-  who-3 e = codes-who 2 e
+  unfolding table refusalRows WhoIn codeIn
+  who-3 e = codes-who 3 (omega arith) e
 
   pub who-4 : code (answerTo c s) ≡ 4 → who (answerTo c s) ≡ boardNamed c
-  unfolding table refusalRows WhoIn
-  who-4 e = codes-who 3 e
+  unfolding table refusalRows WhoIn codeIn
+  who-4 e = codes-who 4 (omega arith) e
 
   pub who-5 : code (answerTo c s) ≡ 5 → who (answerTo c s) ≡ boardNamed c
-  unfolding table refusalRows WhoIn
-  who-5 e = codes-who 4 e
+  unfolding table refusalRows WhoIn codeIn
+  who-5 e = codes-who 5 (omega arith) e
 
-  pub who-6 : code (answerTo c s) ≡ 6 → OfAccess (λ b a. who (answerTo c s) ≡ ownerOf a (decode s)) c
-  unfolding table refusalRows WhoIn
-  who-6 e = codes-who 5 e
+  pub who-6 : code (answerTo c s) ≡ 6 → OfAccess (λ b a. Live (λ j. LowestNotUp b a j (who (answerTo c s))) (decode s) b a) c
+  unfolding table refusalRows WhoIn codeIn
+  who-6 e = codes-who 6 (omega arith) e
 
   pub who-7 : code (answerTo c s) ≡ 7 → OfAccess (λ b a. Live (λ j. LowestShort b a j (who (answerTo c s))) (decode s) b a) c
-  unfolding table refusalRows WhoIn
-  who-7 e = codes-who 6 e
+  unfolding table refusalRows WhoIn codeIn
+  who-7 e = codes-who 7 (omega arith) e
 
 -- ==== making a bank: 2 before 1
 

@@ -42,7 +42,7 @@ use Rattle.model.specs.Laws.SinceBound.{AtMost, call-atMost}
 use Rattle.model.specs.Laws.Moves.Calls.{call-keeps}
 use Rattle.model.specs.History.Statement.{runOf}
 use Rattle.model.specs.History.OnBytes.{decoded, call-encode}
-use Rattle.model.specs.History.ConversionStatement.{Converts, ConversionWrites, outcomesWithin, outcomesOn, SameUntilFull, ConvertedAnswers, ZeroPast}
+use Rattle.model.specs.History.ConversionStatement.{Converts, ConversionWrites, toldWithin, toldOn, SameUntilFull, ConvertedAnswers, ZeroPast}
 use Rattle.model.specs.History.ConversionStatement.{ZeroPastCounts}
 use Rattle.model.specs.History.ConversionStatement.{OlderRefused}
 
@@ -216,15 +216,15 @@ same-call c {k} {j} same low not-full =
     (rw e at s, rw e at (call-atMost olderLastSince c j low))
 
 same-calls : (cs : List Call) (k j : Bank) → SameBelowCounts k j → AtMost olderLastSince j → WellFormed j
-    → SameUntilFull (outcomesWithin olderLastSince cs k) (outcomesOn cs (encode j))
-unfolding SameUntilFull outcomesWithin outcomesOn runOf replyOf
+    → SameUntilFull (toldWithin olderLastSince cs k) (toldOn cs (encode j))
+unfolding SameUntilFull toldWithin toldOn runOf replyOf
 same-calls [] k j same low w = tt
 same-calls (c ∷ cs) k j same low w =
     byEq (code (callWithin olderLastSince c k .answer)) 4 inl
     (λ not-full.
     let t = same-call c same low not-full in
     inr (rw (call-encode c j w) (
-      λ i. record { answer = t .0 .answer i; stores = t .0 .stores i },
+      λ i. record { outcome = record { answer = t .0 .answer i; stores = t .0 .stores i }; given = t .0 .given i },
       same-calls cs (callWithin olderLastSince c k .run .bank) (callBank c j .run .bank) (t .0 .bank) (t .1) (call-keeps c j w),
     )))
 

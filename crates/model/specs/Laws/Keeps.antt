@@ -6,6 +6,7 @@ pub mod Checkpoint
 pub mod Accesses
 pub mod Rights
 pub mod Fetches
+pub mod Copies
 pub mod Replay
 pub mod Live
 pub mod Entered

@@ -9,8 +9,8 @@ use Rattle.model.specs.Definitions.Bank.{Bank, boardAt}
 use Rattle.model.specs.Definitions.WellFormed.{isDown}
 use Rattle.model.specs.Definitions.Answers.{code}
 use Rattle.model.specs.Definitions.Steps.{Access}
-use Rattle.model.specs.Definitions.Calls.{Result, unless, firstOf, accessInRange, countersFull, refusalsWithin, accessWithin, Call, Accessing}
-use Rattle.model.specs.Definitions.Calls.{Checkpointing, Fusing, Restarting, callWithin}
+use Rattle.model.specs.Definitions.Calls.{Result, unless, firstOf, accessInRange, wrongCells, countersFull, refusalsWithin, accessWithin, Call}
+use Rattle.model.specs.Definitions.Calls.{Accessing, Checkpointing, Fusing, Restarting, callWithin}
 use Rattle.model.specs.Laws.Logic.{byBool}
 
 -- m and n are two largest sinces
@@ -45,7 +45,8 @@ module _ (m n : ℕ) where
       byBool (eqb (boardAt k b .working .since) m)
       (λ full.
       byBool (accessInRange b a k)
-      (λ fits. byBool (isDown (boardAt k b .state)) (λ down. cc) (λ power. absurd (not-full (cc))))
+      (λ fits.
+      byBool (wrongCells a) (λ wrong. cc) (λ right. byBool (isDown (boardAt k b .state)) (λ down. cc) (λ power. absurd (not-full (cc)))))
       (λ out. cc))
       (λ free. access-tests b a k (free ∙ sym (ne-eqb (boardAt k b .working .since) n below)))
 

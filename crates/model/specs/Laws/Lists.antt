@@ -142,6 +142,10 @@ module _ {A : Type 0} where
     each-replicate zero a p = each-nil
     each-replicate (suc n) a p = each-cons p (each-replicate n a p)
 
+    pub each-both : {Q : A → Type 0} {xs : List A} → Each P xs → Each Q xs → Each (λ x. P x × Q x) xs
+    each-both each-nil each-nil = each-nil
+    each-both (each-cons p ps) (each-cons q qs) = each-cons (p, q) (each-both ps qs)
+
     pub each-map : {B : Type 0} (f : B → A) (xs : List B) → ((x : B) → P (f x)) → Each P (map f xs)
     each-map f [] p = each-nil
     each-map f (x ∷ xs) p = each-cons (p x) (each-map f xs p)
@@ -258,3 +262,8 @@ unfolding firstBelow
 firstBelow-some n m f h =
     let r : LowestFrom 0 n f m = firstFrom-some 0 n m f h in
     record { below = omega (arith, r .below); passes = r .passes; others = λ j l. r .others j (omega arith) l }
+
+-- two functions that agree
+pub map-same : {A B : Type 0} {f g : A → B} (xs : List A) → ((x : A) → f x ≡ g x) → map f xs ≡ map g xs
+map-same [] h = refl
+map-same (x ∷ xs) h = cc (h x, map-same xs h)

@@ -9,12 +9,13 @@ use mathlib.Core.Path.{_≡_, ap, _∙_}
 use Prim.Native.Nat.{ℕ}
 use mathlib.Core.Bool.{false}
 use mathlib.Core.Option.{none, some}
+use mathlib.Core.List.{[]}
 use Rattle.model.specs.Definitions.Bank.{boardAt, onBoard, onWorking}
 use Rattle.model.specs.Definitions.Steps.{Run, step, store, note, storedSelector, restedWorking, Access, access}
 use Rattle.model.specs.Definitions.Replay.{tookDue, replayOver, settle}
 use Rattle.model.specs.Moves.{Move, NoteShown, NoteGot, StoreRecord, StoreFrame, StoreHead, StoreSelector, GiveCopy, PassOwnership, DropCopies, Perform}
-use Rattle.model.specs.Moves.{LosePower, SetFuse, Load, Repeat, TakeLast, Settle, does, Phase, Begun, Replays, Finished, Guard, Moves, still, then, waits}
-use Rattle.model.specs.Moves.{ends, cutOff}
+use Rattle.model.specs.Moves.{LosePower, SetFuse, Load, Repeat, TakeLast, Settle, does, Phase, Begun, Replays, Finished, Guard, Moves, still, then}
+use Rattle.model.specs.Moves.{waits, ends, cutOff}
 use Rattle.model.specs.History.Statement.{Event, Nothing}
 use Rattle.model.specs.Laws.Logic.{byOption}
 use Rattle.model.specs.Laws.Runs.{step-lost, store-lost, sizes-trans, sizes-onBoard, sizes-powerOff, sizes-giveCopy, sizes-dropCopies}
@@ -25,8 +26,8 @@ use Rattle.model.specs.Laws.Runs.{sizes-passOwnership, Follows, follows-
 -- what every move keeps, whatever the phase, holds after all of them
 pub induct : {d : ℕ} {Again : Access → Type 0} (P : Phase → Run → Type 0)
     → ((χ ψ : Phase) (s : Run) (m : Move) → s .lost ≡ none → Guard d Again (s .bank) m χ ψ → P χ s → P ψ (does m s))
-    → ((e : Event) (s : Run) → s .lost ≡ none → replayOver (boardAt (s .bank) d) ≡ false → P (Replays e) s → P (Finished e none) s)
-    → ((s : Run) → P Begun s → P (Finished Nothing none) s)
+    → ((e : Event) (s : Run) → s .lost ≡ none → replayOver (boardAt (s .bank) d) ≡ false → P (Replays e) s → P (Finished e []) s)
+    → ((s : Run) → P Begun s → P (Finished Nothing []) s)
     → ((χ ψ : Phase) (s : Run) (c : ℕ) → s .lost ≡ some c → P χ s → P ψ s)
     → {φ χ : Phase} {r s : Run} → Moves d Again φ r χ s → P φ r → P χ s
 induct P move wait end cut still h = h
@@ -51,7 +52,7 @@ does-lost (LosePower b) r e = step-lost _ r e
 does-lost (SetFuse b n) r e = step-lost _ r e
 does-lost (Load b) r e = step-lost _ r e
 does-lost (Repeat b a) r e = step-lost _ r e
-does-lost (TakeLast b a) r e = step-lost _ r e
+does-lost (TakeLast b) r e = step-lost _ r e
 does-lost (Settle b) r e = step-lost _ r e
 
 -- one move more, if power was not lost before
@@ -77,8 +78,8 @@ follows-does (Perform b a) r = follows-step _ r (sizes-onBoard b _ (r .bank))
 follows-does (LosePower b) r = follows-step _ r (sizes-powerOff b (r .bank))
 follows-does (SetFuse b n) r = follows-step _ r (sizes-onBoard b _ (r .bank))
 follows-does (Load b) r = follows-step _ r (sizes-onBoard b _ (r .bank))
-follows-does (Repeat b a) r = follows-step _ r (sizes-trans (sizes-onBoard b (tookDue a) (r .bank)) (sizes-onBoard b _ (onBoard b (tookDue a) (r .bank))))
-follows-does (TakeLast b a) r = follows-step _ r (sizes-onBoard b _ (r .bank))
+follows-does (Repeat b a) r = follows-step _ r (sizes-trans (sizes-onBoard b tookDue (r .bank)) (sizes-onBoard b _ (onBoard b tookDue (r .bank))))
+follows-does (TakeLast b) r = follows-step _ r (sizes-onBoard b _ (r .bank))
 follows-does (Settle b) r = follows-step _ r (sizes-onBoard b _ (r .bank))
 
 pub moves-follow : {d : ℕ} {Again : Access → Type 0} {φ χ : Phase} {r s : Run} → Moves d Again φ r χ s → Follows r s

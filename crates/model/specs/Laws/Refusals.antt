@@ -1,5 +1,5 @@
--- "Codes 1 to 7 change no byte, except that an access ending a replay keeps what the end did": of every call on any bytes, with the stores that
--- are answered beside. Assumes nothing.
+-- "Codes 1 to 7 change no byte, except that an access ending a replay keeps what the end did"; nor does code 10 (document 02, F-3). Of every call on any
+-- bytes, with the stores that are answered beside. Assumes nothing.
 use mathlib.Core.Path.{_≡_, refl, sym, ap, _∙_}
 use mathlib.Core.Logic.{_≢_, _⊎_, inl, inr}
 use Prim.Native.Nat.{ℕ, _+_, _≤_}
@@ -31,35 +31,40 @@ pub record Kept (s : List ℕ) (y : Reply) : Type 0 where
   pub stores : y .outcome .stores ≡ 0
 
 -- what the end of board b's replay left, and its stores
-pub record KeptEnd (b : ℕ) (a : Access) (k : Bank) (y : Reply) : Type 0 where
-  pub bytes : y .bytes ≡ encode (afterReplay b a k .bank)
-  pub stores : y .outcome .stores ≡ afterReplay b a k .stores
-  pub lost : afterReplay b a k .lost ≡ none
+pub record KeptEnd (b : ℕ) (k : Bank) (y : Reply) : Type 0 where
+  pub bytes : y .bytes ≡ encode (afterReplay b k .bank)
+  pub stores : y .outcome .stores ≡ afterReplay b k .stores
+  pub lost : afterReplay b k .lost ≡ none
+
+-- the codes that refuse a call
+abbrev pub Refuses : ℕ → Type 0
+Refuses n = ((1 ≤ n) × (n ≤ 7)) ⊎ (n ≡ 10)
 
 -- ==== on a bank
 
 -- a call that ran answers 0 or 8
-ran-code : {X : Type 0} (v : ℕ) (r : Run) → 1 ≤ code (finished v r .answer) → code (finished v r .answer) ≤ 7 → X
+ran-code : {X : Type 0} (v : ℕ) (given : List ℕ) (r : Run) → Refuses (code (finished v given r .answer)) → X
 unfolding finished code
-ran-code {X} v r =
-    casesOption (λ (t : Result). 1 ≤ code (t .answer) → code (t .answer) ≤ 7 → X) (r .lost)
-    (λ n h i. absurd (omega arith))
-    (λ b e h i. absurd (omega arith))
+ran-code {X} v given r =
+    casesOption (λ (t : Result). Refuses (code (t .answer)) → X) (r .lost)
+    (λ n u. elim u [ inl h ↦ absurd (omega (arith, h .0)) | inr h ↦ absurd (omega arith) ])
+    (λ b e u. elim u [ inl h ↦ absurd (omega (arith, h .1)) | inr h ↦ absurd (omega arith) ])
 
 -- refused before a replay could end, or not by a replaying board: the call ends as it began
 kept-run : (b : ℕ) (k : Bank) (Late : Run → Type 0) (t : Result) → ((r : Run) → Late r → boardAt k b .state ≡ Replaying) → Ends b k Late t
-    → 1 ≤ code (t .answer) → code (t .answer) ≤ 7 → (code (t .answer) ≤ 5) ⊎ (boardAt k b .state ≢ Replaying) → t .run ≡ start k
-kept-run b k Late t f (refusedFirst x h i n) p q u = refl
-kept-run b k Late t f (refusedLate x r h i l) p q (inl m) = absurd (omega arith)
-kept-run b k Late t f (refusedLate x r h i l) p q (inr m) = absurd (m (f r l))
-kept-run b k Late t f (ran v r) p q u = ran-code v r p q
+    → Refuses (code (t .answer)) → (code (t .answer) ≤ 5) ⊎ (code (t .answer) ≡ 10) ⊎ (boardAt k b .state ≢ Replaying) → t .run ≡ start k
+kept-run b k Late t f (refusedFirst x h i n) p u = refl
+kept-run b k Late t f (refusedLate x r h i l) p (inl m) = absurd (omega arith)
+kept-run b k Late t f (refusedLate x r h i l) p (inr (inl m)) = absurd (omega arith)
+kept-run b k Late t f (refusedLate x r h i l) p (inr (inr m)) = absurd (m (f r l))
+kept-run b k Late t f (ran v given r) p u = ran-code v given r p
 
 -- refused live though the board was replaying: its replay has ended
 late-run : (b : ℕ) (k : Bank) (Late : Run → Type 0) (t : Result) → Ends b k Late t
     → 6 ≤ code (t .answer) → code (t .answer) ≤ 7 → boardAt k b .state ≡ Replaying → Late (t .run)
-late-run b k Late t (refusedFirst x h i n) p q e = absurd (n p e)
+late-run b k Late t (refusedFirst x h i n) p q e = absurd (n p q e)
 late-run b k Late t (refusedLate x r h i l) p q e = l
-late-run b k Late t (ran v r) p q e = ran-code v r (omega arith) q
+late-run b k Late t (ran v given r) p q e = ran-code v given r (inl (omega arith, q))
 
 late-replaying : (c : Call) (k : Bank) (r : Run) → LateIn c k r → boardAt k (boardNamed c) .state ≡ Replaying
 unfolding OfAccess boardNamed
@@ -77,9 +82,9 @@ of-access (Checkpointing b) f l = l
 of-access (Fusing b n) f l = l
 of-access (Restarting b) f l = l
 
-end-left : (b : ℕ) (a : Access) (k : Bank) (t : Result) → ReplayEnd b a k (t .run) → KeptEnd b a k (replyOf t)
+end-left : (b : ℕ) (k : Bank) (t : Result) → ReplayEnd b k (t .run) → KeptEnd b k (replyOf t)
 unfolding replyOf
-end-left b a k t l =
+end-left b k t l =
     record {
       bytes = ap (λ (r : Run). encode (r .bank)) (l .run);
       stores = ap (λ (r : Run). r .stores) (l .run);
@@ -88,36 +93,36 @@ end-left b a k t l =
 
 -- refused live after the end of its replay, which stays
 pub refusal-after-replay : (c : Call) (s : List ℕ) → 6 ≤ code (answerTo c s) → code (answerTo c s) ≤ 7
-    → boardAt (decode s) (boardNamed c) .state ≡ Replaying → OfAccess (λ b a. KeptEnd b a (decode s) (call c s)) c
+    → boardAt (decode s) (boardNamed c) .state ≡ Replaying → OfAccess (λ b a. KeptEnd b (decode s) (call c s)) c
 unfolding call refused replyOf code
 refusal-after-replay c s =
     let k : Bank = decode s in
     cases
     (λ (y : Reply).
     6 ≤ code (y .outcome .answer) → code (y .outcome .answer) ≤ 7
-    → boardAt k (boardNamed c) .state ≡ Replaying → OfAccess (λ b a. KeptEnd b a k y) c)
+    → boardAt k (boardNamed c) .state ≡ Replaying → OfAccess (λ b a. KeptEnd b k y) c)
     (wellFormed s)
-    (λ w p q e. of-access c (λ b a l. end-left b a k (callBank c k) l) (late-run (boardNamed c) k (LateIn c k) (callBank c k) (call-ended c k) p q e))
+    (λ w p q e. of-access c (λ b a l. end-left b k (callBank c k) l) (late-run (boardNamed c) k (LateIn c k) (callBank c k) (call-ended c k) p q e))
     (λ w p q e. absurd (omega arith))
 
 -- any other refusal
-pub refusal-keeps : (c : Call) (s : List ℕ) → 1 ≤ code (answerTo c s) → code (answerTo c s) ≤ 7
-    → (code (answerTo c s) ≤ 5) ⊎ (boardAt (decode s) (boardNamed c) .state ≢ Replaying) → Kept s (call c s)
+pub refusal-keeps : (c : Call) (s : List ℕ) → Refuses (code (answerTo c s))
+    → (code (answerTo c s) ≤ 5) ⊎ (code (answerTo c s) ≡ 10) ⊎ (boardAt (decode s) (boardNamed c) .state ≢ Replaying) → Kept s (call c s)
 unfolding call refused replyOf start
 refusal-keeps c s =
     let k : Bank = decode s in
     cases
     (λ (y : Reply).
-    1 ≤ code (y .outcome .answer) → code (y .outcome .answer) ≤ 7
-    → (code (y .outcome .answer) ≤ 5) ⊎ (boardAt k (boardNamed c) .state ≢ Replaying) → Kept s y)
+    Refuses (code (y .outcome .answer))
+    → (code (y .outcome .answer) ≤ 5) ⊎ (code (y .outcome .answer) ≡ 10) ⊎ (boardAt k (boardNamed c) .state ≢ Replaying) → Kept s y)
     (wellFormed s)
-    (λ w p q u.
-    let e : callBank c k .run ≡ start k = kept-run (boardNamed c) k (LateIn c k) (callBank c k) (late-replaying c k) (call-ended c k) p q u in
+    (λ w p u.
+    let e : callBank c k .run ≡ start k = kept-run (boardNamed c) k (LateIn c k) (callBank c k) (late-replaying c k) (call-ended c k) p u in
     record {
       bytes = ap (λ (r : Run). encode (r .bank)) e ∙ encode-decode today s w;
       stores = ap (λ (r : Run). r .stores) e;
     })
-    (λ w p q u. record { bytes = refl; stores = refl })
+    (λ w p u. record { bytes = refl; stores = refl })
 
 -- a refused make leaves the buffer untouched
 pub make-refusal-keeps : (boards pages : ℕ) (s : List ℕ) → code (make boards pages s .outcome .answer) ≢ 0 → Kept s (make boards pages s)
@@ -156,8 +161,8 @@ checkpoint-count b r e =
     let s : Run = storeAll b fs r in
     omega (arith, step-stores f s, storeAll-count b fs r (step-none f s e), length-checkpointStores (length (r .bank .directory)))
 
-pub end-stores : (b : ℕ) (a : Access) (k : Bank) → afterReplay b a k .lost ≡ none → afterReplay b a k .stores ≡ length (k .directory) + 2
+pub end-stores : (b : ℕ) (k : Bank) → afterReplay b k .lost ≡ none → afterReplay b k .stores ≡ length (k .directory) + 2
 unfolding afterReplay endReplay settle step start onBoard
-end-stores b a k e =
+end-stores b k e =
     let settle : Bank → Bank = λ j. onBoard b (settled (λ p. eqb (entryAt j p .owner) b)) j in
-    omega (arith, checkpoint-count b (step settle (start (onBoard b (tookDue a) k))) e)
+    omega (arith, checkpoint-count b (step settle (start (onBoard b tookDue k))) e)

@@ -1,5 +1,5 @@
--- Laws of a call in progress and of lists of stores: a lost run is passed on unchanged, only the board that stores is lost, stores only grow, no list of a bank
--- changes its length; and what a run that is not lost leaves of all boards but the one that stored. Assumes nothing.
+-- Laws of a call in progress and of lists of stores: a lost run is passed on unchanged, only the board that stores is lost, stores only grow, no list of a
+-- bank changes its length; and what a run that is not lost leaves of all boards but the one that stored. Assumes nothing.
 pub mod Stores
 use mathlib.Core.Path.{_≡_, refl, sym, ap, _∙_}
 use mathlib.Core.Logic.{_≢_}
@@ -20,7 +20,7 @@ use Rattle.model.specs.Definitions.Layout.{pageSize}
 use Rattle.model.specs.Definitions.Bank.{Board, Bank, boardAt, entryAt, onBoard, onWorking}
 use Rattle.model.specs.Definitions.Steps.{Run, step, powerOff, burnt, store, recorded, note, storeAll, storedRecord, recordStores, flush, storedFrame}
 use Rattle.model.specs.Definitions.Steps.{storedHead, storedSelector, spareStores, checkpointStores, restedWorking, checkpoint, giver, show, frameOf}
-use Rattle.model.specs.Definitions.Steps.{giveCopy, dropCopies, passOwnership, readFetch, writeFetch, fetch}
+use Rattle.model.specs.Definitions.Steps.{giveCopy, dropCopies, passOwnership, showAll, giveCopies, readFetch, writeFetch, fetch}
 use Rattle.model.specs.Definitions.Replay.{settled, endReplay, settle}
 use Rattle.model.specs.Definitions.Calls.{Result, finished}
 use Rattle.model.specs.Laws.Logic.{byOption, cases, casesOption}
@@ -112,9 +112,9 @@ checkpoint-selector b r =
     ap (step (onBoard b (onWorking restedWorking))) (foldl-append (λ s f. store b f s) r (spareStores (length (r .bank .directory))) (storedSelector ∷ []))
 
 -- an answer leaves the run
-pub finished-run : (v : ℕ) (r : Run) → finished v r .run ≡ r
+pub finished-run : (v : ℕ) (given : List ℕ) (r : Run) → finished v given r .run ≡ r
 unfolding finished
-finished-run v r = casesOption (λ (t : Result). t .run ≡ r) (r .lost) (λ n. refl) (λ b e. refl)
+finished-run v given r = casesOption (λ (t : Result). t .run ≡ r) (r .lost) (λ n. refl) (λ b e. refl)
 
 -- ---- what holds of a run and of a later one of the same call
 
@@ -214,11 +214,22 @@ pub follows-show : (o p : ℕ) (r : Run) → Follows r (show o p r)
 unfolding show
 follows-show o p r = follows-note-flush o (Shown p) (λ k. zeros pageSize) r
 
-pub follows-readFetch : (b p : ℕ) (r : Run) → Follows r (readFetch b p r)
-unfolding readFetch
-follows-readFetch b p r =
+pub follows-showAll : (ps : List ℕ) (r : Run) → Follows r (showAll ps r)
+unfolding showAll
+follows-showAll [] r = follows-refl r
+follows-showAll (p ∷ ps) r =
     let o : ℕ = giver (r .bank) p in
-    follows-trans (follows-show o p r) (follows-step (giveCopy o b p) (show o p r) (sizes-giveCopy o b p (show o p r .bank)))
+    follows-trans (follows-show o p r) (follows-showAll ps (show o p r))
+
+pub sizes-giveCopies : (b : ℕ) (ps : List ℕ) (k : Bank) → SameSizes k (giveCopies b ps k)
+unfolding giveCopies
+sizes-giveCopies b [] k = sizes-same k
+sizes-giveCopies b (p ∷ ps) k = let o : ℕ = giver k p in sizes-trans (sizes-giveCopy o b p k) (sizes-giveCopies b ps (giveCopy o b p k))
+
+pub follows-readFetch : (b : ℕ) (ps : List ℕ) (r : Run) → Follows r (readFetch b ps r)
+unfolding readFetch
+follows-readFetch b ps r =
+    follows-trans (follows-showAll ps r) (follows-step (giveCopies b ps) (showAll ps r) (sizes-giveCopies b ps (showAll ps r .bank)))
 
 pub follows-writeFetch : (w p : ℕ) (r : Run) → Follows r (writeFetch w p r)
 unfolding writeFetch
@@ -231,10 +242,11 @@ follows-writeFetch w p r =
     (follows-note-flush w (Got GotOwn p) bytes (show o p r))
     (follows-step (passOwnership o w p) got (sizes-passOwnership o w p (got .bank))))
 
-pub follows-fetch : (g : CopyOrOwn) (b p : ℕ) (r : Run) → Follows r (fetch g b p r)
+pub follows-fetch : (g : CopyOrOwn) (b : ℕ) (ps : List ℕ) (r : Run) → Follows r (fetch g b ps r)
 unfolding fetch
-follows-fetch GotCopy b p r = follows-readFetch b p r
-follows-fetch GotOwn b p r = follows-writeFetch b p r
+follows-fetch GotCopy b ps r = follows-readFetch b ps r
+follows-fetch GotOwn b [] r = follows-refl r
+follows-fetch GotOwn b (p ∷ ps) r = follows-trans (follows-writeFetch b p r) (follows-fetch GotOwn b ps (writeFetch b p r))
 
 pub follows-endReplay : (b : ℕ) (r : Run) → Follows r (endReplay b r)
 unfolding endReplay settle

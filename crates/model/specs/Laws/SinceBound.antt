@@ -26,12 +26,12 @@ use Rattle.model.specs.Definitions.WellFormed.{isReplaying}
 use Rattle.model.specs.Definitions.Steps.{Run, start, step, poweredOff, powerOff, withFuse, fuseBoard, burnt, store, storeAll, recorded, note}
 use Rattle.model.specs.Definitions.Steps.{storedRecord}
 use Rattle.model.specs.Definitions.Steps.{movedRecord, flush, storedFrame, storedHead, storedSelector, checkpointStores}
-use Rattle.model.specs.Definitions.Steps.{restedWorking, checkpoint, Access, pageNamed, takes, accessed, access, frameOf, giver, show, giveCopy}
-use Rattle.model.specs.Definitions.Steps.{dropped, withFrame, dropAt, dropCopies, passOwnership, readFetch, writeFetch, fetch}
+use Rattle.model.specs.Definitions.Steps.{restedWorking, checkpoint, Access, takes, accessed, access, frameOf, giver, show, giveCopy}
+use Rattle.model.specs.Definitions.Steps.{dropped, withFrame, dropAt, dropCopies, passOwnership, showAll, giveCopies, readFetch, writeFetch, fetch}
 use Rattle.model.specs.Definitions.Replay.{loaded, used, useUp, usedUp, restarted, tookDue, replayOver, settled, settle, endReplay, endIfOver, replayed}
-use Rattle.model.specs.Definitions.Calls.{Result, firstOf, unless, finished, countersFull, lackingOf, copiesOut, liveRefusals, prepared, performed, live}
-use Rattle.model.specs.Definitions.Calls.{liveAfterEnd, replaying, refusalsWithin, accessWithin, checkpointBank, fuseBank, restartBank, Call, Accessing}
-use Rattle.model.specs.Definitions.Calls.{Checkpointing, Fusing, Restarting, callWithin}
+use Rattle.model.specs.Definitions.Calls.{Result, firstOf, unless, finished, countersFull, pageWritten, copiesOut, lackingOf, pagesLacking, liveRefusals}
+use Rattle.model.specs.Definitions.Calls.{prepared, performed, live, liveAfterEnd, replaying, refusalsWithin, accessWithin, checkpointBank, fuseBank}
+use Rattle.model.specs.Definitions.Calls.{restartBank, Call, Accessing, Checkpointing, Fusing, Restarting, callWithin}
 use Rattle.model.specs.Laws.Logic.{cases, casesOption, byEq}
 use Rattle.model.specs.Laws.Boards.{storedRecord-cases, boardAt-out, byBoard, boardAt-same, boardAt-other, onBoard-out, boardAt-onEntry}
 use Rattle.model.specs.Laws.Boards.{boards-dropAt, droppedIf, boardAt-dropAt}
@@ -86,8 +86,8 @@ quiet-restarted : Quiet restarted
 unfolding loaded
 quiet-restarted x = omega (arith, quiet-usedUp (loaded x))
 
-quiet-tookDue : (a : Access) → Quiet (tookDue a)
-quiet-tookDue a x = tookDue-took a x .since
+quiet-tookDue : Quiet tookDue
+quiet-tookDue x = tookDue-took x .since
 
 quiet-withFrame : (p : ℕ) (f : Frame) → Quiet (withFrame p f)
 unfolding withFrame onWorking onFrames
@@ -179,13 +179,19 @@ module _ (bound : ℕ → ℕ) where
   unfolding passOwnership
   within-passOwnership o w p k h = within-onEntry p _ _ (within-onBoard w (withFrame p _) _ (quiet-withFrame p _) (within-dropAt _ p k h))
 
-  within-fetch : (g : CopyOrOwn) (b p : ℕ) (r : Run) → Within (r .bank) → Within (fetch g b p r .bank)
-  unfolding fetch readFetch writeFetch
-  within-fetch GotCopy b p r h =
-      let o : ℕ = giver (r .bank) p in
-      let w : Within (show o p r .bank) = within-show o p r h in
-      within-step _ (show o p r) w (within-giveCopy o b p _ w)
-  within-fetch GotOwn b p r h =
+  within-showAll : (ps : List ℕ) (r : Run) → Within (r .bank) → Within (showAll ps r .bank)
+  unfolding showAll
+  within-showAll [] r h = h
+  within-showAll (p ∷ ps) r h = let o : ℕ = giver (r .bank) p in within-showAll ps (show o p r) (within-show o p r h)
+
+  within-giveCopies : (b : ℕ) (ps : List ℕ) (k : Bank) → Within k → Within (giveCopies b ps k)
+  unfolding giveCopies
+  within-giveCopies b [] k h = h
+  within-giveCopies b (p ∷ ps) k h = let o : ℕ = giver k p in within-giveCopies b ps (giveCopy o b p k) (within-giveCopy o b p k h)
+
+  within-writeFetch : (b p : ℕ) (r : Run) → Within (r .bank) → Within (writeFetch b p r .bank)
+  unfolding writeFetch
+  within-writeFetch b p r h =
       let o : ℕ = giver (r .bank) p in
       let s : Run = show o p r in
       let w : Within (s .bank) = within-show o p r h in
@@ -194,14 +200,22 @@ module _ (bound : ℕ → ℕ) where
       within-flush b t (within-step _ s w (within-note b (Got GotOwn p) (frameOf (s .bank) o p .bytes) (s .bank) w)) in
       within-step _ (flush b t) v (within-passOwnership o b p _ v)
 
+  within-fetch : (g : CopyOrOwn) (b : ℕ) (ps : List ℕ) (r : Run) → Within (r .bank) → Within (fetch g b ps r .bank)
+  unfolding fetch readFetch
+  within-fetch GotCopy b ps r h =
+      let w : Within (showAll ps r .bank) = within-showAll ps r h in
+      within-step (giveCopies b ps) (showAll ps r) w (within-giveCopies b ps _ w)
+  within-fetch GotOwn b [] r h = h
+  within-fetch GotOwn b (p ∷ ps) r h = within-fetch GotOwn b ps (writeFetch b p r) (within-writeFetch b p r h)
+
   within-prepared : (b : ℕ) (a : Access) (r : Run) → Within (r .bank) → Within (prepared b a r .bank)
   unfolding prepared
   within-prepared b a r h =
       cases (λ (s : Run). Within (s .bank)) (lackingOf b a (r .bank))
-      (λ t. within-fetch (takes a) b (pageNamed a) r h)
+      (λ t. within-fetch (takes a) b (pagesLacking b a (r .bank)) r h)
       (λ t.
       cases (λ (s : Run). Within (s .bank)) (copiesOut a (r .bank))
-      (λ u. within-step _ r h (within-dropCopies (pageNamed a) (r .bank) h))
+      (λ u. within-step _ r h (within-dropCopies (pageWritten a) (r .bank) h))
       (λ u. h))
 
   -- ---- a replay's end
@@ -228,8 +242,8 @@ atMost-unless : (m : ℕ) (tests : List (Bool × Answer)) (r : Run) (go : Result
 unfolding unless
 atMost-unless m tests r go h g = casesOption (λ (t : Result). AtMost m (t .run .bank)) (firstOf tests) g (λ a e. h)
 
-atMost-finished : (m v : ℕ) (r : Run) → AtMost m (r .bank) → AtMost m (finished v r .run .bank)
-atMost-finished m v r h = rw (finished-run v r) h
+atMost-finished : (m v : ℕ) (given : List ℕ) (r : Run) → AtMost m (r .bank) → AtMost m (finished v given r .run .bank)
+atMost-finished m v given r h = rw (finished-run v given r) h
 
 module _ (m b : ℕ) (some : 0 < m) where
   abbrev Lower : Bank → Type 0
@@ -257,7 +271,7 @@ module _ (m b : ℕ) (some : 0 < m) where
   lower-performed : (a : Access) (r : Run) → Lower (r .bank) → AtMost m (performed b a r .run .bank)
   unfolding performed access onWorking accessed
   lower-performed a r h =
-      atMost-finished m _ (step (access b a) r)
+      atMost-finished m _ _ (step (access b a) r)
       (within-step (λ c. m) (access b a) r (from-lower (r .bank) h)
       (within-changed (λ c. m) b (onWorking (accessed a)) (r .bank) (from-lower (r .bank) h) (room (r .bank) h)))
 
@@ -270,8 +284,8 @@ module _ (m b : ℕ) (some : 0 < m) where
   lower-replaying : (a : Access) (k : Bank) → Lower k → AtMost m (replaying b a k .run .bank)
   unfolding replaying liveAfterEnd start replayed onWorking accessed
   lower-replaying a k h =
-      let taken : Bank = onBoard b (tookDue a) k in
-      let w : Lower taken = within-onBoard (lowered m b) b (tookDue a) k (quiet-tookDue a) h in
+      let taken : Bank = onBoard b tookDue k in
+      let w : Lower taken = within-onBoard (lowered m b) b tookDue k quiet-tookDue h in
       let ended : Run = endReplay b (start taken) in
       let v : Lower (ended .bank) = within-endReplay (lowered m b) b (start taken) w in
       cases (λ (t : Result). AtMost m (t .run .bank)) (replayOver (boardAt taken b))
@@ -280,7 +294,7 @@ module _ (m b : ℕ) (some : 0 < m) where
       (λ n. lower-live a ended v)
       (λ c e. from-lower (ended .bank) v))
       (λ t.
-      atMost-finished m _ (endIfOver b (start (onBoard b (replayed a) taken)))
+      atMost-finished m _ _ (endIfOver b (start (onBoard b (replayed a) taken)))
       (within-endIfOver (λ c. m) b (start (onBoard b (replayed a) taken))
       (within-changed (λ c. m) b (replayed a) taken (from-lower taken w)
       (omega (arith, quiet-usedUp (onWorking (accessed a) (boardAt taken b)), room taken w)))))
@@ -290,8 +304,8 @@ unfolding accessWithin refusalsWithin countersFull start
 atMost-access m b a k h =
     atMost-unless m (refusalsWithin m b a k) (start k) _ h
     (λ e.
-    let three = firstOf-none _ _ _ (firstOf-none _ _ _ (firstOf-none _ _ _ e .rest) .rest) in
-    let free : boardAt k b .working .since ≢ m = eqb-false (boardAt k b .working .since) m (or-none _ _ (three .here) .0) in
+    let four = firstOf-none _ _ _ (firstOf-none _ _ _ (firstOf-none _ _ _ (firstOf-none _ _ _ e .rest) .rest) .rest) in
+    let free : boardAt k b .working .since ≢ m = eqb-false (boardAt k b .working .since) m (or-none _ _ (four .here) .0) in
     let some : 0 < m = omega (arith, h b, free) in
     let w : Within (lowered m b) k = to-lower m b some k h free in
     cases (λ (t : Result). AtMost m (t .run .bank)) (isReplaying (boardAt k b .state))
@@ -308,13 +322,13 @@ pub call-atMost : (m : ℕ) (c : Call) (k : Bank) → AtMost m k → AtMost m (c
 unfolding callWithin checkpointBank fuseBank restartBank start
 call-atMost m (Accessing b a) k h = atMost-access m b a k h
 call-atMost m (Checkpointing b) k h =
-    atMost-unless m _ (start k) _ h (λ e. atMost-finished m 0 (checkpoint b (start k)) (within-checkpoint (λ c. m) b (start k) h))
+    atMost-unless m _ (start k) _ h (λ e. atMost-finished m 0 [] (checkpoint b (start k)) (within-checkpoint (λ c. m) b (start k) h))
 call-atMost m (Fusing b n) k h =
     atMost-unless m _ (start k) _ h
-    (λ e. atMost-finished m 0 (step (fuseBoard b n) (start k)) (within-step (λ c. m) (fuseBoard b n) (start k) h (atMost-fuse m b n k h)))
+    (λ e. atMost-finished m 0 [] (step (fuseBoard b n) (start k)) (within-step (λ c. m) (fuseBoard b n) (start k) h (atMost-fuse m b n k h)))
 call-atMost m (Restarting b) k h =
     let j : Bank = onBoard b restarted k in
     atMost-unless m _ (start k) _ h
     (λ e.
-    atMost-finished m _ (endIfOver b (start j))
+    atMost-finished m _ _ (endIfOver b (start j))
     (within-endIfOver (λ c. m) b (start j) (within-onBoard (λ c. m) b restarted k quiet-restarted h)))

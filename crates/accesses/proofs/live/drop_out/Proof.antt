@@ -1,6 +1,6 @@
 -- `accesses::live::drop_out` meets its contract: the ones of the copy-set are counted. Assumes nothing.
 use Rattle.accesses.specs.Prepared.{out-none, out-some, copies-none, copies-some}
-use Rattle.accesses.specs.Directory.{entry-at, entry-told}
+use Rattle.exchange.specs.Directory.{entry-at, entry-told}
 use Rattle.exchange.specs.Banks.{of-holds}
 use Rattle.model.specs.Definitions.Codec.{decode}
 use Rattle.model.specs.Definitions.Bank.{Entry}

@@ -1,86 +1,71 @@
 -- `accesses::live::live_verdict` meets its contract: code 6, then code 7. Assumes nothing.
-use Rattle.accesses.specs.Prepared.{refuses-owner, refuses-short, refuses-none}
-use Rattle.accesses.specs.Directory as directory
-use Rattle.accesses.specs.Results.{refusal}
-use Rattle.accesses.specs.Asks.{asked}
-use Rattle.steps.specs.Access.{named-page}
-use Rattle.model.specs.Laws.Keeps.Rights.{entry-at}
-use Rattle.model.specs.Definitions.Steps.{pageNamed, giver}
-use Rattle.model.specs.Definitions.Codec.{decode}
-use Rattle.model.specs.Definitions.Bank.{Entry, entryAt}
-use lib.ListN.{length}
+use mathlib.Core.Path.{subst, _∙_}
+use Prim.Native.Nat.{ℕ}
 use native.Mathlib.Omega.{arith}
-use Prim.Native.Nat.{_<_}
-use mathlib.Core.Path.{_≡_, sym, ap, _∙_}
+use borrow.Author.Tests.{not-true}
+use Rattle.model.specs.Definitions.Codec.{decode}
+use Rattle.exchange.specs.Directory.{entry-at, giver-told}
+use Rattle.accesses.specs.Asks.{Lacking}
+use Rattle.accesses.specs.Results.{refusal}
+use Rattle.accesses.specs.Prepared.{refuses-owner, refuses-short, refuses-none, passes-idle}
 use borrow.Author.Needs.{needs}
 use Rattle.accesses.proofs.live.live_verdict.Statement.{statement}
 use Rattle.accesses.proofs.live.live_verdict.Tie as tie
 
--- the owner that the directory names
-owner-read : (c : tie.After-read-owner) → c .read-owner .result
-    ≡ entryAt (decode (c .before .before .before .args .bank .now)) (c .before .before .before .args .ask .page) .owner
-owner-read c = c .read-owner .ensures ∙ ap (λ (e : Entry). e .owner)
-    (directory.entry-told (c .before .before .before .pre .bank) _ (c .before .before .before .pre .page))
-
-owner-named : (c : tie.After-read-owner)
-    → c .read-owner .result ≡ giver (decode (c .before .before .before .args .bank .now)) (pageNamed (asked (c .before .before .before .args .ask)))
-unfolding giver
-owner-named c = let q = c .before .before .before .args .ask in rw (named-page (q .writes) (q .page) (q .offset) (q .value)) (owner-read c)
-
-owner-in : (c : tie.After-read-owner) → c .read-owner .result < length (decode (c .before .before .before .args .bank .now) .boards)
-owner-in c = let start = c .before .before .before
-    in rw (owner-read c) (entry-at (start .pre .formed) _ (rw (start .pre .bank .count) at (start .pre .page)) .owner)
-
-board-lacks-requires : tie.Need-board-lacks-requires
-board-lacks-requires c κs = search needs
-
-read-owner-requires : tie.Need-read-owner-requires
-read-owner-requires c κs = directory.entry-at (c .before .before .pre .bank) _ (c .before .before .pre .page)
-
-cast-owner-missing : tie.Need-cast-owner-missing
-cast-owner-missing c = search needs
-
-owner-missing-requires : tie.Need-owner-missing-requires
-owner-missing-requires c κs = directory.of-board (c .before .before .before .pre .bank) _ (owner-in c)
-
 returns : tie.Need-returns
 unfolding refusal
 returns c =
-    let read = c .before .before in
-    refuses-owner _ _ _ _ _ (read .before .board-lacks .ensures) (owner-named read) (sym (c .before .owner-missing .ensures) ∙ c .if1 .taken)
+    let start = c .before .before .before in
+    λ a l.
+    passes-idle (subst (λ (n : ℕ). Lacking (start .args .pages) a (start .args .ask) n (decode (start .args .bank .now))) (c .before .if1 .taken) l)
+    (start .pre .0 .bank .count) (start .pre .0 .formed) (not-true (start .args .ask .writes) (c .if2 .taken))
 
-short-board-requires : tie.Need-short-board-requires
-short-board-requires c κs = search needs
+missing-page-requires : tie.Need-missing-page-requires
+missing-page-requires c κs = search needs
 
-cast-t12 : tie.Need-cast-t12
-cast-t12 c = search needs
+read-owner-requires : tie.Need-read-owner-requires
+read-owner-requires c κs = entry-at (c .before .before .before .before .pre .0 .bank) _ (c .if3 .taken)
 
 returns-2 : tie.Need-returns-2
 unfolding refusal
 returns-2 c =
-    let read = c .before .before .before .before in
-    refuses-short _ _ _ _ _ (read .before .board-lacks .ensures)
-    (owner-named read) _ _ (sym (c .before .before .before .owner-missing .ensures) ∙ c .before .before .if1 .left) (c .if2 .taken)
-    (c .before .short-board .ensures .0)
+    let start = c .before .before .before .before .before in
+    let inside = c .before .if3 .taken in
+    λ a l.
+    refuses-owner l (start .pre .0 .bank .count) _ (c .before .before .missing-page .ensures .0) _
+    (c .read-owner .ensures ∙ giver-told (start .pre .0 .bank) _ inside) inside
+
+short-board-requires : tie.Need-short-board-requires
+short-board-requires c κs = search needs
+
+cast-t13 : tie.Need-cast-t13
+cast-t13 c = search needs
 
 returns-3 : tie.Need-returns-3
 unfolding refusal
 returns-3 c =
-    let read = c .before .before .before .before in
-    refuses-none _ _ _ _ _ (read .before .board-lacks .ensures)
-    (owner-named read) _ _ (sym (c .before .before .before .owner-missing .ensures) ∙ c .before .before .if1 .left) (omega arith)
-    (c .before .short-board .ensures .0)
+    let start = c .before .before .before .before .before .before in
+    λ a l.
+    refuses-short l (start .pre .0 .bank .count) _ (c .before .before .before .missing-page .ensures .0) (omega arith) _ _ (c .if4 .taken)
+    (c .before .short-board .ensures .0 a l)
+
+returns-4 : tie.Need-returns-4
+unfolding refusal
+returns-4 c =
+    let start = c .before .before .before .before .before .before in
+    λ a l.
+    refuses-none l (start .pre .0 .bank .count) _ (c .before .before .before .missing-page .ensures .0) (omega arith) _ _ (omega arith)
+    (c .before .short-board .ensures .0 a l)
 
 pub live-verdict-spec : {M : Type 1} → statement M
 live-verdict-spec =
     tie.close
     (tie.spec
-    board-lacks-requires
-    read-owner-requires
-    cast-owner-missing
-    owner-missing-requires
     returns
-    short-board-requires
-    cast-t12
+    missing-page-requires
+    read-owner-requires
     returns-2
-    returns-3)
+    short-board-requires
+    cast-t13
+    returns-3
+    returns-4)

@@ -1,32 +1,70 @@
 -- `accesses::replaying::replay` meets its contract: goes on live, is the last one repeated, or is repeated. Assumes nothing.
-use Rattle.accesses.specs.Repeated.{repeated-live, repeated-last, replaying-live, replaying-last, replaying-going, finished-ended}
-use Rattle.accesses.specs.BlockReplay.{replayedBoard, replayedTo}
-use Rattle.accesses.specs.Asks.{asked}
-use Rattle.accesses.specs.declared.blocks.Replayed.the-variants.{Live, Last, Going}
-use Rattle.exchange.specs.Progress.{running}
-use Rattle.exchange.specs.Banks.{OfBank, holds-decode, holds-of}
-use Rattle.model.specs.Laws.Keeps.Entered.{taken-inReplay, live-can, replayed-keeps}
-use Rattle.model.specs.Laws.Boards.{boards-onBoard, directory-onBoard}
-use Rattle.model.specs.Definitions.Replay.{endReplay}
-use Rattle.model.specs.Definitions.Steps.{Run, start}
-use Rattle.model.specs.Definitions.Codec.{decode}
-use Rattle.model.specs.Definitions.Bank.{Bank, boardAt}
-use lib.ListN.{length}
+use mathlib.Core.Path.{_≡_, sym, ap, _∙_}
 use native.Mathlib.Omega.{arith}
-use mathlib.Core.Path.{_≡_, refl, sym, ap, _∙_}
+use mathlib.Core.List.{List, map}
+use lib.ListN.{length}
+use Rattle.accesses.specs.declared.blocks.Replayed.the-variants.{Live}
+use Rattle.model.specs.Definitions.Bank.{Bank, boardAt, onBoard}
+use Rattle.model.specs.Definitions.Codec.{decode}
+use Rattle.model.specs.Definitions.Steps.{start, Cell, Access, cellByte, readFrom}
+use Rattle.model.specs.Definitions.Replay.{tookDue}
+use Rattle.model.specs.Laws.Boards.{boards-onBoard, directory-onBoard}
+use Rattle.model.specs.Laws.Keeps.Entered.{taken-inReplay, live-can, replayed-keeps}
+use Rattle.exchange.specs.Banks.{Holds, OfBank, holds-decode, holds-of}
+use Rattle.accesses.specs.Asks.{GoesOn, Enters}
+use Rattle.accesses.specs.BlockReplay.{Repeats, replayedBoard, replayedTo}
+use Rattle.accesses.specs.Repeated.{frames, last-over, going-on, repeated-live, repeated-on, replaying-live, replaying-last, replaying-going}
+use Rattle.accesses.specs.Repeated.{answered-repeated, answered-ended}
+use Prim.Native.Nat.{ℕ}
+use Rattle.accesses.specs.declared.ask.Ask.{Ask}
 use borrow.Author.Needs.{needs}
 use Rattle.accesses.proofs.replaying.replay.Statement.{statement}
 use Rattle.accesses.proofs.replaying.replay.Tie as tie
 
--- the bank after the board's block went through the access
-after-of : (c : tie.After-replay-at) → OfBank (c .before .before .before .args .pages) (c .before .before .before .args .ask .board) (c .replay-at .last .0)
+-- what the board's block asks of an access
+repeats : {pages : ℕ} {a : Access} {q : Ask} {k : Bank} → Enters pages a q k → Repeats a (boardAt k (q .board))
+repeats h = record { number = h .entered .number; since = h .entered .since; fits = h .fits }
+
+-- where the function began: the bank, and an access that enters it
+abbrev at-start : tie.After-replay-at → tie.Start
+at-start c = c .before .before .before .before .before .before
+
+abbrev bank-at : tie.After-replay-at → Bank
+bank-at c = decode (at-start c .args .bank .now)
+
+abbrev EntersAt : tie.After-replay-at → Access → Type 0
+EntersAt c a = Enters (at-start c .args .pages) a (at-start c .args .ask) (bank-at c)
+
+-- how far it came, and the bank after the board's block went through the access
+told : (c : tie.After-replay-at) (a : Access) → EntersAt c a
+    → (c .replay-at .result ≡ replayedTo a (boardAt (bank-at c) (at-start c .args .ask .board)))
+    × Holds (c .replay-at .last .0) (onBoard (at-start c .args .ask .board) (replayedBoard a) (bank-at c))
+told c a h = c .replay-at .ensures .1 a (h .stands) (repeats h)
+
+after-of : (c : tie.After-replay-at) → OfBank (at-start c .args .pages) (at-start c .args .ask .board) (c .replay-at .last .0)
 after-of c =
-    let from = c .before .before .before in
-    let q = from .args .ask in
-    let k : Bank = decode (from .args .bank .now) in
-    holds-of (c .replay-at .ensures .1) (from .args .pages) (q .board)
-    (from .pre .0 .bank .count ∙ sym (ap length (directory-onBoard (q .board) (replayedBoard (asked q)) k)))
-    (rw (boards-onBoard (q .board) (replayedBoard (asked q)) k) (from .pre .0 .bank .board))
+    let from = at-start c in
+    let b = from .args .ask .board in
+    let a = from .pre .3 .0 in
+    holds-of (told c a (from .pre .3 .1) .1) (from .args .pages) b
+    (from .pre .0 .bank .count ∙ sym (ap length (directory-onBoard b (replayedBoard a) (bank-at c))))
+    (rw (boards-onBoard b (replayedBoard a) (bank-at c)) (from .pre .0 .bank .board))
+
+-- with no record left, the access goes on live there
+live-bank : (c : tie.After-replay-at) (a : Access) → EntersAt c a → Live ≡ replayedTo a (boardAt (bank-at c) (at-start c .args .ask .board))
+    → decode (c .replay-at .last .0) ≡ onBoard (at-start c .args .ask .board) tookDue (bank-at c)
+live-bank c a h e = holds-decode (told c a h .1) ∙ repeated-live (at-start c .args .ask .board) a (bank-at c) (at-start c .pre .0 .bank .board) e
+
+goes-on : (c : tie.After-replay-at) (a : Access) → EntersAt c a → Live ≡ replayedTo a (boardAt (bank-at c) (at-start c .args .ask .board))
+    → GoesOn (at-start c .args .pages) a (at-start c .args .ask) (decode (c .replay-at .last .0))
+unfolding start
+goes-on c a h e =
+    let from = at-start c in
+    rw (live-bank c a h e)
+    (record {
+      stands = h .stands;
+      can = live-can (from .args .ask .board) a (bank-at c) (from .pre .0 .formed) (h .entered) (from .pre .2) (h .fits);
+    })
 
 replay-at-requires : tie.Need-replay-at-requires
 replay-at-requires c κs = search needs
@@ -35,99 +73,100 @@ enum-told : tie.Need-enum-told
 enum-told c = search needs
 
 go-on-live-requires : tie.Need-go-on-live-requires
-unfolding start
 go-on-live-requires c κs =
-    let from = c .before .before .before .before .before .before .before .before in
-    let q = from .args .ask in
+    let at = c .before .before .before .before .before .before .before .before in
+    let from = at-start at in
+    let b = from .args .ask .board in
     let asks = from .pre .0 in
-    let k : Bank = decode (from .args .bank .now) in
-    let at = c .before .before .before .before .before in
-    let e : Live ≡ replayedTo (asked q) (boardAt k (q .board)) = cc (at .replay-at .ensures .0) in
-    let d = holds-decode (at .replay-at .ensures .1) ∙ repeated-live (q .board) (asked q) k (asks .bank .board) e in (
+    let a = from .pre .3 .0 in
+    let h = from .pre .3 .1 in
+    let e = sym (c .before .before .enum-told .given .1) ∙ told at a h .0 in (
       after-of at,
-      rw d (asks .count ∙ sym (boards-onBoard (q .board) _ k)),
-      asks .page,
-      asks .offset,
-      rw d (taken-inReplay (q .board) (asked q) k (asks .formed) (from .pre .1) (from .pre .2) (from .pre .3)),
-      rw d (live-can (q .board) (asked q) k (asks .formed) (from .pre .1) (from .pre .2) (from .pre .3)),
+      rw (live-bank at a h e) (asks .count ∙ sym (boards-onBoard b _ (bank-at at))),
+      rw (at .replay-at .kept .1 .1 .1 .1 .0) (from .pre .1),
+      rw (live-bank at a h e) (taken-inReplay b a (bank-at at) (asks .formed) (h .entered) (from .pre .2) (h .fits)),
+      (a, goes-on at a h e),
     )
 
-enum-known-replayed : tie.Need-enum-known-replayed
-enum-known-replayed c = search needs
+enum-told-2 : tie.Need-enum-told-2
+enum-told-2 c = search needs
 
 end-replay-requires : tie.Need-end-replay-requires
 end-replay-requires c κs =
-    let from = c .before .before .before .before .before .before .before .before .before in
-    let q = from .args .ask in
+    let at = c .before .before .before .before .before .before .before in
+    let from = at-start at in
+    let b = from .args .ask .board in
     let asks = from .pre .0 in
-    let k : Bank = decode (from .args .bank .now) in
-    let at = c .before .before .before .before .before .before in
-    let e : Last (c .before .before .replayed .given .0 .0) ≡ replayedTo (asked q) (boardAt k (q .board)) = cc (at .replay-at .ensures .0) in
-    let d = holds-decode (at .replay-at .ensures .1) ∙ repeated-last (q .board) (asked q) k (asks .bank .board) _ e in
-    (after-of at, rw d (replayed-keeps (q .board) (asked q) k (asks .formed) (from .pre .1) (from .pre .2) (from .pre .3)))
-
-cast-ended : tie.Need-cast-ended
-cast-ended c = search needs
+    let a = from .pre .3 .0 in
+    let h = from .pre .3 .1 in
+    let m = last-over b a (bank-at at) (asks .bank .board) (sym (c .before .enum-told2 .given .1) ∙ told at a h .0) .on in
+    let d = holds-decode (told at a h .1) ∙ repeated-on b a (bank-at at) (asks .bank .board) m in
+    (after-of at, rw d (replayed-keeps b a (bank-at at) (asks .formed) (h .entered) (from .pre .2) (h .fits) m))
 
 ended-requires : tie.Need-ended-requires
 ended-requires c κs = search needs
 
-enum-known-replayed-2 : tie.Need-enum-known-replayed-2
-enum-known-replayed-2 c = search needs
-
-cast-t18 : tie.Need-cast-t18
-cast-t18 c = search needs
+enum-told-3 : tie.Need-enum-told-3
+enum-told-3 c = search needs
 
 same-length : tie.Need-same-length
 same-length c = search needs
 
-returns : tie.Need-returns
-returns c =
-    let from = c .before .before .before .before .before .before .before .before .before .before .before in
-    let q = from .args .ask in
-    let k : Bank = decode (from .args .bank .now) in
-    let at = c .before .before .before .before .before .before .before .before in
-    let went = c .before .before .go-on-live .ensures in
-    let e : Live ≡ replayedTo (asked q) (boardAt k (q .board)) = cc (at .replay-at .ensures .0) in
-    (rw (← replaying-live (q .board) (asked q) k (from .pre .0 .bank .board) e, ← holds-decode (at .replay-at .ensures .1)) (went .0), went .1)
-
 same-length-2 : tie.Need-same-length-2
 same-length-2 c = search needs
 
-returns-2 : tie.Need-returns-2
-returns-2 c =
-    let from = c .before .before .before .before .before .before .before .before .before .before .before .before .before in
-    let q = from .args .ask in
-    let k : Bank = decode (from .args .bank .now) in
-    let at = c .before .before .before .before .before .before .before .before .before .before in
-    let v = c .before .before .before .before .before .before .replayed .given .0 .0 in
-    let e : Last v ≡ replayedTo (asked q) (boardAt k (q .board)) = cc (at .replay-at .ensures .0) in
-    let made = c .before .before .before .end-replay .ensures in
-    let came = made .0 0 in
-    let said = c .ended .ensures in
-    let r : Run = endReplay (q .board) (running 0 (decode (at .replay-at .last .0))) in (
-      rw (
-        ← replaying-last (q .board) (asked q) k (from .pre .0 .bank .board) v e,
-        ← holds-decode (at .replay-at .ensures .1),
-        ← finished-ended v (q .board) (c .before .before .before .end-replay .result .lost) r (came .lost),
-      )
-          (record { bytes = came .bytes; answer = said .0; stores = omega (arith, said .1, came .stores) }),
-      omega (arith, said .1, made .1),
+returns : tie.Need-returns
+returns c =
+    let at = c .before .before .before .before .before .before .before .before .before .before .before .before .before in
+    let b = at-start at .args .ask .board in
+    let went = c .before .before .before .before .go-on-live .ensures in (
+      λ a h read.
+          let e = sym (c .before .before .before .before .before .before .before .enum-told .given .1) ∙ told at a h .0 in
+          rw (← replaying-live b a (bank-at at) (at-start at .pre .0 .bank .board) e, ← holds-decode (told at a h .1))
+          (went .0 a (goes-on at a h e) read),
+      went .1,
     )
 
 same-length-3 : tie.Need-same-length-3
 same-length-3 c = search needs
 
+same-length-4 : tie.Need-same-length-4
+same-length-4 c = search needs
+
+returns-2 : tie.Need-returns-2
+unfolding readFrom
+returns-2 c =
+    let at = c .before .before .before .before .before .before .before .before .before .before .before in
+    let b = at-start at .args .ask .board in
+    let below = at-start at .pre .0 .bank .board in
+    let made = c .before .before .before .end-replay in
+    let said = c .ended .ensures in (
+      λ a h read.
+          let e = sym (c .before .before .before .before .before .enum-told2 .given .1) ∙ told at a h .0 in
+          let fs = frames b a (bank-at at) below in
+          let bytes = at .replay-at .ensures .0 (last-over b a (bank-at at) below e .on) ∙ ap (λ (cs : List Cell). map (cellByte fs) cs) (sym read) in
+          rw (← replaying-last b a (bank-at at) below e, ← holds-decode (told at a h .1))
+          (answered-ended a fs bytes (c .ended .result) b (made .result .lost) _ _ (made .ensures .0 0) (said .0) (said .1)),
+      omega (arith, said .1, made .ensures .1),
+    )
+
+same-length-5 : tie.Need-same-length-5
+same-length-5 c = search needs
+
+same-length-6 : tie.Need-same-length-6
+same-length-6 c = search needs
+
 returns-3 : tie.Need-returns-3
+unfolding readFrom
 returns-3 c =
-    let from = c .before .before .before .before .before .before .before .before in
-    let q = from .args .ask in
-    let k : Bank = decode (from .args .bank .now) in
-    let at = c .before .before .before .before .before in
-    let v = c .before .replayed2 .given .0 .0 in
-    let e : Going v ≡ replayedTo (asked q) (boardAt k (q .board)) = cc (at .replay-at .ensures .0) in (
-      rw (← replaying-going (q .board) (asked q) k (from .pre .0 .bank .board) v e)
-          (record { bytes = at .replay-at .ensures .1 .bytes; answer = refl; stores = omega arith }),
+    let at = c .before .before .before .before .before .before in
+    let b = at-start at .args .ask .board in
+    let below = at-start at .pre .0 .bank .board in (
+      λ a h read.
+          let e = sym (c .enum-told3 .given .1) ∙ told at a h .0 in
+          let fs = frames b a (bank-at at) below in
+          let bytes = at .replay-at .ensures .0 (going-on b a (bank-at at) below e .on) ∙ ap (λ (cs : List Cell). map (cellByte fs) cs) (sym read) in
+          rw (← replaying-going b a (bank-at at) below e) (answered-repeated a fs bytes _ (told at a h .1 .bytes)),
       omega arith,
     )
 
@@ -138,15 +177,16 @@ replay-spec =
     replay-at-requires
     enum-told
     go-on-live-requires
-    enum-known-replayed
+    enum-told-2
     end-replay-requires
-    cast-ended
     ended-requires
-    enum-known-replayed-2
-    cast-t18
+    enum-told-3
     same-length
-    returns
     same-length-2
-    returns-2
+    returns
     same-length-3
+    same-length-4
+    returns-2
+    same-length-5
+    same-length-6
     returns-3)

@@ -1,20 +1,20 @@
 -- `accesses::replaying::replay_at` meets its contract: the access is repeated on the board's block, which is lent. Assumes nothing.
-use Rattle.accesses.specs.BlockReplay.{replayedBoard, replayedTo, replayed-fields}
-use Rattle.accesses.specs.Asks.{asked}
-use Rattle.exchange.specs.Banks.{lent-of, lent-holds}
-use Rattle.steps.specs.BankBlocks.{LentBlock, lent-in, lent-fields, lent-block, lent-board}
-use Rattle.model.specs.Definitions.Codec.{decode}
-use native.Mathlib.Omega.{arith}
 use mathlib.Core.Path.{ap, _∙_}
+use native.Mathlib.Omega.{arith}
+use Rattle.model.specs.Definitions.Codec.{decode}
+use Rattle.steps.specs.BankBlocks.{LentBlock, lent-in, lent-fields, lent-block, lent-board}
+use Rattle.exchange.specs.Banks.{lent-of, lent-holds}
+use Rattle.accesses.specs.BlockReplay.{replayedBoard, replayedTo, replayed-fields}
 use borrow.Author.Needs.{needs}
 use Rattle.accesses.proofs.replaying.replay_at.Statement.{statement}
 use Rattle.accesses.proofs.replaying.replay_at.Tie as tie
 
 -- the board's block in the bank
 lent : (c : tie.After-block-size)
-    → LentBlock (decode (c .before .before .before .args .bank .now)) (c .before .before .before .args .bank .now) (c .before .before .before .args .pages)
-    (c .before .before .before .args .ask .board) (c .before .block-at .result) (c .block-size .result)
-lent c = lent-of (c .before .before .before .pre .0) _ _ (c .before .block-at .ensures) (c .block-size .ensures)
+    → LentBlock (decode (c .before .before .before .before .before .args .bank .now)) (c .before .before .before .before .before .args .bank .now)
+    (c .before .before .before .before .before .args .pages) (c .before .before .before .before .before .args .ask .board) (c .before .block-at .result)
+    (c .block-size .result)
+lent c = lent-of (c .before .before .before .before .before .pre .0) _ _ (c .before .block-at .ensures) (c .block-size .ensures)
 
 block-at-requires : tie.Need-block-at-requires
 block-at-requires c κs = search needs
@@ -36,22 +36,30 @@ part-replay-end c = lent-in (lent c)
 
 replay-requires : tie.Need-replay-requires
 replay-requires c κs =
-    let start = c .before .before .before .before in
-    let block = lent (c .before) in
-    (lent-block block, rw (lent-board block) (start .pre .1), start .pre .2, start .pre .3)
+    let start = c .before .before .before .before .before .before .before in
+    let block = lent (c .before .before) in
+    let again = start .pre .2 in
+    (lent-block block, start .pre .1, (again .0, again .1, rw (lent-board block) (again .2)))
 
 same-length : tie.Need-same-length
 same-length c = search needs
 
+same-length-2 : tie.Need-same-length-2
+same-length-2 c = search needs
+
 returns : tie.Need-returns
 returns c =
-    let start = c .before .before .before .before .before .before .before in
-    let q = start .args .ask in
-    let block = lent (c .before .before .before .before) in
-    let did = c .before .before .replay in (
-      did .ensures .0 ∙ ap (replayedTo (asked q)) (lent-board block),
-      lent-holds (start .pre .0) block (replayedBoard (asked q)) (did .last .0)
-          (replayed-fields (lent-fields block) (q .writes) (q .page) (q .offset) (q .value) (omega arith) (start .pre .1)) (did .kept .0) (did .ensures .1),
+    let start = c .before .before .before .before .before .before .before .before .before .before .before .before in
+    let block = lent (c .before .before .before .before .before .before .before) in
+    let e = lent-board block in
+    let did = c .before .before .before .before .replay in (
+      λ on. rw e at (did .ensures .0) on,
+      λ a s h.
+          let told = did .ensures .1 a s (rw e h) in (
+            told .0 ∙ ap (replayedTo a) e,
+            lent-holds (start .pre .0) block (replayedBoard a) (did .last .0)
+                (replayed-fields (lent-fields block) a h (start .args .ask) s (omega arith)) (did .kept .0) (told .1),
+          ),
     )
 
 pub replay-at-spec : {M : Type 1} → statement M
@@ -66,4 +74,5 @@ replay-at-spec =
     part-replay-end
     replay-requires
     same-length
+    same-length-2
     returns)

@@ -57,6 +57,12 @@ enum-known-answer-7 c = search needs
 row-requires-9 : tie.Need-row-requires-9
 row-requires-9 c κs = search needs
 
+enum-told-3 : tie.Need-enum-told-3
+enum-told-3 c = search needs
+
+row-requires-10 : tie.Need-row-requires-10
+row-requires-10 c κs = search needs
+
 returns : tie.Need-returns
 returns c = cc
 
@@ -84,6 +90,9 @@ returns-8 c = cc
 returns-9 : tie.Need-returns-9
 returns-9 c = cc
 
+returns-10 : tie.Need-returns-10
+returns-10 c = cc
+
 pub numbers-of-spec : {M : Type 1} → statement M
 numbers-of-spec =
     tie.close
@@ -106,6 +115,8 @@ numbers-of-spec =
     row-requires-8
     enum-known-answer-7
     row-requires-9
+    enum-told-3
+    row-requires-10
     returns
     returns-2
     returns-3
@@ -114,4 +125,5 @@ numbers-of-spec =
     returns-6
     returns-7
     returns-8
-    returns-9)
+    returns-9
+    returns-10)

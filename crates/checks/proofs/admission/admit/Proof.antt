@@ -1,10 +1,8 @@
 -- `checks::admission::admit` meets its contract: the block is lent. Assumes nothing.
 use mathlib.Core.Path.{ap, _∙_}
 use native.Mathlib.Omega.{arith}
-use Rattle.model.specs.Definitions.Bank.{Board}
 use Rattle.model.specs.Definitions.Codec.{decode}
 use Rattle.steps.specs.BankBlocks.{LentBlock, lent-in, lent-block, lent-board}
-use Rattle.steps.specs.Blocks.{readOrWrite}
 use Rattle.exchange.specs.Banks.{lent-of}
 use Rattle.checks.specs.Admission.{admissionOf}
 use borrow.Author.Needs.{needs}
@@ -15,7 +13,7 @@ use Rattle.checks.proofs.admission.admit.Tie as tie
 lent : (c : tie.After-block-size)
     → LentBlock (decode (c .before .before .before .args .bank .now)) (c .before .before .before .args .bank .now) (c .before .before .before .args .pages)
     (c .before .before .before .args .board) (c .before .block-at .result) (c .block-size .result)
-lent c = lent-of (c .before .before .before .pre .0) _ _ (c .before .block-at .ensures) (c .block-size .ensures)
+lent c = lent-of (c .before .before .before .pre) _ _ (c .before .block-at .ensures) (c .block-size .ensures)
 
 block-at-requires : tie.Need-block-at-requires
 block-at-requires c κs = search needs
@@ -36,12 +34,12 @@ part-admit-block-end : tie.Need-part-admit-block-end
 part-admit-block-end c = lent-in (lent c)
 
 admit-block-requires : tie.Need-admit-block-requires
-admit-block-requires c κs = (lent-block (lent (c .before)), c .before .before .before .before .pre .1)
+admit-block-requires c κs = lent-block (lent (c .before))
 
 returns : tie.Need-returns
 returns c =
     let q = c .before .before .before .before .before .args in
-    λ o v. c .admit-block .ensures o v ∙ ap (λ (x : Board). admissionOf (q .replaying) (readOrWrite (q .writes) (q .page) o v) x)
+    λ a t. c .admit-block .ensures a t ∙ ap (admissionOf (q .replaying) a)
     (lent-board (lent (c .before .before)))
 
 pub admit-spec : {M : Type 1} → statement M

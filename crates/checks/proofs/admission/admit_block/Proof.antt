@@ -10,12 +10,12 @@ counters-full-requires : tie.Need-counters-full-requires
 counters-full-requires c κs = search needs
 
 returns : tie.Need-returns
-returns c = λ o v. admits-full _ _ _ (sym (c .before .counters-full .ensures) ∙ c .if1 .taken)
+returns c = λ a t. admits-full _ _ _ (sym (c .before .counters-full .ensures) ∙ c .if1 .taken)
 
 returns-2 : tie.Need-returns-2
 returns-2 c =
     let counted = c .before in
-    λ o v. admits-live _ _ _ (sym (counted .before .counters-full .ensures) ∙ counted .if1 .left) (failed refl (c .if2 .taken))
+    λ a t. admits-live _ _ _ (sym (counted .before .counters-full .ensures) ∙ counted .if1 .left) (failed refl (c .if2 .taken))
 
 differs-requires : tie.Need-differs-requires
 differs-requires c κs = search needs
@@ -23,14 +23,14 @@ differs-requires c κs = search needs
 returns-3 : tie.Need-returns-3
 returns-3 c =
     let counted = c .before .before .before in
-    λ o v. admits-different _ _ _ (sym (counted .before .counters-full .ensures) ∙ counted .if1 .left) (passed refl (c .before .before .if2 .left))
-    (sym (c .before .differs .ensures o v) ∙ c .if3 .taken)
+    λ a t. admits-different _ _ _ (sym (counted .before .counters-full .ensures) ∙ counted .if1 .left) (passed refl (c .before .before .if2 .left))
+    (sym (c .before .differs .ensures a t) ∙ c .if3 .taken)
 
 returns-4 : tie.Need-returns-4
 returns-4 c =
     let counted = c .before .before .before in
-    λ o v. admits-repeated _ _ _ (sym (counted .before .counters-full .ensures) ∙ counted .if1 .left) (passed refl (c .before .before .if2 .left))
-    (sym (c .before .differs .ensures o v) ∙ c .if3 .left)
+    λ a t. admits-repeated _ _ _ (sym (counted .before .counters-full .ensures) ∙ counted .if1 .left) (passed refl (c .before .before .if2 .left))
+    (sym (c .before .differs .ensures a t) ∙ c .if3 .left)
 
 pub admit-block-spec : {M : Type 1} → statement M
 admit-block-spec =

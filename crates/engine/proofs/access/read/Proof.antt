@@ -1,5 +1,5 @@
 -- `engine::access::read` meets its contract: the access by its flag. Assumes nothing.
-use Rattle.steps.specs.Blocks.{readOrWrite}
+use Rattle.engine.specs.Admissions.{readOrWrite}
 use borrow.Author.Needs.{needs}
 use Rattle.engine.proofs.access.read.Statement.{statement}
 use Rattle.engine.proofs.access.read.Tie as tie

@@ -1,7 +1,7 @@
 -- `engine::access::write` meets its contract: the access by its flag. Assumes nothing.
 use mathlib.Core.Path.{refl}
 use Rattle.model.specs.Laws.Logic.{clash}
-use Rattle.steps.specs.Blocks.{readOrWrite}
+use Rattle.engine.specs.Admissions.{readOrWrite}
 use borrow.Author.Needs.{needs}
 use Rattle.engine.proofs.access.write.Statement.{statement}
 use Rattle.engine.proofs.access.write.Tie as tie

@@ -1,31 +1,66 @@
--- `exchange::fetch::fetch` meets its contract. Assumes nothing.
+-- `exchange::fetch::fetch` meets its contract: a write's set has one page. Assumes nothing.
+use mathlib.Core.Path.{_∙_}
+use native.Mathlib.Omega.{arith}
 use Rattle.model.specs.Definitions.Steps.{fetch}
-use Rattle.exchange.specs.Progress.{got}
+use Rattle.steps.specs.Asked.{got}
+use Rattle.exchange.specs.Directory.{entry-at, giver-told}
+use Rattle.exchange.specs.Fetching.{one-page}
 use borrow.Author.Needs.{needs}
 use Rattle.exchange.proofs.fetch.fetch.Statement.{statement}
 use Rattle.exchange.proofs.fetch.fetch.Tie as tie
 
+read-owner-requires : tie.Need-read-owner-requires
+read-owner-requires c κs =
+    let pre = c .before .before .before .pre in
+    entry-at (pre .0) _ (one-page (pre .0) (pre .2) (pre .3 (c .before .if1 .taken)))
+
+cast-owner : tie.Need-cast-owner
+cast-owner c = search needs
+
 write-fetch-requires : tie.Need-write-fetch-requires
 unfolding got
-write-fetch-requires c κs = let pre = c .before .before .before .pre in (pre .0, pre .1, rw (c .before .if1 .taken) at (pre .2), pre .3)
+write-fetch-requires c κs =
+    let pre = c .before .before .before .before .before .pre in
+    let writes = c .before .before .before .if1 .taken in
+    let one = pre .3 writes in
+    (pre .0, pre .1, rw (writes, one) at (pre .2), c .before .read-owner .ensures ∙ giver-told (pre .0) _ (one-page (pre .0) (pre .2) one))
 
 same-length : tie.Need-same-length
 same-length c = search needs
 
 returns : tie.Need-returns
 unfolding fetch got
-returns c = rw (c .before .before .before .before .if1 .taken) (c .before .before .write-fetch .ensures)
+returns c =
+    let pre = c .before .before .before .before .before .before .before .before .pre in
+    let writes = c .before .before .before .before .before .before .if1 .taken in
+    let fetched = c .before .before .write-fetch in
+    (rw (writes, pre .3 writes) (fetched .ensures .0), omega (arith, fetched .ensures .1))
 
 read-fetch-requires : tie.Need-read-fetch-requires
 unfolding got
-read-fetch-requires c κs = let pre = c .before .before .before .pre in (pre .0, pre .1, rw (c .before .if1 .left) at (pre .2), pre .3)
+read-fetch-requires c κs = let pre = c .before .before .before .pre in (pre .0, pre .1, rw (c .before .if1 .left) at (pre .2))
 
 same-length-2 : tie.Need-same-length-2
 same-length-2 c = search needs
 
 returns-2 : tie.Need-returns-2
 unfolding fetch got
-returns-2 c = rw (c .before .before .before .before .if1 .left) (c .before .before .read-fetch .ensures)
+returns-2 c =
+    let start = c .before .before .before .before .before .before in
+    let fetched = c .before .before .read-fetch in (
+      rw (c .before .before .before .before .if1 .left) (fetched .ensures .0),
+      omega (arith, fetched .ensures .1, start .pre .0 .count, start .pre .0 .bank .sizes .pages),
+    )
 
 pub fetch-spec : {M : Type 1} → statement M
-fetch-spec = tie.close (tie.spec write-fetch-requires same-length returns read-fetch-requires same-length-2 returns-2)
+fetch-spec =
+    tie.close
+    (tie.spec
+    read-owner-requires
+    cast-owner
+    write-fetch-requires
+    same-length
+    returns
+    read-fetch-requires
+    same-length-2
+    returns-2)

@@ -2,7 +2,6 @@
 use mathlib.Core.Path.{_≡_, refl}
 use Prim.Native.Nat.{ℕ, _+_}
 use native.Mathlib.Omega.{arith}
-use Rattle.types.specs.declared.CopyOrOwn.the-variants.{GotOwn}
 use Rattle.exchange.specs.Progress.{lostBy, lossOf}
 use Rattle.exchange.specs.Fetching.{fetch-page, fetch-of, fetch-other, fetch-owner, fetch-shows, shown-of, shown-wellFormed, shown-taker, shown-room}
 use Rattle.exchange.specs.Fetching.{write-lost, got-lost, got-passed, got-of, got-entry, got-space-owner, got-space-holder}
@@ -13,10 +12,10 @@ use Rattle.exchange.proofs.fetch.write_fetch.Tie as tie
 show-requires : tie.Need-show-requires
 show-requires c κs =
     let pre = c .before .before .pre in
-    (fetch-of GotOwn pre, pre .1, fetch-page GotOwn pre, fetch-shows GotOwn pre)
+    (fetch-of pre, pre .1, fetch-page pre, fetch-shows pre)
 
 cast-t12 : tie.Need-cast-t12
-cast-t12 c = let pre = c .before .before .before .before .before .before .pre in omega (arith, fetch-owner GotOwn pre, pre .0 .bank .sizes .boards)
+cast-t12 c = let pre = c .before .before .before .before .before .before .pre in omega (arith, fetch-owner pre, pre .0 .bank .sizes .boards)
 
 same-length : tie.Need-same-length
 same-length c = search needs
@@ -33,12 +32,12 @@ unfolding lostBy
 get-own-requires c κs =
     let pre = c .before .before .before .before .before .before .before .pre in
     let shown = rw (c .before .if1 .left) at (c .before .before .before .before .show .ensures .0 0) in (
-      shown-of GotOwn pre 0 shown refl _ (pre .0 .board),
-      shown-wellFormed GotOwn pre 0 shown refl,
-      shown-of GotOwn pre 0 shown refl _ (fetch-owner GotOwn pre) .board,
-      shown-taker GotOwn pre 0 shown refl,
-      shown-room GotOwn pre 0 shown refl,
-      fetch-page GotOwn pre,
+      shown-of pre 0 shown refl _ (pre .0 .board),
+      shown-wellFormed pre 0 shown refl,
+      shown-of pre 0 shown refl _ (fetch-owner pre) .board,
+      shown-taker pre 0 shown refl,
+      shown-room pre 0 shown refl,
+      fetch-page pre,
     )
 
 add-stores : tie.Need-add-stores
@@ -75,9 +74,9 @@ pass-ownership-requires c κs =
     let gave = rw (c .before .before .before .before .before .before .before .before .if1 .left) at (shown .ensures .0 0) in
     let got = rw (c .before .if2 .left) at (c .before .before .before .before .before .before .get-own .ensures .0 (0 + shown .result .stores)) in (
       got-of pre 0 gave refl got refl _ (pre .0 .board),
-      got-of pre 0 gave refl got refl _ (fetch-owner GotOwn pre) .board,
-      fetch-other GotOwn pre,
-      fetch-page GotOwn pre,
+      got-of pre 0 gave refl got refl _ (fetch-owner pre) .board,
+      fetch-other pre,
+      fetch-page pre,
       got-entry pre 0 gave refl got refl,
       got-space-owner pre 0 gave refl got refl,
       got-space-holder pre 0 gave refl got refl,

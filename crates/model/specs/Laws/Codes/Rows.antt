@@ -1,4 +1,4 @@
--- Codes 2 to 7 of every call on a well-formed bank: the answer is that of the first row of the table that holds, and a call that no row refuses is
+-- Codes 2 to 7 and 10 of every call on a well-formed bank: the answer is that of the first row of the table that holds, and a call that no row refuses is
 -- done or lost power. Assumes nothing.
 use mathlib.Core.Path.{_≡_, refl}
 use mathlib.Core.Logic.{_≢_, _⊎_, inl, inr}
@@ -9,82 +9,80 @@ use mathlib.Core.Option.{none}
 use mathlib.Core.List.{List, [], _∷_}
 use lib.ListN.{length}
 use lib.Dec.{ltb}
+use Rattle.types.specs.declared.Frame.{Frame}
 use Rattle.types.specs.declared.State.{State}
 use Rattle.types.specs.declared.State.the-variants.{Up, Down, Replaying}
 use Rattle.types.specs.declared.Answer.{Answer}
-use Rattle.types.specs.declared.Answer.the-variants.{OutOfRange, WrongState, CountersFull, ReplayDiffers, OwnerNotUp, LogFull, PowerLost}
+use Rattle.types.specs.declared.Answer.the-variants.{OutOfRange, WrongState, CountersFull, ReplayDiffers, OwnerNotUp, LogFull, PowerLost, WrongCells}
 use Rattle.model.specs.Definitions.Layout.{noFuse, lastSince}
-use Rattle.model.specs.Definitions.Bank.{Board, Bank, boardAt, entryAt, onBoard}
+use Rattle.model.specs.Definitions.Bank.{Board, Bank, boardAt, onBoard}
 use Rattle.model.specs.Definitions.WellFormed.{WellFormed, PlaceOk, isUp, isDown, isReplaying}
 use Rattle.model.specs.Definitions.Answers.{code, value, who}
-use Rattle.model.specs.Definitions.Steps.{Run, start, step, fuseBoard, checkpoint, Access, Read, Write, valueOf, access, giver}
+use Rattle.model.specs.Definitions.Steps.{Run, start, step, fuseBoard, checkpoint, Access, valueOf, givenOf, access, giver}
 use Rattle.model.specs.Definitions.Replay.{loaded, usedUp, differs, tookDue, replayOver, endIfOver, replayed}
-use Rattle.model.specs.Definitions.Calls.{Result, unless, finished, lackingOf, shortBoard, isSome, numberIn, liveRefusals, prepared, performed, live}
-use Rattle.model.specs.Definitions.Calls.{liveAfterEnd, replaying, accessInRange, countersFull, refusalsWithin, accessWithin, accessBank, checkpointBank}
-use Rattle.model.specs.Definitions.Calls.{fuseBank, restartBank, Call, Accessing, Checkpointing, Fusing, Restarting, callBank}
+use Rattle.model.specs.Definitions.Calls.{Result, unless, finished, shortBoard, isSome, numberIn, pageMissing, liveRefusals, prepared, performed, live}
+use Rattle.model.specs.Definitions.Calls.{liveAfterEnd, replaying, accessInRange, wrongCells, countersFull, refusalsWithin, accessWithin, accessBank}
+use Rattle.model.specs.Definitions.Calls.{checkpointBank, fuseBank, restartBank, Call, Accessing, Checkpointing, Fusing, Restarting, callBank}
 use Rattle.model.specs.Laws.Logic.{cases, casesOption}
 use Rattle.model.specs.Laws.Boards.{boardAt-same}
-use Rattle.model.specs.Laws.Runs.Stores.{endReplay-changed}
-use Rattle.model.specs.Laws.Codes.Statement.{Row, OfAccess, boardNamed, AccessOut, NumbersOut, StateOut, CountersEnd, CountersOut, ReplayOther, ReplayOut}
-use Rattle.model.specs.Laws.Codes.Statement.{afterReplay, LiveOn, up, replayEnded, Live, ownerOf, FromNotUp, OwnerOut, SomeShort, RoomOut, LowestShort}
-use Rattle.model.specs.Laws.Codes.Statement.{refusalRows}
-use Rattle.model.specs.Laws.Tests.{Says, says-and, says-down, says-up, says-replaying}
+use Rattle.model.specs.Laws.Codes.Statement.{Row, OfAccess, boardNamed, AccessOut, NumbersOut, CellsOut, AskedOut, StateOut, CountersEnd, CountersOut}
+use Rattle.model.specs.Laws.Codes.Statement.{ReplayOther, ReplayOut, afterReplay, LiveOn, up, replayEnded, Live, SomeNotUp, OwnerOut, LowestNotUp}
+use Rattle.model.specs.Laws.Codes.Statement.{SomeShort, RoomOut, LowestShort, refusalRows}
+use Rattle.model.specs.Laws.Tests.{Says, says-and, says-down, says-replaying}
 use Rattle.model.specs.Laws.Codes.Order.{never, fails, says-absurd, says-iff, says-no, says-not-and, says-not-lt, Judged, judged-nil}
 use Rattle.model.specs.Laws.Codes.Order.{judged-past, judged-test, judged-go}
-use Rattle.model.specs.Laws.Codes.Tests.{access-out, counters-end, replay-other, LastDue, last-due}
-use Rattle.model.specs.Laws.Codes.Needs.{fetches, some-short, lowest-short}
+use Rattle.model.specs.Laws.Codes.Tests.{access-out, cells-out, counters-end, replay-other, LastDue, last-due}
+use Rattle.model.specs.Laws.Codes.Needs.{some-not-up, lowest-not-up, some-short, lowest-short}
 
 -- what is answered where nothing is refused: done, or "a fuse blew"
 abbrev pub Ran : Answer → Type 0
 Ran x = (code x ≡ 0) ⊎ (code x ≡ 8)
 
-finished-ran : (v : ℕ) (r : Run) → Ran (finished v r .answer)
+finished-ran : (v : ℕ) (given : List ℕ) (r : Run) → Ran (finished v given r .answer)
 unfolding finished code
-finished-ran v r = casesOption (λ (t : Result). Ran (t .answer)) (r .lost) (λ n. inl refl) (λ b e. inr refl)
+finished-ran v given r = casesOption (λ (t : Result). Ran (t .answer)) (r .lost) (λ n. inl refl) (λ b e. inr refl)
 
 -- ==== 6 and 7: a live access
 
 performed-ran : (b : ℕ) (a : Access) (r : Run) → Ran (performed b a r .answer)
 unfolding performed
-performed-ran b a r = finished-ran (valueOf a (boardAt (r .bank) b .working .frames)) (step (access b a) r)
+performed-ran b a r =
+    let fs : List Frame = boardAt (r .bank) b .working .frames in
+    finished-ran (valueOf a fs) (givenOf a fs) (step (access b a) r)
 
 -- the rows 6 and 7 of an access
 liveRows : ℕ → Access → Bank → List Row
 liveRows b a k =
-    record { when = Live (FromNotUp b a) k b a; who = λ w. w ≡ ownerOf a k }
-    ∷ record { when = Live (SomeShort b a) k b a; who = λ w. Live (λ j. LowestShort b a j w) k b a }
+    record { code = 6; when = Live (SomeNotUp b a) k b a; who = λ w. Live (λ j. LowestNotUp b a j w) k b a }
+    ∷ record { code = 7; when = Live (SomeShort b a) k b a; who = λ w. Live (λ j. LowestShort b a j w) k b a }
     ∷ []
 
 -- the bank j at hand is the one on which the access is live
 record JudgedOn (b : ℕ) (a : Access) (k j : Bank) : Type 0 where
   live : LiveOn b a k j
   only : (i : Bank) → LiveOn b a k i → i ≡ j
-  directory : j .directory ≡ k .directory
 
 -- what a test decides of that bank it decides of the access
 says-live : (b : ℕ) (a : Access) (k j : Bank) {t : Bool} (P : Bank → Type 0) → JudgedOn b a k j → Says t (P j) → Says t (Live P k b a)
 says-live b a k j P on d =
     says-iff (λ p. (j, on .live, p)) (λ u. let e : u .0 ≡ j = on .only (u .0) (u .1) in rw e at (u .2)) d
 
-live-judged : (b : ℕ) (a : Access) (k : Bank) (r : Run) → JudgedOn b a k (r .bank) → Judged Ran 6 (liveRows b a k) (live b a r .answer)
-unfolding live liveRefusals liveRows code who value giver ownerOf entryAt
+live-judged : (b : ℕ) (a : Access) (k : Bank) (r : Run) → JudgedOn b a k (r .bank) → Judged Ran (liveRows b a k) (live b a r .answer)
+unfolding live liveRefusals liveRows code who value
 live-judged b a k r on =
     let j : Bank = r .bank in
-    let o : ℕ = ownerOf a j in
+    let missing : Answer = OwnerNotUp (giver j (numberIn (pageMissing b a j))) in
+    let full : Answer = LogFull (numberIn (shortBoard b a j)) in
     let go : Result = performed b a (prepared b a r) in
-    judged-test
-    (lackingOf b a j && not (isUp (boardAt j o .state))) (OwnerNotUp o)
-    ((isSome (shortBoard b a j), LogFull (numberIn (shortBoard b a j))) ∷ []) r go
+    judged-test (isSome (pageMissing b a j)) missing ((isSome (shortBoard b a j), full) ∷ []) r go
     (record {
-      says =
-          says-live b a k j (FromNotUp b a) on
-          (says-and (fetches b a j) (says-no (isUp (boardAt j o .state)) (says-up (boardAt j o .state))));
+      says = says-live b a k j (SomeNotUp b a) on (some-not-up b a j);
       code = refl;
-      who = λ t. rw (on .directory);
+      who = λ t. (j, on .live, lowest-not-up b a j t);
       value = refl;
     })
     (λ n6.
-    judged-test (isSome (shortBoard b a j)) (LogFull (numberIn (shortBoard b a j))) [] r go
+    judged-test (isSome (shortBoard b a j)) full [] r go
     (record {
       says = says-live b a k j (SomeShort b a) on (some-short b a j);
       code = refl;
@@ -94,12 +92,12 @@ live-judged b a k r on =
     (λ n7. judged-go r go (judged-nil (performed-ran b a (prepared b a r)))))
 
 -- an access that is not live meets neither
-not-live : (b : ℕ) (a : Access) (k : Bank) (x : Answer) → ((j : Bank) → ¬ LiveOn b a k j) → Ran x → Judged Ran 6 (liveRows b a k) x
+not-live : (b : ℕ) (a : Access) (k : Bank) (x : Answer) → ((j : Bank) → ¬ LiveOn b a k j) → Ran x → Judged Ran (liveRows b a k) x
 unfolding liveRows
 not-live b a k x n q = judged-past _ (λ u. n (u .0) (u .1)) (judged-past _ (λ u. n (u .0) (u .1)) (judged-nil q))
 
 judgedOn-up : (b : ℕ) (a : Access) (k : Bank) → boardAt k b .state ≡ Up → JudgedOn b a k k
-judgedOn-up b a k e = record { live = up e; only = only; directory = refl }
+judgedOn-up b a k e = record { live = up e; only = only }
   where
     only : (i : Bank) → LiveOn b a k i → i ≡ k
     only i (up f) = refl
@@ -110,53 +108,45 @@ judgedOn-up b a k e = record { live = up e; only = only; directory = refl }
 module _ (b : ℕ) (a : Access) (k : Bank) (s : boardAt k b .state ≡ Replaying) where
   -- it is live on nothing but what the end of its replay left
   live-replayed : (i : Bank) → LiveOn b a k i
-      → LastDue a (boardAt k b) × (afterReplay b a k .lost ≡ none) × (i ≡ afterReplay b a k .bank)
+      → LastDue a (boardAt k b) × (afterReplay b k .lost ≡ none) × (i ≡ afterReplay b k .bank)
   live-replayed i (up f) = never (cc)
-  live-replayed i (replayEnded {r} f d n l) = ((r, d, n), l, refl)
+  live-replayed i (replayEnded {r} {rs} f d n l) = ((r, rs, d, n), l, refl)
 
-  after-directory : afterReplay b a k .lost ≡ none → afterReplay b a k .bank .directory ≡ k .directory
-  unfolding afterReplay start onBoard
-  after-directory l = endReplay-changed b (start (onBoard b (tookDue a) k)) l .directory
-
-  judgedOn-replayed : LastDue a (boardAt k b) → afterReplay b a k .lost ≡ none → JudgedOn b a k (afterReplay b a k .bank)
-  judgedOn-replayed d l =
-      record {
-        live = replayEnded s (d .1) (d .2) l;
-        only = λ i o. live-replayed i o .2;
-        directory = after-directory l;
-      }
+  judgedOn-replayed : LastDue a (boardAt k b) → afterReplay b k .lost ≡ none → JudgedOn b a k (afterReplay b k .bank)
+  judgedOn-replayed d l = record { live = replayEnded s (d .2) (d .3) l; only = λ i o. live-replayed i o .2 }
 
   replaying-judged : b < length (k .boards) → boardAt k b .working .place < length (boardAt k b .stable .selected .log .records)
-      → ¬ ReplayOther a (boardAt k b) → Judged Ran 6 (liveRows b a k) (replaying b a k .answer)
+      → ¬ ReplayOther a (boardAt k b) → Judged Ran (liveRows b a k) (replaying b a k .answer)
   unfolding replaying liveAfterEnd afterReplay code
   replaying-judged h p n =
-      let taken : Bank = onBoard b (tookDue a) k in
-      let e : boardAt taken b ≡ tookDue a (boardAt k b) = boardAt-same b (tookDue a) k h in
+      let taken : Bank = onBoard b tookDue k in
+      let fs : List Frame = boardAt taken b .working .frames in
+      let e : boardAt taken b ≡ tookDue (boardAt k b) = boardAt-same b tookDue k h in
       let d : Says (replayOver (boardAt taken b)) (LastDue a (boardAt k b)) = rw e (last-due a (boardAt k b) p n) in
-      cases (λ (t : Result). Judged Ran 6 (liveRows b a k) (t .answer)) (replayOver (boardAt taken b))
+      cases (λ (t : Result). Judged Ran (liveRows b a k) (t .answer)) (replayOver (boardAt taken b))
       (λ t.
-      casesOption (λ (t : Result). Judged Ran 6 (liveRows b a k) (t .answer)) (afterReplay b a k .lost)
-      (λ l. live-judged b a k (afterReplay b a k) (judgedOn-replayed (d .0 t) l))
-      (λ c l. not-live b a k (PowerLost c) (λ j o. let m : afterReplay b a k .lost ≡ none = live-replayed j o .1 in never (cc)) (inr refl)))
+      casesOption (λ (t : Result). Judged Ran (liveRows b a k) (t .answer)) (afterReplay b k .lost)
+      (λ l. live-judged b a k (afterReplay b k) (judgedOn-replayed (d .0 t) l))
+      (λ c l. not-live b a k (PowerLost c) (λ j o. let m : afterReplay b k .lost ≡ none = live-replayed j o .1 in never (cc)) (inr refl)))
       (λ t.
       not-live b a k _ (λ j o. fails d t (live-replayed j o .0))
-      (finished-ran (valueOf a (boardAt taken b .working .frames)) (endIfOver b (start (onBoard b (replayed a) taken)))))
+      (finished-ran (valueOf a fs) (givenOf a fs) (endIfOver b (start (onBoard b (replayed a) taken)))))
 
--- ==== 2 to 7: an access
+-- ==== 2 to 7 and 10: an access
 
 accessRows : ℕ → Access → Bank → List Row
 accessRows b a k =
-    record { when = AccessOut b a k; who = λ w. w ≡ 0 }
-    ∷ record { when = boardAt k b .state ≡ Down; who = λ w. w ≡ b }
-    ∷ record { when = CountersEnd (boardAt k b); who = λ w. w ≡ b }
-    ∷ record { when = (boardAt k b .state ≡ Replaying) × ReplayOther a (boardAt k b); who = λ w. w ≡ b }
+    record { code = 2; when = AccessOut b a k; who = λ w. w ≡ 0 }
+    ∷ record { code = 10; when = CellsOut a; who = λ w. w ≡ 0 }
+    ∷ record { code = 3; when = boardAt k b .state ≡ Down; who = λ w. w ≡ b }
+    ∷ record { code = 4; when = CountersEnd (boardAt k b); who = λ w. w ≡ b }
+    ∷ record { code = 5; when = (boardAt k b .state ≡ Replaying) × ReplayOther a (boardAt k b); who = λ w. w ≡ b }
     ∷ liveRows b a k
 
 -- the board of an access in range is there
 in-range : (b : ℕ) (a : Access) (k : Bank) → ¬ AccessOut b a k → b < length (k .boards)
 unfolding AccessOut
-in-range b (Read p o) k n = lt-of-not-le (λ h. n (inl h))
-in-range b (Write p o v) k n = lt-of-not-le (λ h. n (inl h))
+in-range b a k n = lt-of-not-le (λ h. n (inl h))
 
 replaying-place : (k : Bank) (b : ℕ) → WellFormed k → b < length (k .boards) → boardAt k b .state ≡ Replaying
     → boardAt k b .working .place < length (boardAt k b .stable .selected .log .records)
@@ -168,7 +158,7 @@ is-up Up d r = refl
 is-up Down d r = absurd (d refl)
 is-up Replaying d r = absurd (r refl)
 
-access-judged : (b : ℕ) (a : Access) (k : Bank) → WellFormed k → Judged Ran 2 (accessRows b a k) (accessBank b a k .answer)
+access-judged : (b : ℕ) (a : Access) (k : Bank) → WellFormed k → Judged Ran (accessRows b a k) (accessBank b a k .answer)
 unfolding accessWithin refusalsWithin accessRows start code who value
 access-judged b a k w =
     let x : Board = boardAt k b in
@@ -176,9 +166,12 @@ access-judged b a k w =
     let t5 : Bool × Answer = (isReplaying (x .state) && differs a x, ReplayDiffers b) in
     let t4 : Bool × Answer = (countersFull lastSince x, CountersFull b) in
     let t3 : Bool × Answer = (isDown (x .state), WrongState b) in
-    judged-test (not (accessInRange b a k)) OutOfRange (t3 ∷ t4 ∷ t5 ∷ []) (start k) go
+    judged-test (not (accessInRange b a k)) OutOfRange ((wrongCells a, WrongCells) ∷ t3 ∷ t4 ∷ t5 ∷ []) (start k) go
     (record { says = access-out b a k; code = refl; who = λ t. refl; value = refl })
     (λ n2.
+    judged-test (wrongCells a) WrongCells (t3 ∷ t4 ∷ t5 ∷ []) (start k) go
+    (record { says = cells-out a; code = refl; who = λ t. refl; value = refl })
+    (λ n10.
     judged-test (isDown (x .state)) (WrongState b) (t4 ∷ t5 ∷ []) (start k) go
     (record { says = says-down (x .state); code = refl; who = λ t. refl; value = refl })
     (λ n3.
@@ -194,12 +187,12 @@ access-judged b a k w =
     })
     (λ n5.
     judged-go (start k) go
-    (cases (λ (t : Result). Judged Ran 6 (liveRows b a k) (t .answer)) (isReplaying (x .state))
+    (cases (λ (t : Result). Judged Ran (liveRows b a k) (t .answer)) (isReplaying (x .state))
     (λ t.
     let s : x .state ≡ Replaying = says-replaying (x .state) .0 t in
     let h : b < length (k .boards) = in-range b a k n2 in
     replaying-judged b a k s h (replaying-place k b w h s) (λ o. n5 (s, o)))
-    (λ t. live-judged b a k (start k) (judgedOn-up b a k (is-up (x .state) n3 (fails (says-replaying (x .state)) t)))))))))
+    (λ t. live-judged b a k (start k) (judgedOn-up b a k (is-up (x .state) n3 (fails (says-replaying (x .state)) t))))))))))
 
 -- ==== 2 and 3: the other calls
 
@@ -213,20 +206,21 @@ not-up Replaying = (λ t. inr refl, λ u. refl)
 -- the two tests that every other call makes, and then it runs
 plain-judged : (c : Call) (k : Bank) (out wrong : Bool) (v : ℕ) (r : Run) → ((P : ℕ → Access → Type 0) → ¬ OfAccess P c)
     → Says out (NumbersOut c k) → Says wrong (StateOut c k)
-    → Judged Ran 2 (refusalRows c k) (unless ((out, OutOfRange) ∷ (wrong, WrongState (boardNamed c)) ∷ []) (start k) (finished v r) .answer)
-unfolding refusalRows CountersOut ReplayOut OwnerOut RoomOut code who value
+    → Judged Ran (refusalRows c k) (unless ((out, OutOfRange) ∷ (wrong, WrongState (boardNamed c)) ∷ []) (start k) (finished v [] r) .answer)
+unfolding refusalRows AskedOut CountersOut ReplayOut OwnerOut RoomOut code who value
 plain-judged c k out wrong v r other d2 d3 =
-    judged-test out OutOfRange ((wrong, WrongState (boardNamed c)) ∷ []) (start k) (finished v r)
+    judged-test out OutOfRange ((wrong, WrongState (boardNamed c)) ∷ []) (start k) (finished v [] r)
     (record { says = d2; code = refl; who = λ t. refl; value = refl })
     (λ n2.
-    judged-test wrong (WrongState (boardNamed c)) [] (start k) (finished v r)
+    judged-past _ (other _)
+    (judged-test wrong (WrongState (boardNamed c)) [] (start k) (finished v [] r)
     (record { says = d3; code = refl; who = λ t. refl; value = refl })
     (λ n3.
-    judged-go (start k) (finished v r)
-    (judged-past _ (other _) (judged-past _ (other _) (judged-past _ (other _) (judged-past _ (other _) (judged-nil (finished-ran v r))))))))
+    judged-go (start k) (finished v [] r)
+    (judged-past _ (other _) (judged-past _ (other _) (judged-past _ (other _) (judged-past _ (other _) (judged-nil (finished-ran v [] r)))))))))
 
-pub rows-judged : (c : Call) (k : Bank) → WellFormed k → Judged Ran 2 (refusalRows c k) (callBank c k .answer)
-unfolding callBank refusalRows OfAccess NumbersOut StateOut CountersOut ReplayOut OwnerOut RoomOut boardNamed accessRows liveRows checkpointBank
+pub rows-judged : (c : Call) (k : Bank) → WellFormed k → Judged Ran (refusalRows c k) (callBank c k .answer)
+unfolding callBank refusalRows OfAccess NumbersOut AskedOut StateOut CountersOut ReplayOut OwnerOut RoomOut boardNamed accessRows liveRows checkpointBank
     fuseBank restartBank
 rows-judged (Accessing b a) k w = access-judged b a k w
 rows-judged (Checkpointing b) k w =

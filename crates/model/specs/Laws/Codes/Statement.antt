@@ -1,34 +1,35 @@
--- Document 01's table "Codes" in propositions: of each code when it is answered and who stands beside it, in ≤, <, ≡ and "there is", without
--- the tests of Definitions.Calls. Laws.Codes proves that those tests say the same. No proof stands here. Assumes nothing.
+-- Document 01's table "Codes", with document 02's code 10, in propositions: of each code when it is answered and who stands beside it, in ≤, <, ≡ and
+-- "there is", without the tests of Definitions.Calls. Laws.Codes proves that those tests say the same. No proof stands here. Assumes nothing.
 use mathlib.Core.Path.{_≡_}
 use mathlib.Core.Logic.{_≢_, _⊎_}
-use Prim.Native.Nat.{ℕ, zero, suc, _+_, _≤_, _<_}
+use Prim.Native.Nat.{ℕ, zero, suc, _+_, _%_, _≤_, _<_}
 use mathlib.Core.Bool.{true, false}
 use mathlib.Core.Option.{none}
 use mathlib.Core.List.{List, [], _∷_, _++_}
 use lib.ListN.{length, drop}
+use Rattle.types.specs.declared.Right.{Right}
 use Rattle.types.specs.declared.Right.the-variants.{None, Own}
 use Rattle.types.specs.declared.Frame.{Frame}
 use Rattle.types.specs.declared.CopyOrOwn.{CopyOrOwn}
 use Rattle.types.specs.declared.CopyOrOwn.the-variants.{GotCopy, GotOwn}
-use Rattle.types.specs.declared.Kind.{Kind}
 use Rattle.types.specs.declared.Kind.the-variants.{Got}
 use Rattle.types.specs.declared.Record.{Record}
 use Rattle.types.specs.declared.State.the-variants.{Up, Down, Replaying}
 use Rattle.model.specs.Definitions.Parts.{member}
-use Rattle.model.specs.Definitions.Layout.{byteValues, mostBoards, mostPages, pageSize, slotCount, noFuse, lastSince, lastNumber, bankSize}
+use Rattle.model.specs.Definitions.Layout.{byteValues, mostBoards, mostPages, mostCells, pageSize, slotCount, noFuse, lastSince, lastNumber, bankSize}
 use Rattle.model.specs.Definitions.Bank.{Board, Bank, boardAt, entryAt, frameAt, onBoard}
-use Rattle.model.specs.Definitions.Codec.{decode}
+use Rattle.model.specs.Definitions.Codec.{pageOf, decode}
 use Rattle.model.specs.Definitions.Check.{wellFormed}
-use Rattle.model.specs.Definitions.Steps.{Run, start, Access, Read, Write, pageNamed}
+use Rattle.model.specs.Definitions.Steps.{Run, start, Access, Read, Write, ReadCells, Cell, cellsAsked, cellsRead, cellsWritten, takes}
 use Rattle.model.specs.Definitions.Replay.{tookDue, endReplay}
 use Rattle.model.specs.Definitions.Calls.{Call, Accessing, Checkpointing, Fusing, Restarting, callBank}
 use Rattle.model.specs.Contracts.{storedCount, volatileCount}
 
 -- ==== rows, and their order
 
--- "When" and "who"
+-- "Code", "When" and "who"
 pub record Row : Type 1 where
+  pub code : ℕ
   pub when : Type 0
   pub who : ℕ → Type 0
 
@@ -49,6 +50,17 @@ WhoIn [] i w = ⊥
 WhoIn (r ∷ rs) zero w = r .who w
 WhoIn (r ∷ rs) (suc i) w = WhoIn rs i w
 
+-- row i's code
+unfoldable pub codeIn : List Row → ℕ → ℕ
+codeIn [] i = 0
+codeIn (r ∷ rs) zero = r .code
+codeIn (r ∷ rs) (suc i) = codeIn rs i
+
+-- one of a list has a property
+unfoldable pub Some : {A : Type 0} → (A → Type 0) → List A → Type 0
+Some P [] = ⊥
+Some P (x ∷ xs) = P x ⊎ Some P xs
+
 -- ==== the calls by their numbers
 
 -- the board that a call names
@@ -67,9 +79,12 @@ OfAccess P (Restarting b) = ⊥
 
 -- ==== 2: "board ≥ N, page ≥ P, offset ≥ 16, value > 255, fuse out of range"
 
+abbrev pub CellOut : Bank → Cell → Type 0
+CellOut k c = (length (k .directory) ≤ c .page) ⊎ (pageSize ≤ c .offset)
+
 unfoldable pub AccessOut : ℕ → Access → Bank → Type 0
-AccessOut b (Read p o) k = (length (k .boards) ≤ b) ⊎ (length (k .directory) ≤ p) ⊎ (pageSize ≤ o)
-AccessOut b (Write p o v) k = (length (k .boards) ≤ b) ⊎ (length (k .directory) ≤ p) ⊎ (pageSize ≤ o) ⊎ (byteValues ≤ v)
+AccessOut b a k =
+    (length (k .boards) ≤ b) ⊎ Some (CellOut k) (cellsRead a) ⊎ Some (λ w. CellOut k (w .0) ⊎ (byteValues ≤ w .1)) (cellsWritten a)
 
 -- "For the fuse number, code 2 then covers only what is above 65,534" (document 02, F-1)
 unfoldable pub NumbersOut : Call → Bank → Type 0
@@ -77,6 +92,17 @@ NumbersOut (Accessing b a) k = AccessOut b a k
 NumbersOut (Checkpointing b) k = length (k .boards) ≤ b
 NumbersOut (Fusing b n) k = (length (k .boards) ≤ b) ⊎ (noFuse ≤ n)
 NumbersOut (Restarting b) k = length (k .boards) ≤ b
+
+-- ==== 10: "Zero cells, an odd byte, more than 32, or a second buffer of another length give code 10, tested just after 2" (document 02, F-3)
+
+unfoldable pub CellsOut : Access → Type 0
+CellsOut (Read p o) = ⊥
+CellsOut (Write p o v) = ⊥
+CellsOut (ReadCells cells outLength) =
+    (length (cellsAsked cells) ≡ 0) ⊎ (length cells % 2 ≡ 1) ⊎ (mostCells < length (cellsAsked cells)) ⊎ (outLength ≢ length (cellsAsked cells))
+
+unfoldable pub AskedOut : Call → Bank → Type 0
+AskedOut c k = OfAccess (λ b a. CellsOut a) c
 
 -- ==== 3: "dark and not restart; restart and not dark; checkpoint while replaying"
 
@@ -96,32 +122,55 @@ CountersOut c k = OfAccess (λ b a. CountersEnd (boardAt k b)) c
 
 -- ==== 5: "replay: a got is due and the access doesn't need it, or the access lacks a right and no fitting got is due"
 
--- "local if a read has any right or a write has right own", and this is not
-unfoldable pub LacksRight : Access → List Frame → Type 0
-LacksRight (Read p o) fs = frameAt fs p .right ≡ None
-LacksRight (Write p o v) fs = frameAt fs p .right ≢ Own
+-- an access writes page p; it names page p
+abbrev pub WritesTo : Access → ℕ → Type 0
+WritesTo a p = Some (λ w. w .0 .page ≡ p) (cellsWritten a)
 
--- "A got record is due when it is next and its count equals since." Behind it stand rs.
-pub record Due (x : Board) (r : Record) (rs : List Record) : Type 0 where
-  pub next : drop (x .working .place) (x .stable .selected .log .records) ≡ r ∷ rs
-  pub got : (g : CopyOrOwn) × (p : ℕ) × (r .kind ≡ Got g p)
-  pub count : r .count ≡ x .working .since
+abbrev pub Names : Access → ℕ → Type 0
+Names a p = Some (λ c. c .page ≡ p) (cellsRead a) ⊎ WritesTo a p
 
--- "an access that needs it: its page, a read with right none for copy, a write without right own for own"
-unfoldable pub NeedsGot : Access → List Frame → Kind → Type 0
-NeedsGot (Read p o) fs kind = (kind ≡ Got GotCopy p) × (frameAt fs p .right ≡ None)
-NeedsGot (Write p o v) fs kind = (kind ≡ Got GotOwn p) × (frameAt fs p .right ≢ Own)
+-- "local if a read has any right or a write has right own", and this right is too little
+unfoldable pub TooLittle : CopyOrOwn → Right → Type 0
+TooLittle GotCopy r = r ≡ None
+TooLittle GotOwn r = r ≢ Own
 
--- a got is due that the access doesn't need
-abbrev pub OtherDue : Access → Board → Type 0
-OtherDue a x = (r : Record) × (rs : List Record) × Due x r rs × (¬ NeedsGot a (x .working .frames) (r .kind))
+-- the access names page p and lacks the right to it
+abbrev pub LacksPage : Access → List Frame → ℕ → Type 0
+LacksPage a fs p = Names a p × TooLittle (takes a) (frameAt fs p .right)
 
--- a got is due that the access needs
-abbrev pub FittingDue : Access → Board → Type 0
-FittingDue a x = (r : Record) × (rs : List Record) × Due x r rs × NeedsGot a (x .working .frames) (r .kind)
+-- no got with this count is next
+unfoldable pub NoneDue : ℕ → List Record → Type 0
+NoneDue n [] = Unit
+NoneDue n (r ∷ rs) = ¬ (((g : CopyOrOwn) × (p : ℕ) × (r .kind ≡ Got g p)) × (r .count ≡ n))
 
+-- "a due got and the count 0 gots right behind it go together" (document 02, F-3): the gots of a list of records that go together, the first with count n,
+-- and the records behind them
+pub data Together : ℕ → List Record → List Record → Type 0 where
+  all : {n : ℕ} {behind : List Record} → NoneDue n behind → Together n [] behind
+  got : {n : ℕ} {r : Record} {rs behind : List Record} → (g : CopyOrOwn) × (p : ℕ) × (r .kind ≡ Got g p) → r .count ≡ n → Together 0 rs behind
+      → Together n (r ∷ rs) behind
+
+-- "A got record is due when it is next and its count equals since." rs are the gots that are due together, if any, and what is left stands behind them.
+pub record Due (x : Board) (rs behind : List Record) : Type 0 where
+  pub next : drop (x .working .place) (x .stable .selected .log .records) ≡ rs ++ behind
+  pub group : Together (x .working .since) rs behind
+
+-- "an access that needs it: its page, a read with right none for copy, a write without right own for own"; "It needs them if their pages rise and it lacks
+-- each" (F-3); none has a page below n
+unfoldable pub NeedsFrom : Access → List Frame → ℕ → List Record → Type 0
+NeedsFrom a fs n [] = Unit
+NeedsFrom a fs n (r ∷ rs) = (p : ℕ) × (r .kind ≡ Got (takes a) p) × LacksPage a fs p × (n ≤ p) × NeedsFrom a fs (suc p) rs
+
+abbrev pub NeedsGots : Access → List Frame → List Record → Type 0
+NeedsGots a fs rs = NeedsFrom a fs 0 rs
+
+-- gots are due that the access doesn't need; or it lacks a page besides theirs, and they are not the last records: "if replay ends with them every page then
+-- lacking is fetched live" (F-3)
 abbrev pub ReplayOther : Access → Board → Type 0
-ReplayOther a x = OtherDue a x ⊎ (LacksRight a (x .working .frames) × (¬ FittingDue a x))
+ReplayOther a x =
+    (rs : List Record) × (behind : List Record) × Due x rs behind
+    × ((¬ NeedsGots a (x .working .frames) rs)
+    ⊎ ((behind ≢ []) × ((p : ℕ) × (p < length (x .working .frames)) × LacksPage a (x .working .frames) p × (¬ Some (λ r. pageOf (r .kind) ≡ p) rs))))
 
 unfoldable pub ReplayOut : Call → Bank → Type 0
 ReplayOut c k = OfAccess (λ b a. (boardAt k b .state ≡ Replaying) × ReplayOther a (boardAt k b)) c
@@ -129,15 +178,15 @@ ReplayOut c k = OfAccess (λ b a. (boardAt k b .state ≡ Replaying) × ReplayOt
 -- ==== 6 and 7 are of a live access: the bank on which it is judged
 
 -- the end of the replay of board b, inside an access that used the last record
-unfoldable pub afterReplay : ℕ → Access → Bank → Run
-afterReplay b a k = endReplay b (start (onBoard b (tookDue a) k))
+unfoldable pub afterReplay : ℕ → Bank → Run
+afterReplay b k = endReplay b (start (onBoard b tookDue k))
 
 -- An up board's access is live on the bank as it is. "An access whose got was the last record then goes on live", on what the end of replay left,
 -- unless the end's own checkpoint blew the fuse. No other access is live.
 pub data LiveOn (b : ℕ) (a : Access) (k : Bank) : Bank → Type 0 where
   up : boardAt k b .state ≡ Up → LiveOn b a k k
-  replayEnded : {r : Record} → boardAt k b .state ≡ Replaying → Due (boardAt k b) r [] → NeedsGot a (boardAt k b .working .frames) (r .kind)
-      → afterReplay b a k .lost ≡ none → LiveOn b a k (afterReplay b a k .bank)
+  replayEnded : {r : Record} {rs : List Record} → boardAt k b .state ≡ Replaying → Due (boardAt k b) (r ∷ rs) []
+      → NeedsGots a (boardAt k b .working .frames) (r ∷ rs) → afterReplay b k .lost ≡ none → LiveOn b a k (afterReplay b k .bank)
 
 -- what holds of the bank on which the access is live
 abbrev pub Live : (Bank → Type 0) → Bank → ℕ → Access → Type 0
@@ -145,53 +194,65 @@ Live P k b a = (j : Bank) × LiveOn b a k j × P j
 
 -- ==== 6: "live fetch, owner not up"
 
--- the owner of the page that an access names
-unfoldable pub ownerOf : Access → Bank → ℕ
-ownerOf a k = entryAt k (pageNamed a) .owner
+-- the owner of a page
+unfoldable pub ownerOf : Bank → ℕ → ℕ
+ownerOf k p = entryAt k p .owner
 
--- a live access that is not local is a fetch
-abbrev pub Fetches : ℕ → Access → Bank → Type 0
-Fetches b a k = LacksRight a (boardAt k b .working .frames)
+-- a live access that is not local in page p is a fetch of it
+abbrev pub Fetches : ℕ → Access → Bank → ℕ → Type 0
+Fetches b a k p = LacksPage a (boardAt k b .working .frames) p
 
-abbrev pub FromNotUp : ℕ → Access → Bank → Type 0
-FromNotUp b a k = Fetches b a k × (boardAt k (ownerOf a k) .state ≢ Up)
+abbrev pub FromNotUp : ℕ → Access → Bank → ℕ → Type 0
+FromNotUp b a k p = Fetches b a k p × (boardAt k (ownerOf k p) .state ≢ Up)
+
+abbrev pub SomeNotUp : ℕ → Access → Bank → Type 0
+SomeNotUp b a k = (p : ℕ) × (p < length (k .directory)) × FromNotUp b a k p
 
 unfoldable pub OwnerOut : Call → Bank → Type 0
-OwnerOut c k = OfAccess (λ b a. Live (FromNotUp b a) k b a) c
+OwnerOut c k = OfAccess (λ b a. Live (SomeNotUp b a) k b a) c
+
+-- "Code 6 names the owner of the lowest lacking page whose owner isn't up" (document 02, F-3)
+pub record LowestNotUp (b : ℕ) (a : Access) (k : Bank) (w : ℕ) : Type 0 where
+  pub page : ℕ
+  pub below : page < length (k .directory)
+  pub notUp : FromNotUp b a k page
+  pub lowest : (q : ℕ) → q < page → ¬ FromNotUp b a k q
+  pub owner : w ≡ ownerOf k page
 
 -- ==== 7: "stored + volatile + needed > 32 on some board"
 
--- whether an access writes
-unfoldable pub Writes : Access → Type 0
-Writes (Read p o) = ⊥
-Writes (Write p o v) = Unit
+abbrev pub ReadFetch : ℕ → Access → Bank → ℕ → Type 0
+ReadFetch b a k p = (takes a ≡ GotCopy) × Fetches b a k p
 
-abbrev pub ReadFetch : ℕ → Access → Bank → Type 0
-ReadFetch b a k = (¬ Writes a) × Fetches b a k
+abbrev pub WriteFetch : ℕ → Access → Bank → ℕ → Type 0
+WriteFetch b a k p = (takes a ≡ GotOwn) × Fetches b a k p
 
-abbrev pub WriteFetch : ℕ → Access → Bank → Type 0
-WriteFetch b a k = Writes a × Fetches b a k
-
-abbrev pub OwnWrite : ℕ → Access → Bank → Type 0
-OwnWrite b a k = Writes a × (¬ Fetches b a k)
+abbrev pub OwnWrite : ℕ → Access → Bank → ℕ → Type 0
+OwnWrite b a k p = WritesTo a p × (¬ Fetches b a k p)
 
 -- board c holds a copy of the page
-abbrev pub HoldsCopy : Access → Bank → ℕ → Type 0
-HoldsCopy a k c = member c (entryAt k (pageNamed a) .copies) ≡ true
+abbrev pub HoldsCopy : Bank → ℕ → ℕ → Type 0
+HoldsCopy k p c = member c (entryAt k p .copies) ≡ true
 
--- "read fetch: reader 1, owner 1; write fetch: writer 1, owner 2, other holders 1; own write: holders 1": a part of board c that needs n slots.
+-- "read fetch: reader 1, owner 1; write fetch: writer 1, owner 2, other holders 1; own write: holders 1": a part of board c in page p that needs n slots.
 -- A board without a part needs nothing. The writer hasn't the owner's part: who owns a page lacks no right to it.
-pub data Needs (b : ℕ) (a : Access) (k : Bank) (c : ℕ) : ℕ → Type 0 where
-  nothing : Needs b a k c 0
-  reader : ReadFetch b a k → c ≡ b → Needs b a k c 1
-  readOwner : ReadFetch b a k → c ≡ ownerOf a k → Needs b a k c 1
-  writer : WriteFetch b a k → c ≡ b → Needs b a k c 1
-  writeOwner : WriteFetch b a k → c ≢ b → c ≡ ownerOf a k → Needs b a k c 2
-  otherHolder : WriteFetch b a k → c ≢ b → HoldsCopy a k c → Needs b a k c 1
-  holder : OwnWrite b a k → HoldsCopy a k c → Needs b a k c 1
+pub data Needs (b : ℕ) (a : Access) (k : Bank) (c p : ℕ) : ℕ → Type 0 where
+  nothing : Needs b a k c p 0
+  reader : ReadFetch b a k p → c ≡ b → Needs b a k c p 1
+  readOwner : ReadFetch b a k p → c ≡ ownerOf k p → Needs b a k c p 1
+  writer : WriteFetch b a k p → c ≡ b → Needs b a k c p 1
+  writeOwner : WriteFetch b a k p → c ≢ b → c ≡ ownerOf k p → Needs b a k c p 2
+  otherHolder : WriteFetch b a k p → c ≢ b → HoldsCopy k p c → Needs b a k c p 1
+  holder : OwnWrite b a k p → HoldsCopy k p c → Needs b a k c p 1
+
+-- "code 7 adds up the needs of all pages" (document 02, F-3): of the n pages from p on
+pub data NeedsAll (b : ℕ) (a : Access) (k : Bank) (c : ℕ) : (p n total : ℕ) → Type 0 where
+  noPages : {p : ℕ} → NeedsAll b a k c p 0 0
+  onePage : {p n m total : ℕ} → Needs b a k c p m → NeedsAll b a k c (suc p) n total → NeedsAll b a k c p (suc n) (m + total)
 
 abbrev pub Short : ℕ → Access → Bank → ℕ → Type 0
-Short b a k c = (n : ℕ) × Needs b a k c n × (slotCount < storedCount (boardAt k c) + volatileCount (boardAt k c) + n)
+Short b a k c =
+    (n : ℕ) × NeedsAll b a k c 0 (length (k .directory)) n × (slotCount < storedCount (boardAt k c) + volatileCount (boardAt k c) + n)
 
 abbrev pub SomeShort : ℕ → Access → Bank → Type 0
 SomeShort b a k = (c : ℕ) × (c < length (k .boards)) × Short b a k c
@@ -215,23 +276,24 @@ pub record LosesPower (c : Call) (k : Bank) (b : ℕ) : Type 0 where
 
 -- ==== the table
 
--- codes 2 to 7, on the bank that well-formed bytes stand for
+-- codes 2, 10 and 3 to 7, on the bank that well-formed bytes stand for; "who is 0 unless named" (document 02, F-3)
 unfoldable pub refusalRows : Call → Bank → List Row
 refusalRows c k =
-    record { when = NumbersOut c k; who = λ w. w ≡ 0 }
-    ∷ record { when = StateOut c k; who = λ w. w ≡ boardNamed c }
-    ∷ record { when = CountersOut c k; who = λ w. w ≡ boardNamed c }
-    ∷ record { when = ReplayOut c k; who = λ w. w ≡ boardNamed c }
-    ∷ record { when = OwnerOut c k; who = λ w. OfAccess (λ b a. w ≡ ownerOf a k) c }
-    ∷ record { when = RoomOut c k; who = λ w. OfAccess (λ b a. Live (λ j. LowestShort b a j w) k b a) c }
+    record { code = 2; when = NumbersOut c k; who = λ w. w ≡ 0 }
+    ∷ record { code = 10; when = AskedOut c k; who = λ w. w ≡ 0 }
+    ∷ record { code = 3; when = StateOut c k; who = λ w. w ≡ boardNamed c }
+    ∷ record { code = 4; when = CountersOut c k; who = λ w. w ≡ boardNamed c }
+    ∷ record { code = 5; when = ReplayOut c k; who = λ w. w ≡ boardNamed c }
+    ∷ record { code = 6; when = OwnerOut c k; who = λ w. OfAccess (λ b a. Live (λ j. LowestNotUp b a j w) k b a) c }
+    ∷ record { code = 7; when = RoomOut c k; who = λ w. OfAccess (λ b a. Live (λ j. LowestShort b a j w) k b a) c }
     ∷ []
 
--- codes 1 to 8 of a call on any bytes
+-- codes 1 to 8 and 10 of a call on any bytes
 unfoldable pub table : Call → List ℕ → List Row
 table c s =
-    record { when = wellFormed s ≡ false; who = λ w. w ≡ 0 }
+    record { code = 1; when = wellFormed s ≡ false; who = λ w. w ≡ 0 }
     ∷ (refusalRows c (decode s)
-    ++ (record { when = (b : ℕ) × LosesPower c (decode s) b; who = λ w. LosesPower c (decode s) w } ∷ []))
+    ++ (record { code = 8; when = (b : ℕ) × LosesPower c (decode s) b; who = λ w. LosesPower c (decode s) w } ∷ []))
 
 -- ==== "making a bank checks 2 before 1"
 

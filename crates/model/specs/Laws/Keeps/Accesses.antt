@@ -5,18 +5,22 @@ use Prim.Native.Nat.{ℕ, _<_}
 use native.Mathlib.Omega.{arith}
 use mathlib.Core.Bool.{true, false}
 use mathlib.Core.List.{List}
+use lib.ListN.{length}
 use Rattle.types.specs.declared.Right.the-variants.{None}
 use Rattle.types.specs.declared.Frame.{Frame}
+use Rattle.types.specs.declared.CopyOrOwn.{CopyOrOwn}
+use Rattle.types.specs.declared.CopyOrOwn.the-variants.{GotCopy, GotOwn}
 use Rattle.types.specs.declared.Kind.the-variants.{Got}
 use Rattle.types.specs.declared.State.the-variants.{Down}
-use Rattle.words.specs.Bytes.{Each, each-nil, each-cons}
+use Rattle.words.specs.Bytes.{Each}
 use Rattle.model.specs.Definitions.Layout.{byteValues, lastSince, lastNumber}
 use Rattle.model.specs.Definitions.Bank.{Entry, Board, Bank, boardAt, onWorking}
 use Rattle.model.specs.Definitions.WellFormed.{PlaceOk, WellFormed}
-use Rattle.model.specs.Definitions.Steps.{Access, Read, Write, pageNamed, cellsWritten, lacks, takes, accessed, access}
+use Rattle.model.specs.Definitions.Steps.{Access, cellsWritten, names, takes, lacks, accessed, access}
 use Rattle.model.specs.Definitions.Replay.{lacking, rightGot}
 use Rattle.model.specs.Laws.Logic.{clash}
-use Rattle.model.specs.Laws.Lists.{each-head}
+use Rattle.model.specs.Laws.Lists.{each-imp, each-both}
+use Rattle.model.specs.Laws.Below.{has-right, written-named}
 use Rattle.model.specs.Laws.Keeps.Clauses.{place-kept, onBoard-keeps}
 use Rattle.model.specs.Contracts.{Alone, Agreed}
 use Rattle.model.specs.Laws.Valid.{Writable, right-withBytes}
@@ -60,21 +64,23 @@ access-keeps b a k w u s n v =
       agreed = accessed-agreed a x (k .directory) b (h .agreed);
     })
 
--- right none is too little for any access
-lacks-none : (a : Access) → lacks a None ≡ true
+-- right none is too little, whatever is taken
+lacks-none : (g : CopyOrOwn) → lacks g None ≡ true
 unfolding lacks
-lacks-none (Read p o) = refl
-lacks-none (Write p o v) = refl
+lacks-none GotCopy = refl
+lacks-none GotOwn = refl
 
--- an access that doesn't lack its right may write its cells
-pub writable : (a : Access) (fs : List Frame) → lacking a fs ≡ false → Each (λ w. w .1 < byteValues) (cellsWritten a) → Writable fs (cellsWritten a)
-unfolding lacking pageNamed cellsWritten
-writable (Read p o) fs h v = each-nil
-writable (Write p o v) fs h l =
-    each-cons (each-head l, λ e. clash (lacks-none (Write p o v)) (ap (lacks (Write p o v)) (sym e) ∙ h)) each-nil
+-- an access that lacks no right may write its cells
+pub writable : (a : Access) (fs : List Frame) → lacking a fs ≡ false → ((p : ℕ) → names a p ≡ true → p < length fs)
+    → Each (λ w. w .1 < byteValues) (cellsWritten a) → Writable fs (cellsWritten a)
+writable a fs h pages values =
+    each-both values
+    (each-imp (cellsWritten a)
+    (λ w n e. clash (lacks-none (takes a)) (ap (lacks (takes a)) (sym e) ∙ has-right a fs h (w .0 .page) (pages (w .0 .page) n) n))
+    (written-named a))
 
 -- what a fetch brings is enough
-pub takes-enough : (a : Access) (p : ℕ) → lacks a (rightGot (Got (takes a) p)) ≡ false
-unfolding lacks takes rightGot
-takes-enough (Read p o) q = refl
-takes-enough (Write p o v) q = refl
+pub takes-enough : (g : CopyOrOwn) (p : ℕ) → lacks g (rightGot (Got g p)) ≡ false
+unfolding lacks rightGot
+takes-enough GotCopy p = refl
+takes-enough GotOwn p = refl

@@ -5,12 +5,11 @@ use mathlib.Core.Logic.{_≢_}
 use Prim.Native.Nat.{ℕ, suc, _+_, _-_, _≤_, _<_}
 use native.Mathlib.Nat.{le-of-lt}
 use native.Mathlib.Omega.{arith}
-use mathlib.Core.Bool.{true, false, not}
-use mathlib.Core.Option.{Option, some}
+use mathlib.Core.Bool.{true, false, _&&_, not}
 use mathlib.Core.List.{List, [], _∷_}
 use lib.ListN.{length, drop, set, length-drop}
 use lib.Dec.{eqb}
-use borrow.Author.Tests.{eqb-true, eqb-false, not-false}
+use borrow.Author.Tests.{eqb-true, eqb-false}
 use Rattle.types.specs.declared.Right.the-variants.{None}
 use Rattle.types.specs.declared.Frame.{Frame}
 use Rattle.types.specs.declared.CopyOrOwn.{CopyOrOwn}
@@ -23,17 +22,18 @@ use Rattle.words.specs.Bytes.{Each}
 use Rattle.model.specs.Definitions.Parts.{member}
 use Rattle.model.specs.Definitions.Layout.{lastSince, lastNumber}
 use Rattle.model.specs.Definitions.Bank.{Entry, Log, Working, Board, Bank, emptyFrame, boardAt, entryAt, frameAt, onWorking, entryIn}
+use Rattle.model.specs.Definitions.Codec.{pageOf}
 use Rattle.model.specs.Definitions.WellFormed.{isGot, RecordOk, FramesOk, PlaceOk, rightIn, WellFormed, WorkingOk}
-use Rattle.model.specs.Definitions.Steps.{Access, pageNamed, cellsWritten, lacks, takes, accessed}
-use Rattle.model.specs.Definitions.Replay.{loaded, recordsLeft, used, useUp, usedUp, gotDue, due, sameGot, lacking, needsGot, differs, rightGot, tookGot}
-use Rattle.model.specs.Definitions.Replay.{tookDue, settledFrame, settled, replayed, settle}
-use Rattle.model.specs.Laws.Logic.{cases, casesOption, byBool, clash, and-left, and-right}
-use Rattle.model.specs.Laws.Lists.{each-head, each-drop}
-use Rattle.model.specs.Laws.Boards.{rightIn-owner, rightIn-none, frameAt-same, frameAt-each}
-use Rattle.model.specs.Laws.Runs.{lost-not}
+use Rattle.model.specs.Definitions.Steps.{Access, cellsWritten, accessed}
+use Rattle.model.specs.Definitions.Replay.{loaded, recordsLeft, used, useUp, usedUp, gotsDue, due, sameGot, lacking, needsGots, differs, rightGot}
+use Rattle.model.specs.Definitions.Replay.{tookGot, tookGots, tookDue, replayOver, settledFrame, settled, replayed, settle}
+use Rattle.model.specs.Laws.Logic.{cases, byBool, clash, and-both, true-not}
+use Rattle.model.specs.Laws.Lists.{each-head, each-tail, each-drop}
+use Rattle.model.specs.Laws.Boards.{rightIn-owner, rightIn-none, frameAt-each}
 use Rattle.model.specs.Laws.Keeps.Clauses.{up-not-down, up-not-replaying, down-not-replaying, replaying-place, whole, onBoard-but, alone-up}
 use Rattle.model.specs.Contracts.{Fits, InReplay, WellFormedBut}
-use Rattle.model.specs.Laws.Keeps.Accesses.{takes-enough, accessed-alone, accessed-agreed}
+use Rattle.model.specs.Laws.Keeps.Accesses.{accessed-alone, accessed-agreed}
+use Rattle.model.specs.Laws.Keeps.Rights.{or-none}
 use Rattle.model.specs.Laws.Valid.{copy-some, own-some, frameOk-empty, framesOk-set, Writable, workingOk-used}
 use Rattle.model.specs.Laws.BoardFields.{loaded-fields, onWorking-fields, settled-fields}
 
@@ -126,27 +126,6 @@ usedUp-inReplay d b x h =
 
 -- ---- a got record used
 
--- the next record of a list, if it is a got
-record DueIn (P : Record → Type 0) (l : List Record) (r : Record) : Type 0 where
-  valid : P r
-  left : 0 < length l
-  got : isGot (r .kind) ≡ true
-
-gotDue-some : {P : Record → Type 0} (l : List Record) (since : ℕ) (r : Record) → gotDue l since ≡ some r → Each P l → DueIn P l r
-unfolding gotDue isGot
-gotDue-some [] since r h e = lost-not refl h
-gotDue-some {P} (q ∷ qs) since r h e =
-    cases (λ (o : Option Record). o ≡ some r → DueIn P (q ∷ qs) r) (eqb (q .count) since)
-    (λ t.
-    casesKind (λ (o : Option Record). o ≡ some r → DueIn P (q ∷ qs) r) (q .kind)
-    (λ c p k m.
-    let i : q ≡ r = cc in
-    record { valid = rw i at (each-head e); left = omega arith; got = rw (← i, k) })
-    (λ p k m. lost-not refl m)
-    (λ p k m. lost-not refl m))
-    (λ t m. lost-not refl m)
-    h
-
 right-got : (k : Kind) → isGot k ≡ true → rightGot k ≢ None
 unfolding isGot rightGot
 right-got (Got GotCopy p) h = copy-some
@@ -154,29 +133,39 @@ right-got (Got GotOwn p) h = own-some
 right-got (Shown p) h = clash h refl
 right-got (Dropped p) h = clash h refl
 
--- "The frame then takes its right and bytes, and since becomes 0."
-pub tookDue-inReplay : (d : List Entry) (b : ℕ) (a : Access) (x : Board) → InReplay d b x → InReplay d b (tookDue a x)
-unfolding tookDue tookGot used due recordsLeft onWorking
-tookDue-inReplay d b a x h =
-    casesOption (InReplay d b) (due x)
-    (λ e. h)
-    (λ r e.
+-- "The frame then takes its right and bytes, and since becomes 0.": of each got that is due
+took-used : {pages : ℕ} (rs : List Record) (since : ℕ) (w : Working) → Each (RecordOk pages) rs → WorkingOk pages w
+    → Used pages (length rs) w (tookGots (gotsDue rs since) w)
+unfolding gotsDue tookGots tookGot isGot pageOf
+took-used [] since w e v = record { log = refl; place = omega arith; ok = v }
+took-used {pages} (r ∷ rs) since w e v =
+    let idle : Used pages (length (r ∷ rs)) w w = record { log = refl; place = omega arith; ok = v } in
+    let P : List Record → Type 0 = λ qs. Used pages (length (r ∷ rs)) w (tookGots qs w) in
+    cases P (eqb (r .count) since)
+    (λ t.
+    casesKind P (r .kind)
+    (λ c p k.
+    let fs : List Frame = set (w .frames) (pageOf (r .kind)) (record { right = rightGot (r .kind); bytes = r .bytes }) in
+    used-then fs w (tookGots (gotsDue rs 0) (used fs w))
+    (took-used rs 0 (used fs w) (each-tail e)
+    (workingOk-used v
+    (framesOk-set (w .frames) (pageOf (r .kind)) (record { right = rightGot (r .kind); bytes = r .bytes }) (v .frames)
+    (record { size = each-head e .size; bytes = each-head e .bytes; empty = λ z. absurd (right-got (r .kind) (rw k) z) })))))
+    (λ p k. idle)
+    (λ p k. idle))
+    (λ t. idle)
+
+pub tookDue-inReplay : (d : List Entry) (b : ℕ) (x : Board) → InReplay d b x → InReplay d b (tookDue x)
+unfolding tookDue due recordsLeft onWorking
+tookDue-inReplay d b x h =
     let rs : List Record = x .stable .selected .log .records in
-    let g : DueIn (RecordOk (length d)) (drop (x .working .place) rs) r =
-    gotDue-some (drop (x .working .place) rs) (x .working .since) r e (each-drop (x .working .place) rs (h .alone .fields .selected .log .records)) in
-    inReplay-used d b x (tookGot (pageNamed a) r (x .working)) h
-    (record {
-      log = refl;
-      place = omega (arith, g .left, length-drop (x .working .place) rs);
-      ok =
-          workingOk-used (h .alone .fields .working)
-          (framesOk-set (x .working .frames) (pageNamed a) (record { right = rightGot (r .kind); bytes = r .bytes }) (h .alone .fields .working .frames)
-          (record { size = g .valid .size; bytes = g .valid .bytes; empty = λ z. absurd (right-got (r .kind) (g .got) z) }));
-    }))
+    let n : length (drop (x .working .place) rs) ≡ length rs - x .working .place = length-drop (x .working .place) rs in
+    inReplay-used d b x (tookGots (due x) (x .working)) h
+    (rw n at (took-used (recordsLeft x) (x .working .since) (x .working)
+    (each-drop (x .working .place) rs (h .alone .fields .selected .log .records)) (h .alone .fields .working)))
 
 -- ---- an access in replay
 
--- a due got that the access needs gives it its right; without one the access has it
 pub sameGot-true : (g h : CopyOrOwn) → sameGot g h ≡ true → g ≡ h
 unfolding sameGot
 sameGot-true GotCopy GotCopy e = refl
@@ -184,36 +173,29 @@ sameGot-true GotCopy GotOwn e = clash e refl
 sameGot-true GotOwn GotCopy e = clash e refl
 sameGot-true GotOwn GotOwn e = refl
 
-needsGot-right : (a : Access) (fs : List Frame) (k : Kind) → needsGot a fs k ≡ true → lacks a (rightGot k) ≡ false
-unfolding needsGot
-needsGot-right a fs (Got g p) h =
-    let e : g ≡ takes a = sameGot-true g (takes a) (and-left (sameGot g (takes a)) (lacking a fs) (and-right (eqb p (pageNamed a)) _ h)) in
-    rw e (takes-enough a p)
-needsGot-right a fs (Shown p) h = clash h refl
-needsGot-right a fs (Dropped p) h = clash h refl
+-- what the due gots leave of the counters
+pub record TookDue (w v : Working) : Type 0 where
+  pub number : v .number ≡ w .number
+  pub since : v .since ≤ w .since
 
--- what a due got leaves: the counters, and the right that code 5 asks for
-pub record TookDue (a : Access) (x y : Board) : Type 0 where
-  pub number : y .working .number ≡ x .working .number
-  pub since : y .working .since ≤ x .working .since
-  pub right : differs a x ≡ false → pageNamed a < length (x .working .frames) → lacking a (y .working .frames) ≡ false
+tookGots-took : (rs : List Record) (w : Working) → TookDue w (tookGots rs w)
+unfolding tookGots tookGot used
+tookGots-took [] w = record { number = refl; since = omega arith }
+tookGots-took (r ∷ rs) w =
+    let u : TookDue (tookGot r w) (tookGots rs (tookGot r w)) = tookGots-took rs (tookGot r w) in
+    record { number = u .number; since = omega (arith, u .since) }
 
-pub tookDue-took : (a : Access) (x : Board) → TookDue a x (tookDue a x)
-unfolding tookDue tookGot used onWorking differs lacking
-tookDue-took a x =
-    casesOption (TookDue a x) (due x)
-    (λ e. record { number = refl; since = omega arith; right = λ t l. cc })
-    (λ r e.
-    record {
-      number = refl;
-      since = omega arith;
-      right =
-          λ t l.
-          let n : not (needsGot a (x .working .frames) (r .kind)) ≡ false = cc in
-          ap (λ (f : Frame). lacks a (f .right))
-          (frameAt-same (x .working .frames) (pageNamed a) (record { right = rightGot (r .kind); bytes = r .bytes }) l)
-          ∙ needsGot-right a (x .working .frames) (r .kind) (not-false _ n);
-    })
+pub tookDue-took : (x : Board) → TookDue (x .working) (tookDue x .working)
+unfolding tookDue onWorking
+tookDue-took x = tookGots-took (due x) (x .working)
+
+-- code 5 let it pass: where records are left the access lacks nothing, and the gots are those that it needs
+pub fits-has : (a : Access) (x : Board) → differs a x ≡ false → replayOver (tookDue x) ≡ false → lacking a (tookDue x .working .frames) ≡ false
+unfolding differs
+fits-has a x t over =
+    let u : (not (replayOver (tookDue x)) && lacking a (tookDue x .working .frames)) ≡ false =
+    or-none (not (needsGots a (x .working .frames) 0 (due x))) (not (replayOver (tookDue x)) && lacking a (tookDue x .working .frames)) t .1 in
+    byBool (lacking a (tookDue x .working .frames)) (λ l. clash (and-both (true-not over) l) u) (λ l. l)
 
 pub accessed-inReplay : (d : List Entry) (b : ℕ) (a : Access) (x : Board) → InReplay d b x → x .working .since < lastSince
     → x .working .number < lastNumber → Writable (x .working .frames) (cellsWritten a) → InReplay d b (onWorking (accessed a) x)

@@ -25,9 +25,9 @@ use Rattle.model.specs.Definitions.Steps.{recorded, note, withFrame, fra
 use Rattle.model.specs.Laws.Logic.{cases, byEq, byState, clash}
 use Rattle.model.specs.Laws.Lists.{length-update, getD-update-same, getD-update-other, update-set, each-getD, each-set}
 use Rattle.model.specs.Laws.Sets.{member-with-same, member-with-other, with-below, member-none}
-use Rattle.model.specs.Laws.Boards.{boardAt-out, rightIn-owner, rightIn-copy, rightIn-none, rightIn-same, frameAt-same, frameAt-other, tookCopy, withCopy}
-use Rattle.model.specs.Laws.Boards.{droppedIf, withoutCopies, ownedBy, tookOwn, boardAt-giveCopy-same, boardAt-giveCopy-other, boardAt-dropCopies}
-use Rattle.model.specs.Laws.Boards.{boardAt-passOwnership-same, boardAt-passOwnership-other}
+use Rattle.model.specs.Laws.Boards.{boardAt-out, rightIn-owner, rightIn-copy, rightIn-none, rightIn-same, frameAt-same, frameAt-other, tookCopy}
+use Rattle.model.specs.Laws.Boards.{withCopy, droppedIf, withoutCopies, ownedBy, tookOwn, boardAt-giveCopy-same, boardAt-giveCopy-other}
+use Rattle.model.specs.Laws.Boards.{boardAt-dropCopies, boardAt-passOwnership-same, boardAt-passOwnership-other}
 use Rattle.model.specs.Laws.Runs.{SameSizes, sizes-giveCopy, sizes-dropCopies, sizes-passOwnership}
 use Rattle.model.specs.Laws.Keeps.Clauses.{up-not-down, up-not-replaying, SameFor, place-kept, fits, wellFormed-fits, fits-directory, up-below, alone-up}
 use Rattle.model.specs.Contracts.{Fits, RoomFor}

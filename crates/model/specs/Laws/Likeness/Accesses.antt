@@ -1,37 +1,41 @@
--- Every access of a board keeps banks alike and answers alike: the moves that it makes one after the other, its refusals, its value. Assumes nothing.
+-- Every access of a board keeps banks alike and answers alike: the moves that it makes one by one, its refusals, its value and bytes. Assumes nothing.
 use mathlib.Core.Path.{_≡_, refl, ap, _∙_, fun-ext}
-use Prim.Native.Nat.{ℕ}
+use Prim.Native.Nat.{ℕ, suc}
 use mathlib.Core.Bool.{Bool, _&&_, not}
 use mathlib.Core.Option.{Option}
-use mathlib.Core.List.{List, map}
+use mathlib.Core.List.{List, [], _∷_, map}
 use lib.ListN.{length, replicate, getD, List·getD-map}
 use lib.Dec.{ltb}
 use Rattle.types.specs.declared.Frame.{Frame}
-use Rattle.types.specs.declared.Right.{Right}
 use Rattle.types.specs.declared.CopyOrOwn.{CopyOrOwn}
 use Rattle.types.specs.declared.CopyOrOwn.the-variants.{GotCopy, GotOwn}
 use Rattle.types.specs.declared.Kind.{Kind}
 use Rattle.types.specs.declared.Kind.the-variants.{Got, Shown, Dropped}
+use Rattle.types.specs.declared.Record.{Record}
 use Rattle.types.specs.declared.Answer.{Answer}
 use Rattle.types.specs.declared.Answer.the-variants.{Done, OwnerNotUp, LogFull, PowerLost}
+use Rattle.model.specs.Definitions.Parts.{every}
 use Rattle.model.specs.Definitions.Layout.{byteValues}
 use Rattle.model.specs.Definitions.Bank.{Entry, Board, Bank, boardAt, frameAt, onBoard}
+use Rattle.model.specs.Definitions.Codec.{pageOf}
 use Rattle.model.specs.Definitions.WellFormed.{isUp, isDown, isReplaying}
-use Rattle.model.specs.Definitions.Steps.{Run, start, storeAll, storedRecord, recordStores, flush, spareStores, checkpoint, Access, Read, Write, Cell}
-use Rattle.model.specs.Definitions.Steps.{pageNamed, lacks, takes, cellsRead, cellByte, valueOf, giver, show, readFetch, writeFetch, fetch}
-use Rattle.model.specs.Definitions.Replay.{lacking, needsGot, differs, tookDue, replayOver, endReplay, endIfOver}
-use Rattle.model.specs.Definitions.Calls.{Result, firstOf, unless, finished, copiesOut, fetchNeed, dropNeed, lackingOf, need, short, shortBoard, isSome}
-use Rattle.model.specs.Definitions.Calls.{numberIn, liveRefusals, prepared, performed, live, liveAfterEnd, replaying, accessInRange, countersFull}
-use Rattle.model.specs.Definitions.Calls.{refusalsWithin, accessWithin}
-use Rattle.model.specs.Moves.{NoteShown, NoteGot, StoreRecord, StoreFrame, StoreHead, StoreSelector, GiveCopy, PassOwnership, DropCopies, Perform, Settle}
+use Rattle.model.specs.Definitions.Steps.{Run, start, storeAll, storedRecord, recordStores, flush, spareStores, checkpoint, Access, Read, Write}
+use Rattle.model.specs.Definitions.Steps.{ReadCells, Cell, cellsAsked, cellsRead, cellsWritten, anyWrite, names, takes, lacksPage, lackingPages}
+use Rattle.model.specs.Definitions.Steps.{cellByte, readFrom, valueOf, givenOf, giver, show, showAll, giveCopies, readFetch, writeFetch, fetch}
+use Rattle.model.specs.Definitions.Replay.{lacking, needsGot, needsGots, differs, tookDue, replayOver, endReplay, endIfOver}
+use Rattle.model.specs.Definitions.Calls.{Result, firstOf, unless, finished, pageWritten, copiesOut, fetchNeed, dropNeed, lackingOf, pagesLacking}
+use Rattle.model.specs.Definitions.Calls.{pageNeed, need, short, shortBoard, isSome, numberIn, pageMissing, liveRefusals, prepared, performed, live}
+use Rattle.model.specs.Definitions.Calls.{liveAfterEnd, replaying, accessInRange, wrongCells, countersFull, refusalsWithin, accessWithin}
+use Rattle.model.specs.Moves.{NoteShown, NoteGot, StoreRecord, StoreFrame, StoreHead, StoreSelector, PassOwnership, DropCopies, Perform, Settle}
 use Rattle.model.specs.Moves.{does}
-use Rattle.model.specs.Likeness.{EachPair, pairs-nil, pairs-cons, RecordAlike, FramesAlike, BoardAlike, Alike, RunAlike, mappedAccess, mapped}
-use Rattle.model.specs.Likeness.{mappedValue, onValue, ResultAlike}
+use Rattle.model.specs.Likeness.{EachPair, pairs-nil, pairs-cons, FrameAlike, RecordAlike, FramesAlike, BoardAlike, Alike, RunAlike, mappedAccess}
+use Rattle.model.specs.Likeness.{mapped, mappedValue, onValue, ResultAlike}
 use Rattle.model.specs.Laws.Lists.{foldl-both, each-replicate}
 use Rattle.model.specs.Laws.Runs.{each-spareStores, checkpoint-selector}
-use Rattle.model.specs.Laws.Likeness.{Perhaps, neither, both, perhaps-same, casesBoth, optionsBoth, pairs-length, alike-frameAt, alike-boardAt}
-use Rattle.model.specs.Laws.Likeness.{alike-entryAt, alike-onBoard}
-use Rattle.model.specs.Laws.Likeness.Moves.{samePage, alike-due, alike-tookDue, alike-replayed, moves-alike}
+use Rattle.model.specs.Laws.Likeness.{Preserve, Perhaps, neither, both, perhaps-same, casesBoth, optionsBoth, pairs-length, alike-frameAt}
+use Rattle.model.specs.Laws.Likeness.{alike-boardAt, alike-entryAt, alike-onBoard}
+use Rattle.model.specs.Laws.Likeness.Steps.{alike-step, alike-giveCopy}
+use Rattle.model.specs.Laws.Likeness.Moves.{alike-due, alike-tookDue, alike-replayed, moves-alike}
 
 -- ==== several moves
 
@@ -70,15 +74,28 @@ module _ (f : ℕ → ℕ) (z : f 0 ≡ 0) where
   unfolding show does mapped
   alike-show o p e = alike-flush o (moves-alike f z (NoteShown o p) e)
 
-  alike-fetch : (g : CopyOrOwn) (b p : ℕ) {r s : Run} → RunAlike f r s → RunAlike f (fetch g b p r) (fetch g b p s)
-  unfolding fetch readFetch writeFetch does mapped
-  alike-fetch GotCopy b p {r} e =
-      let o : ℕ = giver (r .bank) p in
-      rw (sameGiver f p (e .bank)) (moves-alike f z (GiveCopy o b p) (alike-show o p e))
-  alike-fetch GotOwn b p {r} e =
+  alike-showAll : (ps : List ℕ) {r s : Run} → RunAlike f r s → RunAlike f (showAll ps r) (showAll ps s)
+  unfolding showAll
+  alike-showAll [] e = e
+  alike-showAll (p ∷ ps) {r} e = alike-showAll ps (rw (sameGiver f p (e .bank)) (alike-show (giver (r .bank) p) p e))
+
+  alike-giveCopies : (b : ℕ) (ps : List ℕ) → Preserve (Alike f) (giveCopies b ps) (giveCopies b ps)
+  unfolding giveCopies
+  alike-giveCopies b [] k j e = e
+  alike-giveCopies b (p ∷ ps) k j e = alike-giveCopies b ps _ _ (rw (sameGiver f p e) (alike-giveCopy f z (giver k p) b p k j e))
+
+  alike-writeFetch : (b p : ℕ) {r s : Run} → RunAlike f r s → RunAlike f (writeFetch b p r) (writeFetch b p s)
+  unfolding writeFetch does mapped
+  alike-writeFetch b p {r} e =
       let o : ℕ = giver (r .bank) p in
       rw (sameGiver f p (e .bank))
       (moves-alike f z (PassOwnership o b p) (alike-flush b (moves-alike f z (NoteGot b o p) (alike-show o p e))))
+
+  alike-fetch : (g : CopyOrOwn) (b : ℕ) (ps : List ℕ) {r s : Run} → RunAlike f r s → RunAlike f (fetch g b ps r) (fetch g b ps s)
+  unfolding fetch readFetch
+  alike-fetch GotCopy b ps e = alike-step f (alike-giveCopies b ps) (alike-showAll ps e)
+  alike-fetch GotOwn b [] e = e
+  alike-fetch GotOwn b (p ∷ ps) e = alike-fetch GotOwn b ps (alike-writeFetch b p e)
 
   alike-endReplay : (b : ℕ) {r s : Run} → RunAlike f r s → RunAlike f (endReplay b r) (endReplay b s)
   unfolding endReplay does mapped
@@ -107,14 +124,15 @@ module _ (f g : ℕ → ℕ) where
   pub alike-unless : {ts us : List (Bool × Answer)} {r s : Run} {x y : Result} → EachPair (RowAlike g) ts us → RunAlike f r s → ResultAlike f g x y
       → ResultAlike f g (unless ts r x) (unless us s y)
   unfolding unless
-  alike-unless is e q = optionsBoth (ResultAlike f g) (λ x y. y ≡ onValue g x) (alike-firstOf g is) q (λ x y i. record { answer = i; run = e })
+  alike-unless is e q = optionsBoth (ResultAlike f g) (λ x y. y ≡ onValue g x) (alike-firstOf g is) q (λ x y i. record { answer = i; run = e; given = refl })
 
-  pub alike-finished : {v w : ℕ} {r s : Run} → w ≡ g v → RunAlike f r s → ResultAlike f g (finished v r) (finished w s)
+  pub alike-finished : {v w : ℕ} (l : List ℕ) {m : List ℕ} {r s : Run} → w ≡ g v → m ≡ map f l → RunAlike f r s
+      → ResultAlike f g (finished v l r) (finished w m s)
   unfolding finished onValue
-  alike-finished i e =
+  alike-finished l i h e =
       optionsBoth (ResultAlike f g) (λ x y. y ≡ x) (perhaps-same (e .lost))
-      (record { answer = ap Done i; run = e })
-      (λ b c o. record { answer = ap PowerLost o; run = e })
+      (record { answer = ap Done i; run = e; given = h })
+      (λ b c o. record { answer = ap PowerLost o; run = e; given = refl })
 
 -- ==== an access of an up board
 
@@ -124,20 +142,56 @@ module _ (f : ℕ → ℕ) where
   unfolding takes mappedAccess
   sameTakes (Read p o) = refl
   sameTakes (Write p o v) = refl
+  sameTakes (ReadCells cells outLength) = refl
 
-  sameLacks : (a : Access) (r : Right) → lacks (mappedAccess f a) r ≡ lacks a r
-  unfolding lacks mappedAccess
-  sameLacks (Read p o) r = refl
-  sameLacks (Write p o v) r = refl
+  sameRead : (a : Access) → cellsRead (mappedAccess f a) ≡ cellsRead a
+  unfolding cellsRead mappedAccess
+  sameRead (Read p o) = refl
+  sameRead (Write p o v) = refl
+  sameRead (ReadCells cells outLength) = refl
+
+  sameAnyWrite : (a : Access) (p : ℕ) → anyWrite (cellsWritten (mappedAccess f a)) p ≡ anyWrite (cellsWritten a) p
+  unfolding anyWrite cellsWritten mappedAccess
+  sameAnyWrite (Read p o) q = refl
+  sameAnyWrite (Write p o v) q = refl
+  sameAnyWrite (ReadCells cells outLength) q = refl
+
+  sameNames : (a : Access) (p : ℕ) → names (mappedAccess f a) p ≡ names a p
+  unfolding names
+  sameNames a p = rw (sameRead a, sameAnyWrite a p)
+
+  samePageWritten : (a : Access) → pageWritten (mappedAccess f a) ≡ pageWritten a
+  unfolding pageWritten cellsWritten mappedAccess
+  samePageWritten (Read p o) = refl
+  samePageWritten (Write p o v) = refl
+  samePageWritten (ReadCells cells outLength) = refl
+
+  sameWrongCells : (a : Access) → wrongCells (mappedAccess f a) ≡ wrongCells a
+  unfolding wrongCells mappedAccess
+  sameWrongCells (Read p o) = refl
+  sameWrongCells (Write p o v) = refl
+  sameWrongCells (ReadCells cells outLength) = refl
 
 module _ (f : ℕ → ℕ) (z : f 0 ≡ 0) (a : Access) where
+  sameLacksPage : (p : ℕ) {fs gs : List Frame} → FramesAlike f fs gs → lacksPage (mappedAccess f a) gs p ≡ lacksPage a fs p
+  unfolding lacksPage
+  sameLacksPage p e = rw (sameNames f a p, sameTakes f a, alike-frameAt f z p e .right)
+
+  sameLackingPages : {fs gs : List Frame} → FramesAlike f fs gs → lackingPages (mappedAccess f a) gs ≡ lackingPages a fs
+  unfolding lackingPages
+  sameLackingPages e = rw (pairs-length (FrameAlike f) e, fun-ext (λ p. sameLacksPage p e))
+
   sameLacking : {fs gs : List Frame} → FramesAlike f fs gs → lacking (mappedAccess f a) gs ≡ lacking a fs
   unfolding lacking
-  sameLacking e = rw (samePage f a, alike-frameAt f z (pageNamed a) e .right) (sameLacks f a _)
+  sameLacking e = rw (sameLackingPages e, lacking)
 
   sameLackingOf : (b : ℕ) {k j : Bank} → Alike f k j → lackingOf b (mappedAccess f a) j ≡ lackingOf b a k
   unfolding lackingOf
   sameLackingOf b e = sameLacking (alike-boardAt f b e .working .frames)
+
+  samePagesLacking : (b : ℕ) {k j : Bank} → Alike f k j → pagesLacking b (mappedAccess f a) j ≡ pagesLacking b a k
+  unfolding pagesLacking
+  samePagesLacking b e = sameLackingPages (alike-boardAt f b e .working .frames)
 
 module _ (f : ℕ → ℕ) (z : f 0 ≡ 0) where
   sameByte : (c : Cell) {fs gs : List Frame} → FramesAlike f fs gs → cellByte gs c ≡ f (cellByte fs c)
@@ -149,14 +203,27 @@ module _ (f : ℕ → ℕ) (z : f 0 ≡ 0) where
 
   -- the byte read, or 0
   sameValue : (a : Access) {fs gs : List Frame} → FramesAlike f fs gs → valueOf (mappedAccess f a) gs ≡ mappedValue f a (valueOf a fs)
-  unfolding valueOf cellsRead mappedAccess mappedValue
+  unfolding valueOf mappedAccess mappedValue
   sameValue (Read p o) e = sameByte (record { page = p; offset = o }) e
   sameValue (Write p o v) e = refl
+  sameValue (ReadCells cells outLength) e = refl
+
+  sameBytes : (cs : List Cell) {fs gs : List Frame} → FramesAlike f fs gs → map (cellByte gs) cs ≡ map f (map (cellByte fs) cs)
+  sameBytes [] e = refl
+  sameBytes (c ∷ cs) e = rw (sameByte c e, sameBytes cs e)
+
+  -- the bytes of a second buffer, if there is one
+  sameGiven : (a : Access) {fs gs : List Frame} → FramesAlike f fs gs → givenOf (mappedAccess f a) gs ≡ map f (givenOf a fs)
+  unfolding givenOf readFrom cellsRead mappedAccess
+  sameGiven (Read p o) e = refl
+  sameGiven (Write p o v) e = refl
+  sameGiven (ReadCells cells outLength) e = sameBytes (cellsAsked cells) e
 
 sameCopiesOut : (f : ℕ → ℕ) (a : Access) {k j : Bank} → Alike f k j → copiesOut (mappedAccess f a) j ≡ copiesOut a k
-unfolding copiesOut mappedAccess
+unfolding copiesOut cellsWritten mappedAccess
 sameCopiesOut f (Read p o) e = refl
 sameCopiesOut f (Write p o v) e = rw (alike-entryAt f p e)
+sameCopiesOut f (ReadCells cells outLength) e = refl
 
 sameFetchNeed : (f : ℕ → ℕ) (g : CopyOrOwn) (b o p c : ℕ) {k j : Bank} → Alike f k j → fetchNeed g j b o p c ≡ fetchNeed g k b o p c
 unfolding fetchNeed
@@ -164,16 +231,20 @@ sameFetchNeed f GotCopy b o p c e = refl
 sameFetchNeed f GotOwn b o p c e = cc (alike-entryAt f p e)
 
 module _ (f : ℕ → ℕ) (z : f 0 ≡ 0) (b : ℕ) (a : Access) {k j : Bank} (e : Alike f k j) where
-  sameDropNeed : (c : ℕ) → dropNeed (mappedAccess f a) j c ≡ dropNeed a k c
+  sameDropNeed : (p c : ℕ) → dropNeed (mappedAccess f a) j p c ≡ dropNeed a k p c
   unfolding dropNeed
-  sameDropNeed c = cc (samePage f a, sameCopiesOut f a e, alike-entryAt f (pageNamed a) e)
+  sameDropNeed p c = cc (sameAnyWrite f a p, alike-entryAt f p e)
+
+  samePageNeed : (c p : ℕ) → pageNeed b (mappedAccess f a) j c p ≡ pageNeed b a k c p
+  unfolding pageNeed
+  samePageNeed c p =
+      casesBoth (λ m n. n ≡ m) (sameLacksPage f z a p (alike-boardAt f b e .working .frames))
+      (rw (sameTakes f a, sameGiver f p e) (sameFetchNeed f (takes a) b (giver k p) p c e))
+      (sameDropNeed p c)
 
   sameNeed : (c : ℕ) → need b (mappedAccess f a) j c ≡ need b a k c
   unfolding need
-  sameNeed c =
-      casesBoth (λ m n. n ≡ m) (sameLackingOf f z a b e)
-      (rw (samePage f a, sameTakes f a, sameGiver f (pageNamed a) e) (sameFetchNeed f (takes a) b (giver k (pageNamed a)) (pageNamed a) c e))
-      (sameDropNeed c)
+  sameNeed c = rw (fun-ext (samePageNeed c), e .directory)
 
   sameShort : (c : ℕ) → short b (mappedAccess f a) j c ≡ short b a k c
   unfolding short
@@ -186,35 +257,44 @@ module _ (f : ℕ → ℕ) (z : f 0 ≡ 0) (b : ℕ) (a : Access) {k j : Bank} (
   unfolding shortBoard
   sameShortBoard = rw (pairs-length (BoardAlike f) (e .boards), fun-ext sameShort)
 
+  sameMissing : (p : ℕ) → (lacksPage (mappedAccess f a) (boardAt j b .working .frames) p && not (isUp (boardAt j (giver j p) .state)))
+      ≡ (lacksPage a (boardAt k b .working .frames) p && not (isUp (boardAt k (giver k p) .state)))
+  sameMissing p = rw (sameLacksPage f z a p (alike-boardAt f b e .working .frames), sameGiver f p e, alike-boardAt f (giver k p) e .state)
+
+  samePageMissing : pageMissing b (mappedAccess f a) j ≡ pageMissing b a k
+  unfolding pageMissing
+  samePageMissing = rw (fun-ext sameMissing, e .directory)
+
   rows-live : EachPair (RowAlike (mappedValue f a)) (liveRefusals b a k) (liveRefusals b (mappedAccess f a) j)
   unfolding liveRefusals onValue
   rows-live =
-      let o : giver j (pageNamed (mappedAccess f a)) ≡ giver k (pageNamed a) = rw (samePage f a) (sameGiver f (pageNamed a) e) in
-      let up : isUp (boardAt j (giver j (pageNamed (mappedAccess f a))) .state) ≡ isUp (boardAt k (giver k (pageNamed a)) .state) =
-      rw o (ap isUp (alike-boardAt f (giver k (pageNamed a)) e .state)) in
-      pairs-cons (sameAnd (sameLackingOf f z a b e) (ap not up), ap OwnerNotUp o)
+      let owner : giver j (numberIn (pageMissing b (mappedAccess f a) j)) ≡ giver k (numberIn (pageMissing b a k)) =
+      rw samePageMissing (sameGiver f (numberIn (pageMissing b a k)) e) in
+      pairs-cons (ap isSome samePageMissing, ap OwnerNotUp owner)
       (pairs-cons (ap isSome sameShortBoard, ap (λ (m : Option ℕ). LogFull (numberIn m)) sameShortBoard) pairs-nil)
 
 sameInRange : (f : ℕ → ℕ) → ((v : ℕ) → ltb (f v) byteValues ≡ ltb v byteValues) → (b : ℕ) (a : Access) {k j : Bank} → Alike f k j
     → accessInRange b (mappedAccess f a) j ≡ accessInRange b a k
-unfolding accessInRange mappedAccess
+unfolding accessInRange every cellsRead cellsWritten mappedAccess
 sameInRange f bytes b (Read p o) e = rw (pairs-length (BoardAlike f) (e .boards), e .directory)
 sameInRange f bytes b (Write p o v) e = rw (pairs-length (BoardAlike f) (e .boards), e .directory, bytes v)
+sameInRange f bytes b (ReadCells cells outLength) e = rw (pairs-length (BoardAlike f) (e .boards), e .directory)
 
 module _ (f : ℕ → ℕ) (z : f 0 ≡ 0) (b : ℕ) (a : Access) where
   alike-prepared : {r s : Run} → RunAlike f r s → RunAlike f (prepared b a r) (prepared b (mappedAccess f a) s)
   unfolding prepared does mapped
-  alike-prepared e =
+  alike-prepared {r} e =
       casesBoth (RunAlike f) (sameLackingOf f z a b (e .bank))
-      (rw (sameTakes f a, samePage f a) (alike-fetch f z (takes a) b (pageNamed a) e))
+      (rw (sameTakes f a, samePagesLacking f z a b (e .bank)) (alike-fetch f z (takes a) b (pagesLacking b a (r .bank)) e))
       (casesBoth (RunAlike f) (sameCopiesOut f a (e .bank))
-      (rw (samePage f a) (moves-alike f z (DropCopies (pageNamed a)) e))
+      (rw (samePageWritten f a) (moves-alike f z (DropCopies (pageWritten a)) e))
       e)
 
   alike-performed : {r s : Run} → RunAlike f r s → ResultAlike f (mappedValue f a) (performed b a r) (performed b (mappedAccess f a) s)
   unfolding performed does mapped
   alike-performed e =
-      alike-finished f (mappedValue f a) (sameValue f z a (alike-boardAt f b (e .bank) .working .frames)) (moves-alike f z (Perform b a) e)
+      let fs : FramesAlike f _ _ = alike-boardAt f b (e .bank) .working .frames in
+      alike-finished f (mappedValue f a) _ (sameValue f z a fs) (sameGiven f z a fs) (moves-alike f z (Perform b a) e)
 
   alike-live : {r s : Run} → RunAlike f r s → ResultAlike f (mappedValue f a) (live b a r) (live b (mappedAccess f a) s)
   unfolding live
@@ -225,17 +305,18 @@ module _ (f : ℕ → ℕ) (z : f 0 ≡ 0) (b : ℕ) (a : Access) where
   alike-liveAfterEnd e =
       optionsBoth (ResultAlike f (mappedValue f a)) (λ x y. y ≡ x) (perhaps-same (e .lost))
       (alike-live e)
-      (λ c d o. record { answer = ap PowerLost o; run = e })
+      (λ c d o. record { answer = ap PowerLost o; run = e; given = refl })
 
   -- ==== an access of a replaying board
 
   alike-replaying : {k j : Bank} → Alike f k j → ResultAlike f (mappedValue f a) (replaying b a k) (replaying b (mappedAccess f a) j)
   unfolding replaying
   alike-replaying {k} {j} e =
-      let q : Alike f (onBoard b (tookDue a) k) (onBoard b (tookDue (mappedAccess f a)) j) = alike-onBoard f b (alike-tookDue f z a) k j e in
+      let q : Alike f (onBoard b tookDue k) (onBoard b tookDue j) = alike-onBoard f b (alike-tookDue f z) k j e in
+      let fs : FramesAlike f _ _ = alike-boardAt f b q .working .frames in
       casesBoth (ResultAlike f (mappedValue f a)) (sameOver f (alike-boardAt f b q))
       (alike-liveAfterEnd (alike-endReplay f z b (alike-start f q)))
-      (alike-finished f (mappedValue f a) (sameValue f z a (alike-boardAt f b q .working .frames))
+      (alike-finished f (mappedValue f a) _ (sameValue f z a fs) (sameGiven f z a fs)
       (alike-endIfOver f z b (alike-start f (alike-onBoard f b (alike-replayed f z a) _ _ q))))
 
   -- ==== an access
@@ -244,14 +325,20 @@ module _ (f : ℕ → ℕ) (z : f 0 ≡ 0) (b : ℕ) (a : Access) where
   unfolding needsGot
   sameNeedsGot {m = m} e i =
       rw i
-      (elim m [ Got g p ↦ rw (samePage f a, sameTakes f a, sameLacking f z a e) | Shown p ↦ refl | Dropped p ↦ refl ])
+      (elim m [ Got g p ↦ rw (sameTakes f a, sameLacksPage f z a p e) | Shown p ↦ refl | Dropped p ↦ refl ])
+
+  sameNeedsGots : {fs gs : List Frame} {rs ss : List Record} (n : ℕ) → FramesAlike f fs gs → EachPair (RecordAlike f) rs ss
+      → needsGots (mappedAccess f a) gs n ss ≡ needsGots a fs n rs
+  unfolding needsGots
+  sameNeedsGots n e pairs-nil = refl
+  sameNeedsGots n e (pairs-cons {x} i is) =
+      rw (sameNeedsGot e (i .kind), i .kind, sameNeedsGots (suc (pageOf (x .kind))) e is)
 
   sameDiffers : {x y : Board} → BoardAlike f x y → differs (mappedAccess f a) y ≡ differs a x
   unfolding differs
   sameDiffers e =
-      optionsBoth (λ s t. t ≡ s) (RecordAlike f) (alike-due f z e)
-      (sameLacking f z a (e .working .frames))
-      (λ r s i. ap not (sameNeedsGot (e .working .frames) (i .kind)))
+      let t : BoardAlike f _ _ = alike-tookDue f z _ _ e in
+      rw (sameNeedsGots 0 (e .working .frames) (alike-due f z e), sameOver f t, sameLacking f z a (t .working .frames))
 
   sameFull : (largest : ℕ) {x y : Board} → BoardAlike f x y → countersFull largest y ≡ countersFull largest x
   unfolding countersFull
@@ -264,10 +351,11 @@ module _ (f : ℕ → ℕ) (z : f 0 ≡ 0) (b : ℕ) (a : Access) where
     rows-access {k} {j} e =
         let x : BoardAlike f (boardAt k b) (boardAt j b) = alike-boardAt f b e in
         pairs-cons (ap not (sameInRange f bytes b a e), refl)
+        (pairs-cons (sameWrongCells f a, refl)
         (pairs-cons (ap isDown (x .state), refl)
         (pairs-cons (sameFull largest x, refl)
         (pairs-cons (sameAnd (ap isReplaying (x .state)) (sameDiffers x), refl)
-        pairs-nil)))
+        pairs-nil))))
 
     pub alike-accessWithin : {k j : Bank} → Alike f k j
         → ResultAlike f (mappedValue f a) (accessWithin largest b a k) (accessWithin largest b (mappedAccess f a) j)

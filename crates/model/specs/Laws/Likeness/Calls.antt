@@ -28,11 +28,11 @@ module _ (f : ℕ → ℕ) (z : f 0 ≡ 0) where
 
   -- a call that refuses by its numbers and by the state of its board, and answers a number that is no page byte
   alike-tested : (b : ℕ) {t u v w : Bool} {m n : ℕ} {k j : Bank} {r s : Run} → v ≡ t → w ≡ u → n ≡ m → Alike f k j → RunAlike f r s
-      → ResultAlike f (λ x. x) (unless ((t, OutOfRange) ∷ (u, WrongState b) ∷ []) (start k) (finished m r))
-      (unless ((v, OutOfRange) ∷ (w, WrongState b) ∷ []) (start j) (finished n s))
+      → ResultAlike f (λ x. x) (unless ((t, OutOfRange) ∷ (u, WrongState b) ∷ []) (start k) (finished m [] r))
+      (unless ((v, OutOfRange) ∷ (w, WrongState b) ∷ []) (start j) (finished n [] s))
   unfolding onValue
   alike-tested b range state value e q =
-      alike-unless f (λ x. x) (pairs-cons (range, refl) (pairs-cons (state, refl) pairs-nil)) (alike-start f e) (alike-finished f (λ x. x) value q)
+      alike-unless f (λ x. x) (pairs-cons (range, refl) (pairs-cons (state, refl) pairs-nil)) (alike-start f e) (alike-finished f (λ x. x) [] value refl q)
 
   alike-checkpointBank : (b : ℕ) {k j : Bank} → Alike f k j → ResultAlike f (λ x. x) (checkpointBank b k) (checkpointBank b j)
   unfolding checkpointBank

@@ -12,12 +12,13 @@ use Rattle.types.specs.declared.Kind.the-variants.{Got, Shown, Dropped}
 use Rattle.types.specs.declared.CopyOrOwn.the-variants.{GotOwn}
 use Rattle.types.specs.declared.Record.{Record}
 use Rattle.model.specs.Definitions.Bank.{Working, Board}
-use Rattle.model.specs.Definitions.Steps.{Access, Read, Write, pageNamed, Run}
-use Rattle.model.specs.Definitions.Replay.{loaded, recordsLeft, used, useUp, usedUp, gotDue, due, rightGot, tookGot, tookDue, settledFrame, settled}
-use Rattle.model.specs.Definitions.Replay.{replayed, settle}
+use Rattle.model.specs.Definitions.Codec.{pageOf}
+use Rattle.model.specs.Definitions.Steps.{Access, Run}
+use Rattle.model.specs.Definitions.Replay.{loaded, recordsLeft, used, useUp, usedUp, gotsDue, due, rightGot, tookGot, tookGots, tookDue, settledFrame}
+use Rattle.model.specs.Definitions.Replay.{settled, replayed, settle}
 use Rattle.model.specs.Likeness.{EachPair, pairs-nil, pairs-cons, FrameAlike, RecordAlike, FramesAlike, AreaAlike, WorkingAlike, BoardAlike, Alike}
 use Rattle.model.specs.Likeness.{mappedAccess, RunAlike, mapped}
-use Rattle.model.specs.Laws.Likeness.{Preserve, Perhaps, neither, both, casesBoth, optionsBoth, pairs-set, pairs-each, pairs-drop, alike-emptyFrame}
+use Rattle.model.specs.Laws.Likeness.{Preserve, casesBoth, pairs-set, pairs-each, pairs-drop, alike-emptyFrame}
 use Rattle.model.specs.Laws.Likeness.{alike-entryAt, alike-onBoard, alike-onWorking}
 use Rattle.model.specs.Laws.Likeness.Steps.{alike-accessed, alike-step, alike-withFuse, alike-noteShown, alike-notePage, alike-store, alike-storedRecord}
 use Rattle.model.specs.Laws.Likeness.Steps.{alike-storedFrame, alike-storedHead, alike-storedSelector, alike-restedWorking, alike-giveCopy}
@@ -30,11 +31,6 @@ kindsBoth : {A B : Type 0} (R : A → B → Type 0) {k j : Kind} {a : CopyOrOwn 
     → ((o : CopyOrOwn) (p : ℕ) → R (a o p) (d o p)) → ((p : ℕ) → R (b p) (e p)) → ((p : ℕ) → R (c p) (g p))
     → R (elim k [ Got o p ↦ a o p | Shown p ↦ b p | Dropped p ↦ c p ]) (elim j [ Got o p ↦ d o p | Shown p ↦ e p | Dropped p ↦ g p ])
 kindsBoth R {k} i x y w = rw i (elim k [ Got o p ↦ x o p | Shown p ↦ y p | Dropped p ↦ w p ])
-
-pub samePage : (f : ℕ → ℕ) (a : Access) → pageNamed (mappedAccess f a) ≡ pageNamed a
-unfolding pageNamed mappedAccess
-samePage f (Read p o) = refl
-samePage f (Write p o v) = refl
 
 module _ (f : ℕ → ℕ) (z : f 0 ≡ 0) where
   alike-loaded : Preserve (BoardAlike f) loaded loaded
@@ -79,28 +75,32 @@ module _ (f : ℕ → ℕ) (z : f 0 ≡ 0) where
   pub alike-load : (x y : Board) → BoardAlike f x y → BoardAlike f (usedUp (loaded x)) (usedUp (loaded y))
   alike-load x y e = alike-usedUp (loaded x) (loaded y) (alike-loaded x y e)
 
-  alike-gotDue : {rs ss : List Record} {m n : ℕ} → EachPair (RecordAlike f) rs ss → n ≡ m → Perhaps (RecordAlike f) (gotDue rs m) (gotDue ss n)
-  unfolding gotDue
-  alike-gotDue pairs-nil e = neither
-  alike-gotDue (pairs-cons i is) e =
-      casesBoth (Perhaps (RecordAlike f)) (sameReached i e)
-      (kindsBoth (Perhaps (RecordAlike f)) (i .kind) (λ g p. both i) (λ p. neither) (λ p. neither))
-      neither
+  alike-gotsDue : {rs ss : List Record} {m n : ℕ} → EachPair (RecordAlike f) rs ss → n ≡ m → EachPair (RecordAlike f) (gotsDue rs m) (gotsDue ss n)
+  unfolding gotsDue
+  alike-gotsDue pairs-nil e = pairs-nil
+  alike-gotsDue (pairs-cons i is) e =
+      casesBoth (EachPair (RecordAlike f)) (sameReached i e)
+      (kindsBoth (EachPair (RecordAlike f)) (i .kind) (λ g p. pairs-cons i (alike-gotsDue is refl)) (λ p. pairs-nil) (λ p. pairs-nil))
+      pairs-nil
 
-  pub alike-due : {x y : Board} → BoardAlike f x y → Perhaps (RecordAlike f) (due x) (due y)
+  pub alike-due : {x y : Board} → BoardAlike f x y → EachPair (RecordAlike f) (due x) (due y)
   unfolding due
-  alike-due e = alike-gotDue (alike-recordsLeft e) (e .working .since)
+  alike-due e = alike-gotsDue (alike-recordsLeft e) (e .working .since)
 
-  alike-tookGot : (p : ℕ) {r s : Record} → RecordAlike f r s → Preserve (WorkingAlike f) (tookGot p r) (tookGot p s)
+  alike-tookGot : {r s : Record} → RecordAlike f r s → Preserve (WorkingAlike f) (tookGot r) (tookGot s)
   unfolding tookGot
-  alike-tookGot p i x y e =
-      alike-used (pairs-set (FrameAlike f) p (record { right = ap rightGot (i .kind); bytes = i .bytes }) (e .frames)) e
+  alike-tookGot {r} i x y e =
+      rw (ap pageOf (i .kind))
+      (alike-used (pairs-set (FrameAlike f) (pageOf (r .kind)) (record { right = ap rightGot (i .kind); bytes = i .bytes }) (e .frames)) e)
 
-  pub alike-tookDue : (a : Access) → Preserve (BoardAlike f) (tookDue a) (tookDue (mappedAccess f a))
+  alike-tookGots : {rs ss : List Record} → EachPair (RecordAlike f) rs ss → Preserve (WorkingAlike f) (tookGots rs) (tookGots ss)
+  unfolding tookGots
+  alike-tookGots pairs-nil x y e = e
+  alike-tookGots (pairs-cons i is) x y e = alike-tookGots is _ _ (alike-tookGot i x y e)
+
+  pub alike-tookDue : Preserve (BoardAlike f) tookDue tookDue
   unfolding tookDue
-  alike-tookDue a x y e =
-      optionsBoth (BoardAlike f) (RecordAlike f) (alike-due e) e
-      (λ r s i. rw (samePage f a) (alike-onWorking f (alike-tookGot (pageNamed a) i) x y e))
+  alike-tookDue x y e = alike-onWorking f (alike-tookGots (alike-due e)) x y e
 
   pub alike-replayed : (a : Access) → Preserve (BoardAlike f) (replayed a) (replayed (mappedAccess f a))
   unfolding replayed
@@ -150,6 +150,6 @@ module _ (f : ℕ → ℕ) (z : f 0 ≡ 0) where
   moves-alike (LosePower b) e = alike-step f (alike-powerOff f z b) e
   moves-alike (SetFuse b n) e = alike-step f (alike-onBoard f b (alike-withFuse f n)) e
   moves-alike (Load b) e = alike-step f (alike-onBoard f b alike-load) e
-  moves-alike (Repeat b a) e = alike-step f (λ k j i. alike-onBoard f b (alike-replayed a) _ _ (alike-onBoard f b (alike-tookDue a) k j i)) e
-  moves-alike (TakeLast b a) e = alike-step f (alike-onBoard f b (alike-tookDue a)) e
+  moves-alike (Repeat b a) e = alike-step f (λ k j i. alike-onBoard f b (alike-replayed a) _ _ (alike-onBoard f b alike-tookDue k j i)) e
+  moves-alike (TakeLast b) e = alike-step f (alike-onBoard f b alike-tookDue) e
   moves-alike (Settle b) e = alike-step f (alike-settle b) e

@@ -4,10 +4,11 @@ use Prim.Native.Nat.{ℕ}
 use mathlib.Core.List.{List, map-id}
 use Rattle.types.specs.declared.Answer.{Answer}
 use Rattle.types.specs.declared.Answer.the-variants.{Done, Malformed, OutOfRange, WrongState, CountersFull, ReplayDiffers, OwnerNotUp, LogFull, PowerLost}
+use Rattle.types.specs.declared.Answer.the-variants.{WrongCells}
 use Rattle.types.specs.declared.Frame.{Frame}
 use Rattle.model.specs.Definitions.Layout.{lastSince}
 use Rattle.model.specs.Definitions.Bank.{Log, Area, Board, Bank, logOver, areaOver, boardOver}
-use Rattle.model.specs.Definitions.Steps.{Access, Read, Write}
+use Rattle.model.specs.Definitions.Steps.{Access, Read, Write, ReadCells}
 use Rattle.model.specs.Definitions.Calls.{Call, Accessing, Checkpointing, Fusing, Restarting, callWithin, callBank}
 use Rattle.model.specs.Likeness.{FrameAlike, RecordAlike, FramesAlike, LogAlike, AreaAlike, BoardAlike, slotsOver, mappedAccess, mappedValue, mappedCall}
 use Rattle.model.specs.Likeness.{mappedCallValue, onValue, ResultAlike, SameBelowCounts, SameAnswer}
@@ -19,11 +20,13 @@ mappedAccess-same : (a : Access) → mappedAccess (λ v. v) a ≡ a
 unfolding mappedAccess
 mappedAccess-same (Read p o) = refl
 mappedAccess-same (Write p o v) = refl
+mappedAccess-same (ReadCells cells outLength) = refl
 
 mappedValue-same : (a : Access) (v : ℕ) → mappedValue (λ v. v) a v ≡ v
 unfolding mappedValue
 mappedValue-same (Read p o) v = refl
 mappedValue-same (Write p o w) v = refl
+mappedValue-same (ReadCells cells outLength) v = refl
 
 mappedCall-same : (c : Call) → mappedCall (λ v. v) c ≡ c
 unfolding mappedCall
@@ -50,6 +53,7 @@ onValue-same g i (ReplayDiffers b) = refl
 onValue-same g i (OwnerNotUp b) = refl
 onValue-same g i (LogFull b) = refl
 onValue-same g i (PowerLost b) = refl
+onValue-same g i WrongCells = refl
 
 -- No call reads a slot at or past a count: two banks that differ only there answer every call alike, and are left differing only there.
 pub unread-slots : (largest : ℕ) (c : Call) {k j : Bank} → SameBelowCounts k j → SameAnswer (callWithin largest c k) (callWithin largest c j)
@@ -58,6 +62,7 @@ unread-slots largest c {k} {j} e =
     rw (mappedCall-same c) at (calls-alike (λ v. v) refl (λ v. refl) largest c e) in
     record {
       answer = q .answer ∙ onValue-same (mappedCallValue (λ v. v) c) (mappedCallValue-same c) (callWithin largest c k .answer);
+      given = q .given ∙ map-id (callWithin largest c k .given);
       stores = q .run .stores;
       lost = q .run .lost;
       bank = q .run .bank;

@@ -14,8 +14,9 @@ use Rattle.model.specs.Definitions.Parts.{zeros, withMember}
 use Rattle.model.specs.Definitions.Layout.{pageSize, noFuse}
 use Rattle.model.specs.Definitions.Bank.{Log, Board, Bank, frameAt, onBoard, onFrames}
 use Rattle.model.specs.Definitions.Steps.{Run, step, poweredOff, powerOff, withFuse, burnt, store, appended, recorded, note, movedRecord, storedRecord}
-use Rattle.model.specs.Definitions.Steps.{storedFrame, storedHead, storedSelector, restedWorking, Access, Read, Write, Cell, cellsWritten, withByte}
-use Rattle.model.specs.Definitions.Steps.{withBytes, accessed, access, withFrame, frameOf, giveCopy, dropped, dropAt, dropCopies, passOwnership}
+use Rattle.model.specs.Definitions.Steps.{storedFrame, storedHead, storedSelector, restedWorking, Access, Read, Write, ReadCells, Cell, cellsWritten}
+use Rattle.model.specs.Definitions.Steps.{withByte, withBytes, accessed, access, withFrame, frameOf, giveCopy, dropped, dropAt, dropCopies}
+use Rattle.model.specs.Definitions.Steps.{passOwnership}
 use Rattle.model.specs.Likeness.{EachPair, pairs-nil, pairs-cons, FrameAlike, RecordAlike, FramesAlike, LogAlike, AreaAlike, WorkingAlike, BoardAlike}
 use Rattle.model.specs.Likeness.{Alike, RunAlike, mappedAccess}
 use Rattle.model.specs.Laws.Likeness.{Preserve, perhaps-same, casesBoth, optionsBoth, pairs-set, pairs-each, pairs-map, pairs-append, map-set, map-zeros}
@@ -191,6 +192,7 @@ module _ (f : ℕ → ℕ) (z : f 0 ≡ 0) where
   unfolding withBytes cellsWritten mappedAccess
   alike-written (Read p o) e = e
   alike-written (Write p o v) e = alike-withByte (record { page = p; offset = o }) v e
+  alike-written (ReadCells cells outLength) e = e
 
   pub alike-accessed : (a : Access) → Preserve (WorkingAlike f) (accessed a) (accessed (mappedAccess f a))
   unfolding accessed

@@ -5,12 +5,11 @@ use Prim.Native.Nat.{ℕ, zero, suc, _<_}
 use native.Mathlib.Omega.{arith}
 use mathlib.Core.Bool.{Bool, true, false, _&&_}
 use mathlib.Core.Option.{none, some}
-use mathlib.Core.List.{List}
+use mathlib.Core.List.{List, [], _∷_, map}
 use lib.ListN.{length}
 use lib.Dec.{eqb, ltb}
 use borrow.Author.Tests.{ltb-true, not-false}
-use Rattle.types.specs.declared.Right.{Right}
-use Rattle.types.specs.declared.Right.the-variants.{None, Copy, Own}
+use Rattle.types.specs.declared.Frame.{Frame}
 use Rattle.types.specs.declared.CopyOrOwn.{CopyOrOwn}
 use Rattle.types.specs.declared.CopyOrOwn.the-variants.{GotCopy, GotOwn}
 use Rattle.types.specs.declared.Kind.the-variants.{Got}
@@ -19,21 +18,22 @@ use Rattle.types.specs.declared.Answer.{Answer}
 use Rattle.types.specs.declared.Answer.the-variants.{Done}
 use Rattle.words.specs.Bytes.{Each, each-nil, each-cons}
 use Rattle.model.specs.Definitions.Layout.{noFuse}
-use Rattle.model.specs.Definitions.Bank.{Entry, Board, Bank, boardAt, entryAt, onBoard, onWorking}
+use Rattle.model.specs.Definitions.Bank.{Entry, Board, Bank, boardAt, entryAt, frameAt, onBoard, onWorking}
 use Rattle.model.specs.Definitions.WellFormed.{WellFormed, isUp, isReplaying}
-use Rattle.model.specs.Definitions.Steps.{Run, start, step, fuseBoard, checkpoint, Access, Read, Write, pageNamed, lacks, takes, valueOf, access}
+use Rattle.model.specs.Definitions.Steps.{Run, start, step, fuseBoard, checkpoint, Access, Read, Write, ReadCells, cellsRead, cellsWritten}
+use Rattle.model.specs.Definitions.Steps.{takes, lacks, lackingPages, readFrom, valueOf, givenOf, access}
 use Rattle.model.specs.Definitions.Steps.{frameOf, note, flush, giver, show, dropCopies, passOwnership, writeFetch, fetch}
-use Rattle.model.specs.Definitions.Replay.{settle, loaded, usedUp, lacking, differs, tookDue, replayOver, settled, endReplay, endIfOver, replayed}
-use Rattle.model.specs.Definitions.Calls.{Result, firstOf, unless, finished, copiesOut, lackingOf, liveRefusals, prepared, performed, live, liveAfterEnd}
-use Rattle.model.specs.Definitions.Calls.{replaying, refusalsWithin, accessRefusals, accessWithin, accessBank, checkpointBank, fuseBank}
-use Rattle.model.specs.Definitions.Calls.{restartBank, Call, Accessing, Reply, refused, replyOf, call, Checkpointing, Fusing, Restarting}
-use Rattle.model.specs.Definitions.Calls.{callBank}
+use Rattle.model.specs.Definitions.Replay.{settle, loaded, usedUp, differs, tookDue, replayOver, settled, endReplay, endIfOver, replayed}
+use Rattle.model.specs.Definitions.Calls.{Result, firstOf, unless, finished, pageWritten, copiesOut, lackingOf, pagesLacking, liveRefusals, prepared}
+use Rattle.model.specs.Definitions.Calls.{performed, live, liveAfterEnd, replaying, refusalsWithin, accessRefusals, accessWithin, accessBank}
+use Rattle.model.specs.Definitions.Calls.{checkpointBank, fuseBank, restartBank, Call, Accessing, Reply, refused, replyOf, call, Checkpointing, Fusing}
+use Rattle.model.specs.Definitions.Calls.{Restarting, callBank}
 use Rattle.model.specs.Definitions.Answers.{code}
 use Rattle.model.specs.Definitions.Codec.{decode}
 use Rattle.model.specs.Definitions.Check.{wellFormed}
 use Rattle.model.specs.Laws.WellFormedTest.{wellFormed-sound, wellFormed-complete}
-use Rattle.model.specs.History.Statement.{Event, Accessed, Nothing, eventOf, doneEvent, accessOf, liveBank, giverIn, gaveIn}
-use Rattle.model.specs.Contracts.{RoomFor, CanAccess, CanFetch, Entered}
+use Rattle.model.specs.History.Statement.{Event, Accessed, Nothing, eventOf, doneEvent, bytesSeen, accessOf, liveBank, giversIn, gaveIn}
+use Rattle.model.specs.Contracts.{CanAccess, CanFetch, Entered}
 use Rattle.model.specs.Moves.{DropCopies, Perform, LosePower, SetFuse, Load, Repeat, TakeLast, Settle, does, Phase, Begun, Fetched, Replays, Settled}
 use Rattle.model.specs.Moves.{Finished, Selects, checkpoints, resumes, closes, ends, anyone, MayPerform, local, taken, dropsCopies, performs, losesPower}
 use Rattle.model.specs.Moves.{setsFuse, loads, repeatsAccess, takesLast, settles, Moves, still, waits, cutOff}
@@ -43,9 +43,12 @@ use Rattle.model.specs.Laws.Boards.{entryAt-passOwnership-same, director
 use Rattle.model.specs.Laws.Runs.{step-done, step-none, step-going, follows-fetch, follows-step, SameSizes, sizes-same, sizes-dropCopies}
 use Rattle.model.specs.Laws.Codes.Statement.{boardNamed}
 use Rattle.model.specs.Laws.Keeps.Clauses.{up-below}
-use Rattle.model.specs.Laws.Keeps.Accesses.{takes-enough}
-use Rattle.model.specs.Laws.Keeps.Fetches.{room-shower, room-owner, Taken, fetch-taken, gave-none, gave-changed, got-changed}
-use Rattle.model.specs.Laws.Keeps.Live.{firstOf-none, first-in, isUp-up, isDown-down, isDown-not, isReplaying-replaying, can-fetch, can-drop, writer-none}
+use Rattle.model.specs.Laws.Lists.{each-imp}
+use Rattle.model.specs.Laws.Below.{Lacks, lacking-none, lackingPages-lack, lackingPages-rise}
+use Rattle.model.specs.Laws.Keeps.Fetches.{page-there, owner-up, room-owner, Taken, gave-none, gave-changed, got-changed}
+use Rattle.model.specs.Laws.Keeps.Live.{firstOf-none, first-in, isUp-up, isDown-down, isDown-not, isReplaying-replaying, can-fetch, can-drop}
+use Rattle.model.specs.Laws.Keeps.Live.{writer-none, copy-none, writes-own, own-writes, named-written, lacking-some, lacking-own, taken-has}
+use Rattle.model.specs.Laws.Keeps.Live.{fetched-taken}
 use Rattle.model.specs.Laws.Keeps.Entered.{entered-live, entered, fitting, board-taken, below-taken, live-can}
 use Rattle.model.specs.Laws.Moves.{moves-do}
 use Rattle.model.specs.Laws.Moves.Formed.{FormedIn, FormedRun, run-formed, formed-begun, fetched-formed, finished-formed, moves-formed}
@@ -54,170 +57,205 @@ use Rattle.model.specs.Laws.Moves.Fetches.{readFetch-moves, writeFetch-m
 
 -- ---- rights
 
--- what a read lacks
-read-none : (p o : ℕ) (r : Right) → lacks (Read p o) r ≡ true → r ≡ None
-unfolding lacks
-read-none p o None h = refl
-read-none p o Copy h = clash h refl
-read-none p o Own h = clash h refl
-
--- where the page's copy-set is empty no copy is out
-none-out : (a : Access) (k : Bank) → entryAt k (pageNamed a) .copies ≡ 0 → copiesOut a k ≡ false
-unfolding copiesOut pageNamed
+-- where the written page's copy-set is empty no copy is out
+none-out : (a : Access) (k : Bank) → entryAt k (pageWritten a) .copies ≡ 0 → copiesOut a k ≡ false
+unfolding copiesOut pageWritten cellsWritten
 none-out (Read p o) k e = refl
 none-out (Write p o v) k e = rw e
+none-out (ReadCells cells outLength) k e = refl
+
+-- no copy is out for who takes copies
+pub copy-out : (a : Access) (k : Bank) → takes a ≡ GotCopy → copiesOut a k ≡ false
+unfolding takes copiesOut cellsWritten
+copy-out (Read p o) k e = refl
+copy-out (Write p o v) k e = let z : _≡_ {A = ℕ} 0 1 = cc in absurd (omega arith)
+copy-out (ReadCells cells outLength) k e = refl
+
+-- a done access answers and gives the bytes that it read
+pub bytes-seen : (a : Access) (fs : List Frame) → bytesSeen a (valueOf a fs) (givenOf a fs) ≡ readFrom a fs
+unfolding bytesSeen valueOf givenOf readFrom cellsRead
+bytes-seen (Read p o) fs = refl
+bytes-seen (Write p o v) fs = refl
+bytes-seen (ReadCells cells outLength) fs = refl
 
 -- ---- results
 
 -- the phase in which a call of bank k with this answer is over: what it feeds to the history
-abbrev pub feeds : Call → Bank → Answer → Phase
-feeds c k x = Finished (eventOf c x) (gaveIn (eventOf c x) k)
+abbrev pub feeds : Call → Bank → Answer → List ℕ → Phase
+feeds c k x given = Finished (eventOf c x given) (gaveIn (eventOf c x given) k)
 
 -- the run of result t of call c is moves, from run r in phase φ to what its answer feeds
 abbrev MadeBy : ℕ → (Access → Type 0) → Phase → Run → Call → Bank → Result → Type 0
-MadeBy b Again φ r c k t = Moves b Again φ r (feeds c k (t .answer)) (t .run)
+MadeBy b Again φ r c k t = Moves b Again φ r (feeds c k (t .answer) (t .given)) (t .run)
 
 -- a call that ran to its end, or lost power
-finished-moves : {b : ℕ} {Again : Access → Type 0} {φ : Phase} {r : Run} (c : Call) (k : Bank) (v : ℕ) (s : Run) → Moves b Again φ r (feeds c k (Done v)) s
-    → MadeBy b Again φ r c k (finished v s)
+finished-moves : {b : ℕ} {Again : Access → Type 0} {φ : Phase} {r : Run} (c : Call) (k : Bank) (v : ℕ) (given : List ℕ) (s : Run)
+    → Moves b Again φ r (feeds c k (Done v) given) s → MadeBy b Again φ r c k (finished v given s)
 unfolding finished
-finished-moves {b} {Again} {φ} {r} c k v s t = casesOption (MadeBy b Again φ r c k) (s .lost) (λ n. t) (λ d e. cutOff t e)
+finished-moves {b} {Again} {φ} {r} c k v given s t = casesOption (MadeBy b Again φ r c k) (s .lost) (λ n. t) (λ d e. cutOff t e)
 
 -- a call that refuses feeds nothing
 unless-moves : {b : ℕ} {Again : Access → Type 0} {φ : Phase} {r : Run} (c : Call) (k : Bank) (tests : List (Bool × Answer)) (s : Run) (go : Result)
-    → Each (λ t. eventOf c (t .1) ≡ Nothing) tests → Moves b Again φ r Begun s → (firstOf tests ≡ none → MadeBy b Again φ r c k go)
+    → Each (λ t. eventOf c (t .1) [] ≡ Nothing) tests → Moves b Again φ r Begun s → (firstOf tests ≡ none → MadeBy b Again φ r c k go)
     → MadeBy b Again φ r c k (unless tests s go)
 unfolding unless gaveIn
 unless-moves {b} {Again} {φ} {r} c k tests s go quiet t f =
     casesOption (MadeBy b Again φ r c k) (firstOf tests) f
-    (λ a e. rw (first-in (λ x. eventOf c x ≡ Nothing) tests a quiet e) (ends t))
+    (λ a e. rw (first-in (λ x. eventOf c x [] ≡ Nothing) tests a quiet e) (ends t))
 
 -- ---- an access
 
 -- A call of bank k that is done feeds access a of board b, and who gives b a page for it can be read in bank `now`, where the access goes on live.
 pub record Makes (c : Call) (k : Bank) (b : ℕ) (a : Access) (now : Bank) : Type 0 where
-  pub event : (v : ℕ) → eventOf c (Done v) ≡ Accessed b a v
-  pub gave : giverIn b a (liveBank b a k) ≡ giverIn b a (some now)
+  pub event : (v : ℕ) (given : List ℕ) → eventOf c (Done v) given ≡ Accessed b a (bytesSeen a v given)
+  pub gave : giversIn b a (liveBank b a k) ≡ giversIn b a (some now)
 
 -- an access of a board that isn't replaying gives what it gives in the bank as it is
 pub makes-now : (b : ℕ) (a : Access) (k : Bank) → isReplaying (boardAt k b .state) ≡ false → Makes (Accessing b a) k b a k
 unfolding eventOf doneEvent liveBank
-makes-now b a k t = let live : liveBank b a k ≡ some k = cc in record { event = λ v. refl; gave = ap (giverIn b a) live }
+makes-now b a k t = let live : liveBank b a k ≡ some k = cc in record { event = λ v given. refl; gave = ap (giversIn b a) live }
 
 -- the access itself
 performed-moves : {Again : Access → Type 0} {φ χ : Phase} {r : Run} {c : Call} {k now : Bank} (b : ℕ) (a : Access) (s : Run) → Makes c k b a now
-    → MayPerform a (giverIn b a (some now)) χ → Moves b Again φ r χ s
+    → MayPerform a (giversIn b a (some now)) χ → Moves b Again φ r χ s
     → (s .lost ≡ none → CanAccess b a (s .bank)) → (s .lost ≡ none → lackingOf b a (s .bank) ≡ false) → (s .lost ≡ none → copiesOut a (s .bank) ≡ false)
     → MadeBy b Again φ r c k (performed b a s)
 unfolding performed does gaveIn
 performed-moves {c = c} {k = k} b a s makes i t can has out =
-    let v : ℕ = valueOf a (boardAt (s .bank) b .working .frames) in
-    finished-moves c k v (step (access b a) s)
-    (rw (makes .event v, makes .gave) (moves-do (Perform b a) t (λ e. performs a i (can e) (has e) (out e))))
-
--- the room that a giver's own record needs
-room-giver : (g : CopyOrOwn) (b p : ℕ) (r : Run) → WellFormed (r .bank) → CanFetch g b p (r .bank) → RoomFor 1 (boardAt (r .bank) (giver (r .bank) p))
-room-giver GotCopy b p r w c = room-shower b p r w c
-room-giver GotOwn b p r w c = omega (arith, room-owner b p r w c)
+    let fs : List Frame = boardAt (s .bank) b .working .frames in
+    finished-moves c k (valueOf a fs) (givenOf a fs) (step (access b a) s)
+    (rw (makes .event (valueOf a fs) (givenOf a fs), bytes-seen a fs, makes .gave)
+    (moves-do (Perform b a) t (λ e. performs a i (can e) (has e) (out e))))
 
 module _ (b : ℕ) (s : Run) (formed : WellFormed (s .bank)) where
-  fetch-moves : {Again : Access → Type 0} {φ : Phase} {r : Run} (a : Access) → lackingOf b a (s .bank) ≡ true → CanFetch (takes a) b (pageNamed a) (s .bank)
-      → Moves b Again φ r Begun (show (giver (s .bank) (pageNamed a)) (pageNamed a) s)
-      → Moves b Again φ r (Fetched (giver (s .bank) (pageNamed a)) (takes a) (pageNamed a)) (fetch (takes a) b (pageNamed a) s)
-  unfolding takes pageNamed fetch lackingOf lacking frameOf
-  fetch-moves (Read p o) lack c t = readFetch-moves b p s formed c (read-none p o (frameOf (s .bank) b p .right) lack) t
-  fetch-moves (Write p o v) lack c t = writeFetch-moves b p s formed c t
+  module _ (a : Access) (can : CanAccess b a (s .bank)) (passed : firstOf (liveRefusals b a (s .bank)) ≡ none) where
+    abbrev fs : List Frame
+    fs = boardAt (s .bank) b .working .frames
 
-  -- a page that passed has no copies
-  fetched-out : (a : Access) → CanFetch (takes a) b (pageNamed a) (s .bank) → fetch (takes a) b (pageNamed a) s .lost ≡ none
-      → copiesOut a (fetch (takes a) b (pageNamed a) s .bank) ≡ false
-  unfolding takes pageNamed fetch writeFetch copiesOut giver
-  fetched-out (Read p o) c n = refl
-  fetched-out (Write p o v) c n =
-      let from : ℕ = giver (s .bank) p in
-      let noted : Bank → Bank = λ k. note b (Got GotOwn p) (frameOf k from p .bytes) k in
-      let got : Run = flush b (step noted (show from p s)) in
-      let e : got .lost ≡ none = step-none (passOwnership from b p) got n in
-      let l : p < length (got .bank .directory) =
-      rw (got-changed b p s formed c e .directory, gave-changed b p s formed c (gave-none b p s formed c e) .directory) (c .page) in
-      none-out (Write p o v) (writeFetch b p s .bank)
-      (ap (λ (k : Bank). entryAt k p .copies) (step-done (passOwnership from b p) got n)
-      ∙ ap (λ (x : Entry). x .copies) (entryAt-passOwnership-same from b p (got .bank) l))
+    abbrev ps : List ℕ
+    ps = pagesLacking b a (s .bank)
 
-  module _ (a : Access) {c : Call} {k : Bank} (makes : Makes c k b a (s .bank)) (can : CanAccess b a (s .bank))
-      (passed : firstOf (liveRefusals b a (s .bank)) ≡ none) where
-    abbrev p : ℕ
-    p = pageNamed a
+    fetch-as : {Again : Access → Type 0} {φ : Phase} {r : Run} (g : CopyOrOwn) (qs : List ℕ) → takes a ≡ g → pagesLacking b a (s .bank) ≡ qs
+        → lackingOf b a (s .bank) ≡ true → Moves b Again φ r Begun s
+        → Moves b Again φ r (Fetched a (map (giver (s .bank)) qs) qs) (fetch g b qs s)
+    unfolding fetch pagesLacking lackingOf frameOf
+    fetch-as GotCopy qs e i lack t =
+        let (p, rest, found) = lacking-some a fs lack in
+        let j : qs ≡ p ∷ rest = sym i ∙ found in
+        let c : CanFetch GotCopy b (p ∷ rest) (s .bank) = rw (e, found) at (can-fetch b a (s .bank) formed can passed) in
+        let each : Each (Lacks a fs) (p ∷ rest) = rw found at (lackingPages-lack a fs) in
+        rw j
+        (readFetch-moves a e p rest s formed c
+        (each-imp (p ∷ rest) (λ q l. copy-none _ (ap (λ (g : CopyOrOwn). lacks g (frameAt fs q .right)) (sym e) ∙ l .right)) each)
+        (each-imp (p ∷ rest) (λ q l. l .named) each)
+        (rw found at (lackingPages-rise a fs))
+        t)
+    fetch-as GotOwn qs e i lack t =
+        let p : ℕ = pageWritten a in
+        let one : lackingPages a fs ≡ p ∷ [] = lacking-own a fs e lack in
+        let j : qs ≡ p ∷ [] = sym i ∙ one in
+        let c : CanFetch GotOwn b (p ∷ []) (s .bank) = rw (e, one) at (can-fetch b a (s .bank) formed can passed) in
+        rw j
+        (writeFetch-moves b p s formed a e (named-written a p (own-writes a e)) c
+        (show-moves (giver (s .bank) p) p t (λ z. owner-up b p s formed c) (λ z. omega (arith, room-owner b p s formed c)) (λ z. page-there b p s formed c)))
 
-    -- who gives the page that is lacking, if one is
-    lacking-gives : lackingOf b a (s .bank) ≡ true
-        → MayPerform a (giverIn b a (some (s .bank))) (Fetched (giver (s .bank) (pageNamed a)) (takes a) (pageNamed a))
-    unfolding giverIn
-    lacking-gives lack = let e : giverIn b a (some (s .bank)) ≡ some (giver (s .bank) p) = cc in rw e taken
+    pub fetch-moves : {Again : Access → Type 0} {φ : Phase} {r : Run} → lackingOf b a (s .bank) ≡ true → Moves b Again φ r Begun s
+        → Moves b Again φ r (Fetched a (map (giver (s .bank)) (pagesLacking b a (s .bank))) (pagesLacking b a (s .bank)))
+        (fetch (takes a) b (pagesLacking b a (s .bank)) s)
+    fetch-moves lack t = fetch-as (takes a) (pagesLacking b a (s .bank)) refl refl lack t
 
-    nobody-gives : lackingOf b a (s .bank) ≡ false → MayPerform a (giverIn b a (some (s .bank))) Begun
-    unfolding giverIn
-    nobody-gives has = let e : giverIn b a (some (s .bank)) ≡ none = cc in rw e local
+    -- a page that passed has no copies
+    out-as : (g : CopyOrOwn) (qs : List ℕ) → takes a ≡ g → pagesLacking b a (s .bank) ≡ qs → lackingOf b a (s .bank) ≡ true
+        → fetch g b qs s .lost ≡ none → copiesOut a (fetch g b qs s .bank) ≡ false
+    unfolding fetch writeFetch giver pagesLacking lackingOf
+    out-as GotCopy qs e i lack n = copy-out a (fetch GotCopy b qs s .bank) e
+    out-as GotOwn qs e i lack n =
+        let p : ℕ = pageWritten a in
+        let from : ℕ = giver (s .bank) p in
+        let one : lackingPages a fs ≡ p ∷ [] = lacking-own a fs e lack in
+        let j : qs ≡ p ∷ [] = sym i ∙ one in
+        let c : CanFetch GotOwn b (p ∷ []) (s .bank) = rw (e, one) at (can-fetch b a (s .bank) formed can passed) in
+        let noted : Bank → Bank = λ k. note b (Got GotOwn p) (frameOf k from p .bytes) k in
+        let got : Run = flush b (step noted (show from p s)) in
+        let m : writeFetch b p s .lost ≡ none = rw j at n in
+        let e : got .lost ≡ none = step-none (passOwnership from b p) got m in
+        let l : p < length (got .bank .directory) =
+        rw (got-changed b p s formed c e .directory, gave-changed b p s formed c (gave-none b p s formed c e) .directory) (page-there b p s formed c) in
+        rw j
+        (none-out a (writeFetch b p s .bank)
+        (ap (λ (k : Bank). entryAt k p .copies) (step-done (passOwnership from b p) got m)
+        ∙ ap (λ (x : Entry). x .copies) (entryAt-passOwnership-same from b p (got .bank) l)))
 
-    -- the fetch and the access, behind the owner's part
-    fetched-moves : {Again : Access → Type 0} {φ : Phase} {r : Run} → lackingOf b a (s .bank) ≡ true
-        → Moves b Again φ r Begun (show (giver (s .bank) (pageNamed a)) (pageNamed a) s)
-        → MadeBy b Again φ r c k (performed b a (fetch (takes a) b (pageNamed a) s))
-    unfolding lackingOf lacking
-    fetched-moves lack t =
-        let f : CanFetch (takes a) b p (s .bank) = can-fetch b a (s .bank) formed can passed lack in
-        let u : Run = fetch (takes a) b p s in
-        let y : u .lost ≡ none → Taken (takes a) p (boardAt (s .bank) b) (boardAt (u .bank) b) = λ n. fetch-taken (takes a) b p s formed f n in
-        let pages : length (u .bank .directory) ≡ length (s .bank .directory) =
-        follows-fetch (takes a) b p s .sizes .pages in
-        performed-moves b a u makes (lacking-gives lack) (fetch-moves a lack f t)
-        (λ n.
-        record {
-          page = rw pages (can .page);
-          values = can .values;
-          up = y n .state;
-          since = rw (y n .since) (omega arith);
-          number = rw (y n .number) (can .number);
-        })
-        (λ n. ap (lacks a) (y n .right) ∙ takes-enough a p)
-        (fetched-out a f)
+    -- the page that is written is one of the bank
+    pub written-there : copiesOut a (s .bank) ≡ true → pageWritten a < length (s .bank .directory)
+    written-there out = can .pages (pageWritten a) (named-written a (pageWritten a) (own-writes a (writes-own a (s .bank) out)))
 
-    module _ {Again : Access → Type 0} {φ : Phase} {r : Run} (t : Moves b Again φ r Begun s) (going : s .lost ≡ none) where
-      -- the copies of an owned page dropped, then the access
-      dropped-moves : lackingOf b a (s .bank) ≡ false → copiesOut a (s .bank) ≡ true
-          → MadeBy b Again φ r c k (performed b a (step (dropCopies p) s))
-      unfolding does lackingOf droppedIf withoutCopies
-      dropped-moves has out =
-          let j : Bank = s .bank in
-          let same : boardAt (dropCopies p j) b ≡ boardAt j b =
-          cc (boardAt-dropCopies p j b (up-below j b (can .up)), writer-none b a j formed can passed has out) in
-          let done : step (dropCopies p) s .bank ≡ dropCopies p j = step-going (dropCopies p) s going in
-          let x : boardAt (step (dropCopies p) s .bank) b ≡ boardAt j b = ap (λ (i : Bank). boardAt i b) done ∙ same in
-          performed-moves b a (step (dropCopies p) s) makes (nobody-gives has)
-          (moves-do (DropCopies p) t (λ n. dropsCopies p (can .page) (can-drop b a j formed can passed has out)))
+    module _ {c : Call} {k : Bank} (makes : Makes c k b a (s .bank)) where
+      -- who gives the pages that are lacking
+      lacking-gives : MayPerform a (giversIn b a (some (s .bank)))
+          (Fetched a (map (giver (s .bank)) (pagesLacking b a (s .bank))) (pagesLacking b a (s .bank)))
+      unfolding giversIn
+      lacking-gives = taken
+
+      nobody-gives : lackingOf b a (s .bank) ≡ false → MayPerform a (giversIn b a (some (s .bank))) Begun
+      unfolding giversIn pagesLacking lackingOf
+      nobody-gives has = rw (lacking-none a fs has) local
+
+      -- the fetch and the access
+      fetched-moves : {Again : Access → Type 0} {φ : Phase} {r : Run} → lackingOf b a (s .bank) ≡ true → Moves b Again φ r Begun s
+          → MadeBy b Again φ r c k (performed b a (fetch (takes a) b (pagesLacking b a (s .bank)) s))
+      unfolding lackingOf pagesLacking
+      fetched-moves lack t =
+          let u : Run = fetch (takes a) b ps s in
+          let y : u .lost ≡ none → Taken (takes a) ps (boardAt (s .bank) b) (boardAt (u .bank) b) = λ n. fetched-taken b a s formed can passed lack n in
+          let pages : length (u .bank .directory) ≡ length (s .bank .directory) = follows-fetch (takes a) b ps s .sizes .pages in
+          performed-moves b a u makes lacking-gives (fetch-moves lack t)
           (λ n.
           record {
-            page = rw (done, directory-dropCopies p j) (can .page);
+            pages = λ p v. rw pages (can .pages p v);
             values = can .values;
-            up = rw x (can .up);
-            since = rw x (can .since);
-            number = rw x (can .number);
+            up = y n .state;
+            since = rw (y n .since) (omega arith);
+            number = rw (y n .number) (can .number);
           })
-          (λ n. rw x has)
-          (λ n. none-out a (step (dropCopies p) s .bank)
-          (ap (λ (i : Bank). entryAt i p .copies) done ∙ ap (λ (e : Entry). e .copies) (entryAt-dropCopies-same p j (can .page))))
+          (λ n. taken-has a (boardAt (s .bank) b) (boardAt (u .bank) b) (y n))
+          (out-as (takes a) ps refl refl lack)
 
-      going-moves : MadeBy b Again φ r c k (performed b a (prepared b a s))
-      unfolding prepared
-      going-moves =
-          cases (λ (u : Run). MadeBy b Again φ r c k (performed b a u)) (lackingOf b a (s .bank))
-          (λ lack.
-          let f : CanFetch (takes a) b p (s .bank) = can-fetch b a (s .bank) formed can passed lack in
-          fetched-moves lack (show-moves (giver (s .bank) p) p t (λ e. f .owner) (λ e. room-giver (takes a) b p s formed f) (λ e. f .page)))
-          (λ has.
-          cases (λ (u : Run). MadeBy b Again φ r c k (performed b a u)) (copiesOut a (s .bank))
-          (dropped-moves has)
-          (λ out. performed-moves b a s makes (nobody-gives has) t (λ n. can) (λ n. has) (λ n. out)))
+      module _ {Again : Access → Type 0} {φ : Phase} {r : Run} (t : Moves b Again φ r Begun s) (going : s .lost ≡ none) where
+        -- the copies of an owned page dropped, then the access
+        dropped-moves : lackingOf b a (s .bank) ≡ false → copiesOut a (s .bank) ≡ true
+            → MadeBy b Again φ r c k (performed b a (step (dropCopies (pageWritten a)) s))
+        unfolding does lackingOf droppedIf withoutCopies
+        dropped-moves has out =
+            let j : Bank = s .bank in
+            let same : boardAt (dropCopies (pageWritten a) j) b ≡ boardAt j b =
+            cc (boardAt-dropCopies (pageWritten a) j b (up-below j b (can .up)), writer-none b a j formed can passed has out) in
+            let done : step (dropCopies (pageWritten a)) s .bank ≡ dropCopies (pageWritten a) j = step-going (dropCopies (pageWritten a)) s going in
+            let x : boardAt (step (dropCopies (pageWritten a)) s .bank) b ≡ boardAt j b = ap (λ (i : Bank). boardAt i b) done ∙ same in
+            performed-moves b a (step (dropCopies (pageWritten a)) s) makes (nobody-gives has)
+            (moves-do (DropCopies (pageWritten a)) t (λ n. dropsCopies (pageWritten a) (written-there out) (can-drop b a j formed can passed has out)))
+            (λ n.
+            record {
+              pages = λ p v. rw (done, directory-dropCopies (pageWritten a) j) (can .pages p v);
+              values = can .values;
+              up = rw x (can .up);
+              since = rw x (can .since);
+              number = rw x (can .number);
+            })
+            (λ n. rw x has)
+            (λ n. none-out a (step (dropCopies (pageWritten a)) s .bank)
+            (ap (λ (i : Bank). entryAt i (pageWritten a) .copies) done
+            ∙ ap (λ (e : Entry). e .copies) (entryAt-dropCopies-same (pageWritten a) j (written-there out))))
+
+        going-moves : MadeBy b Again φ r c k (performed b a (prepared b a s))
+        unfolding prepared
+        going-moves =
+            cases (λ (u : Run). MadeBy b Again φ r c k (performed b a u)) (lackingOf b a (s .bank))
+            (λ lack. fetched-moves lack t)
+            (λ has.
+            cases (λ (u : Run). MadeBy b Again φ r c k (performed b a u)) (copiesOut a (s .bank))
+            (dropped-moves has)
+            (λ out. performed-moves b a s makes (nobody-gives has) t (λ n. can) (λ n. has) (λ n. out)))
 
 -- an access of an up board, by any call that makes it
 pub live-moves : (b : ℕ) {Again : Access → Type 0} {φ : Phase} {r s : Run} → FormedRun b φ r → Moves b Again φ r Begun s → s .lost ≡ none
@@ -225,7 +263,7 @@ pub live-moves : (b : ℕ) {Again : Access → Type 0} {φ : Phase} {r s : Run} 
 unfolding live liveRefusals eventOf FormedIn
 live-moves b {s = s} h t going a {c} {k} makes can =
     unless-moves c k (liveRefusals b a (s .bank)) s (performed b a (prepared b a s)) (each-cons refl (each-cons refl each-nil)) t
-    (λ passed. going-moves b s (moves-formed t h .going going) a makes can passed t going)
+    (λ passed. going-moves b s (moves-formed t h .going going) a can passed makes t going)
 
 -- ---- the end of a replay
 
@@ -238,9 +276,9 @@ module _ (b : ℕ) {Again : Access → Type 0} {φ : Phase} {r : Run} (h : Forme
       checkpoint-moves b h x (moves-do (Settle b) t (λ n. settles l rep over))
       (λ e. rw (step-done f s e, boardAt-same b (settled (λ p. eqb (entryAt (s .bank) p .owner) b)) (s .bank) l))
 
-  endIfOver-moves : Moves b Again φ r (Finished e none) (endIfOver b s)
+  endIfOver-moves : Moves b Again φ r (Finished e []) (endIfOver b s)
   unfolding endIfOver
-  endIfOver-moves = cases (Moves b Again φ r (Finished e none)) (replayOver (boardAt (s .bank) b)) (endReplay-moves closes) (λ o. waits t going o)
+  endIfOver-moves = cases (Moves b Again φ r (Finished e [])) (replayOver (boardAt (s .bank) b)) (endReplay-moves closes) (λ o. waits t going o)
 
 -- ---- the calls
 
@@ -251,9 +289,9 @@ RepeatsIn c k a =
     × ((code (callBank c k .answer) ≡ 0) ⊎ (code (callBank c k .answer) ≡ 8))
     × (boardAt k (boardNamed c) .state ≡ Replaying)
 
-finished-code : (v : ℕ) (r : Run) → (code (finished v r .answer) ≡ 0) ⊎ (code (finished v r .answer) ≡ 8)
+finished-code : (v : ℕ) (given : List ℕ) (r : Run) → (code (finished v given r .answer) ≡ 0) ⊎ (code (finished v given r .answer) ≡ 8)
 unfolding finished code
-finished-code v r = casesOption (λ (t : Result). (code (t .answer) ≡ 0) ⊎ (code (t .answer) ≡ 8)) (r .lost) (λ n. inl refl) (λ d e. inr refl)
+finished-code v given r = casesOption (λ (t : Result). (code (t .answer) ≡ 0) ⊎ (code (t .answer) ≡ 8)) (r .lost) (λ n. inl refl) (λ d e. inr refl)
 
 module _ (b : ℕ) (k : Bank) (w : WellFormed k) where
   -- a call that has done nothing
@@ -263,13 +301,13 @@ module _ (b : ℕ) (k : Bank) (w : WellFormed k) where
 
   module _ (a : Access) (i : Entered b a k) (rep : boardAt k b .state ≡ Replaying) (same : differs a (boardAt k b) ≡ false) where
     abbrev bankTaken : Bank
-    bankTaken = onBoard b (tookDue a) k
+    bankTaken = onBoard b tookDue k
 
-    taken-now : boardAt bankTaken b ≡ tookDue a (boardAt k b)
+    taken-now : boardAt bankTaken b ≡ tookDue (boardAt k b)
     taken-now = board-taken b a k w i rep same
 
     state-now : boardAt bankTaken b .state ≡ Replaying
-    state-now = rw taken-now (tookDue-state a (boardAt k b) ∙ rep)
+    state-now = rw taken-now (tookDue-state (boardAt k b) ∙ rep)
 
     below : b < length (bankTaken .boards)
     below = below-taken b a k w i rep same
@@ -277,20 +315,22 @@ module _ (b : ℕ) (k : Bank) (w : WellFormed k) where
     ended-moves : {Again : Access → Type 0} → replayOver (boardAt bankTaken b) ≡ true → Moves b Again Begun (start k) Begun (endReplay b (start bankTaken))
     unfolding start does step
     ended-moves over =
-        endReplay-moves b begun (moves-do (TakeLast b a) still (λ n. takesLast a i rep same (rw taken-now at over))) refl below state-now resumes over
+        endReplay-moves b begun (moves-do (TakeLast b) still (λ n. takesLast a i rep same (rw taken-now at over))) refl below state-now resumes over
 
-    pub ended-formed : replayOver (boardAt (onBoard b (tookDue a) k) b) ≡ true → WellFormed (endReplay b (start (onBoard b (tookDue a) k)) .bank)
+    pub ended-formed : replayOver (boardAt (onBoard b tookDue k) b) ≡ true → WellFormed (endReplay b (start (onBoard b tookDue k)) .bank)
     ended-formed over = run-formed {b = b} anyone (moves-formed (ended-moves {Again = λ a. ⊥} over) begun)
 
     -- the value is read before the records that the access makes due are used up
     repeated-moves : {Again : Access → Type 0} → Again a → replayOver (boardAt bankTaken b) ≡ false
         → MadeBy b Again Begun (start k) (Accessing b a) k
-        (finished (valueOf a (boardAt bankTaken b .working .frames)) (endIfOver b (start (onBoard b (replayed a) bankTaken))))
-    unfolding start does step eventOf doneEvent gaveIn giverIn liveBank isReplaying
+        (finished (valueOf a (boardAt bankTaken b .working .frames)) (givenOf a (boardAt bankTaken b .working .frames))
+        (endIfOver b (start (onBoard b (replayed a) bankTaken))))
+    unfolding start does step eventOf doneEvent gaveIn giversIn liveBank isReplaying
     repeated-moves again over =
-        let nobody : giverIn b a (liveBank b a k) ≡ none = cc in
-        finished-moves (Accessing b a) k (valueOf a (boardAt bankTaken b .working .frames)) (endIfOver b (start (onBoard b (replayed a) bankTaken)))
-        (rw (nobody, taken-now)
+        let nobody : giversIn b a (liveBank b a k) ≡ [] = cc in
+        let fs : List Frame = boardAt bankTaken b .working .frames in
+        finished-moves (Accessing b a) k (valueOf a fs) (givenOf a fs) (endIfOver b (start (onBoard b (replayed a) bankTaken)))
+        (rw (bytes-seen a fs, nobody, taken-now)
         (endIfOver-moves b begun (moves-do (Repeat b a) still (λ n. repeatsAccess a again i rep same (rw taken-now at over))) refl
         (rw (boards-onBoard b (replayed a) bankTaken) below)
         (rw (boardAt-same b (replayed a) bankTaken below) (replayed-state a (boardAt bankTaken b) ∙ state-now))))
@@ -304,26 +344,27 @@ module _ (b : ℕ) (k : Bank) (w : WellFormed k) where
         (λ o.
         let live : liveBank b a k ≡ some (end .bank) = cc in
         casesOption (MadeBy b Again Begun (start k) (Accessing b a) k) (end .lost)
-        (λ n. live-moves b begun (ended-moves o) n a (record { event = λ v. refl; gave = ap (giverIn b a) live }) (live-can b a k w i rep same n))
+        (λ n. live-moves b begun (ended-moves o) n a (record { event = λ v given. refl; gave = ap (giversIn b a) live }) (live-can b a k w i rep same n))
         (λ c e. cutOff (ended-moves o) e))
         (λ o. repeated-moves (again o) o)
 
-  quiet-access : (a : Access) → Each (λ t. eventOf (Accessing b a) (t .1) ≡ Nothing) (accessRefusals b a k)
+  quiet-access : (a : Access) → Each (λ t. eventOf (Accessing b a) (t .1) [] ≡ Nothing) (accessRefusals b a k)
   unfolding refusalsWithin eventOf
-  quiet-access a = each-cons refl (each-cons refl (each-cons refl (each-cons refl each-nil)))
+  quiet-access a = each-cons refl (each-cons refl (each-cons refl (each-cons refl (each-cons refl each-nil))))
 
   -- what an access of a replaying board is, if records are left
   is-repeat : (a : Access) → firstOf (accessRefusals b a k) ≡ none → isReplaying (boardAt k b .state) ≡ true
-      → replayOver (boardAt (onBoard b (tookDue a) k) b) ≡ false
+      → replayOver (boardAt (onBoard b tookDue k) b) ≡ false
       → accessBank b a k
-      ≡ finished (valueOf a (boardAt (onBoard b (tookDue a) k) b .working .frames)) (endIfOver b (start (onBoard b (replayed a) (onBoard b (tookDue a) k))))
+      ≡ finished (valueOf a (boardAt (onBoard b tookDue k) b .working .frames)) (givenOf a (boardAt (onBoard b tookDue k) b .working .frames))
+      (endIfOver b (start (onBoard b (replayed a) (onBoard b tookDue k))))
   unfolding accessWithin unless replaying
   is-repeat a p t o = cc
 
   repeats-now : (a : Access) → firstOf (accessRefusals b a k) ≡ none → isReplaying (boardAt k b .state) ≡ true
-      → replayOver (boardAt (onBoard b (tookDue a) k) b) ≡ false → RepeatsIn (Accessing b a) k a
+      → replayOver (boardAt (onBoard b tookDue k) b) ≡ false → RepeatsIn (Accessing b a) k a
   unfolding callBank accessOf boardNamed
-  repeats-now a p t o = (refl, rw (is-repeat a p t o) (finished-code _ _), isReplaying-replaying (boardAt k b .state) t)
+  repeats-now a p t o = (refl, rw (is-repeat a p t o) (finished-code _ _ _), isReplaying-replaying (boardAt k b .state) t)
 
   access-moves : (a : Access) → MadeBy b (RepeatsIn (Accessing b a) k) Begun (start k) (Accessing b a) k (accessBank b a k)
   unfolding accessWithin start
@@ -343,10 +384,10 @@ module _ (b : ℕ) (k : Bank) (w : WellFormed k) where
         (λ e.
         let up : boardAt k b .state ≡ Up =
         isUp-up (boardAt k b .state) (not-false (isUp (boardAt k b .state)) (firstOf-none _ _ _ (firstOf-none _ _ _ e .rest) .here)) in
-        finished-moves (Checkpointing b) k 0 (checkpoint b (start k)) (ends (checkpoint-moves b begun checkpoints still (λ n. up))))
+        finished-moves (Checkpointing b) k 0 [] (checkpoint b (start k)) (ends (checkpoint-moves b begun checkpoints still (λ n. up))))
 
     fuseBoard-moves : (n : ℕ) → b < length (k .boards) → boardAt k b .state ≢ Down → n < noFuse
-        → Moves b Again Begun (start k) (feeds (Fusing b n) k (Done 0)) (step (fuseBoard b n) (start k))
+        → Moves b Again Begun (start k) (feeds (Fusing b n) k (Done 0) []) (step (fuseBoard b n) (start k))
     unfolding fuseBoard start does eventOf doneEvent gaveIn
     fuseBoard-moves zero l power high = moves-do (LosePower b) still (λ z. losesPower l)
     fuseBoard-moves (suc n) l power high = ends (moves-do (SetFuse b (suc n)) still (λ z. setsFuse (suc n) power (omega arith) (omega arith)))
@@ -360,7 +401,7 @@ module _ (b : ℕ) (k : Bank) (w : WellFormed k) where
         let l : b < length (k .boards) = ltb-true b (length (k .boards)) (and-left _ (ltb n noFuse) t) in
         let high : n < noFuse = ltb-true n noFuse (and-right (ltb b (length (k .boards))) _ t) in
         let power : boardAt k b .state ≢ Down = isDown-not (boardAt k b .state) (firstOf-none _ _ _ (firstOf-none _ _ _ e .rest) .here) in
-        finished-moves (Fusing b n) k 0 (step (fuseBoard b n) (start k)) (fuseBoard-moves n l power high))
+        finished-moves (Fusing b n) k 0 [] (step (fuseBoard b n) (start k)) (fuseBoard-moves n l power high))
 
     restartBank-moves : MadeBy b Again Begun (start k) (Restarting b) k (restartBank b k)
     unfolding restartBank start does step usedUp loaded onWorking eventOf doneEvent gaveIn
@@ -371,13 +412,13 @@ module _ (b : ℕ) (k : Bank) (w : WellFormed k) where
         let down : boardAt k b .state ≡ Down =
         isDown-down (boardAt k b .state) (not-false _ (firstOf-none _ _ _ (firstOf-none _ _ _ e .rest) .here)) in
         let f : Board → Board = λ x. usedUp (loaded x) in
-        finished-moves (Restarting b) k (boardAt k b .stable .selected .number) (endIfOver b (start (onBoard b f k)))
+        finished-moves (Restarting b) k (boardAt k b .stable .selected .number) [] (endIfOver b (start (onBoard b f k)))
         (endIfOver-moves b begun (moves-do (Load b) still (λ n. loads l down)) refl (rw (boards-onBoard b f k) l)
         (rw (boardAt-same b f k l) refl)))
 
 -- every call, of any numbers, with any answer, is moves of the board that it names, up to what its answer feeds to the history
 pub call-moves : (c : Call) (k : Bank) → WellFormed k
-    → Moves (boardNamed c) (RepeatsIn c k) Begun (start k) (feeds c k (callBank c k .answer)) (callBank c k .run)
+    → Moves (boardNamed c) (RepeatsIn c k) Begun (start k) (feeds c k (callBank c k .answer) (callBank c k .given)) (callBank c k .run)
 unfolding callBank boardNamed
 call-moves (Accessing b a) k w = access-moves b k w a
 call-moves (Checkpointing b) k w = checkpointBank-moves b k w
@@ -391,31 +432,27 @@ pub prepared-keeps : (b : ℕ) (a : Access) (r : Run) → WellFormed (r .bank) �
     → WellFormed (prepared b a r .bank)
 unfolding prepared does
 prepared-keeps b a r w can passed =
-    let p : ℕ = pageNamed a in
     let h : FormedRun b Begun r = formed-begun b r w in
     cases (λ (u : Run). WellFormed (u .bank)) (lackingOf b a (r .bank))
-    (λ lack.
-    let c : CanFetch (takes a) b p (r .bank) = can-fetch b a (r .bank) w can passed lack in
-    fetched-formed
-    (moves-formed
-    (fetch-moves b r w {Again = λ a. ⊥} a lack c
-    (show-moves (giver (r .bank) p) p still (λ e. c .owner) (λ e. room-giver (takes a) b p r w c) (λ e. c .page)))
-    h))
+    (λ lack. fetched-formed (moves-formed (fetch-moves b r w a can passed {Again = λ a. ⊥} lack still) h))
     (λ has.
     cases (λ (u : Run). WellFormed (u .bank)) (copiesOut a (r .bank))
     (λ out.
     run-formed {d = b} {b = b} anyone
-    (moves-formed (moves-do {Again = λ a. ⊥} (DropCopies p) still (λ n. dropsCopies p (can .page) (can-drop b a (r .bank) w can passed has out))) h))
+    (moves-formed
+    (moves-do {Again = λ a. ⊥} (DropCopies (pageWritten a)) still
+    (λ n. dropsCopies (pageWritten a) (written-there b r w a can passed out) (can-drop b a (r .bank) w can passed has out)))
+    h))
     (λ out. w))
 
 pub prepared-sizes : (b : ℕ) (a : Access) (r : Run) → SameSizes (r .bank) (prepared b a r .bank)
 unfolding prepared
 prepared-sizes b a r =
     cases (λ (u : Run). SameSizes (r .bank) (u .bank)) (lackingOf b a (r .bank))
-    (λ t. follows-fetch (takes a) b (pageNamed a) r .sizes)
+    (λ t. follows-fetch (takes a) b (pagesLacking b a (r .bank)) r .sizes)
     (λ t.
     cases (λ (u : Run). SameSizes (r .bank) (u .bank)) (copiesOut a (r .bank))
-    (λ o. follows-step (dropCopies (pageNamed a)) r (sizes-dropCopies (pageNamed a) (r .bank)) .sizes)
+    (λ o. follows-step (dropCopies (pageWritten a)) r (sizes-dropCopies (pageWritten a) (r .bank)) .sizes)
     (λ o. sizes-same (r .bank)))
 
 -- every call, of any numbers, with any answer

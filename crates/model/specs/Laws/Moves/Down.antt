@@ -5,7 +5,8 @@ use mathlib.Core.Logic.{_≢_}
 use Prim.Native.Nat.{ℕ, _<_}
 use native.Mathlib.Omega.{arith}
 use mathlib.Core.Bool.{Bool}
-use mathlib.Core.Option.{Option, none, some}
+use mathlib.Core.Option.{none, some}
+use mathlib.Core.List.{List}
 use lib.ListN.{length}
 use lib.Dec.{eqb}
 use borrow.Author.Tests.{eq-eqb}
@@ -20,6 +21,7 @@ use Rattle.model.specs.Definitions.Steps.{Run, start, step, poweredOff, 
 use Rattle.model.specs.Definitions.Steps.{storedFrame, storedHead, storedSelector, restedWorking, Access, accessed, access, frameOf, withFrame, giveCopy}
 use Rattle.model.specs.Definitions.Steps.{dropped, dropAt, dropCopies, passOwnership}
 use Rattle.model.specs.Definitions.Replay.{settle, loaded, usedUp, tookDue, settled, replayed}
+use Rattle.model.specs.Moves.{TakesCopy, first, behind}
 use Rattle.model.specs.Moves.{Move, does, Phase, Begun, Noted, Fetched, Replays, Settled, Finished, MayStore, anyone, taker, ender, Selects, checkpoints}
 use Rattle.model.specs.Moves.{resumes, closes, MayPerform, local, taken, Guard, notesShown, notesGot, storesRecord, storesFrame, storesHead}
 use Rattle.model.specs.Moves.{storesSelector, givesCopy, passesOwnership, dropsCopies, performs, losesPower, setsFuse, loads, repeatsAccess, takesLast}
@@ -83,7 +85,7 @@ states-passOwnership o w p k c =
 unfoldable pub CutIn : Phase → ℕ → Type 0
 CutIn Begun c = ⊥
 CutIn (Noted o p) c = ⊥
-CutIn (Fetched o g p) c = ⊥
+CutIn (Fetched a os ps) c = ⊥
 CutIn (Replays e) c = ⊥
 CutIn (Settled e) c = ⊥
 CutIn (Finished e o) c = e ≡ LostPower c
@@ -92,7 +94,7 @@ CutIn (Finished e o) c = e ≡ LostPower c
 unfoldable pub RestartIn : Phase → Type 0
 RestartIn Begun = ⊥
 RestartIn (Noted o p) = ⊥
-RestartIn (Fetched o g p) = ⊥
+RestartIn (Fetched a os ps) = ⊥
 RestartIn (Replays e) = e ≢ Nothing
 RestartIn (Settled e) = e ≢ Nothing
 RestartIn (Finished e o) = Unit
@@ -126,10 +128,15 @@ Leads χ ψ = ((c : ℕ) → CutIn χ c → ⊥) × (RestartIn χ → RestartIn 
 abbrev NoPowerChange : Phase → Type 0
 NoPowerChange χ = ((c : ℕ) → CutIn χ c → ⊥) × (RestartIn χ → ⊥)
 
-begins-quiet : {a : Access} {gave : Option ℕ} {φ : Phase} → MayPerform a gave φ → NoPowerChange φ
+begins-quiet : {a : Access} {gave : List ℕ} {φ : Phase} → MayPerform a gave φ → NoPowerChange φ
 unfolding CutIn RestartIn
 begins-quiet local = (λ c z. z, λ z. z)
 begins-quiet taken = (λ c z. z, λ z. z)
+
+takes-quiet : {a : Access} {o p : ℕ} {φ ψ : Phase} → TakesCopy a o p φ ψ → NoPowerChange φ
+unfolding CutIn RestartIn
+takes-quiet first = (λ c z. z, λ z. z)
+takes-quiet (behind l) = (λ c z. z, λ z. z)
 
 stores-lead : {d b : ℕ} {φ : Phase} → MayStore d b φ → Leads φ φ
 unfolding CutIn
@@ -239,8 +246,8 @@ move-tracks s _ n (storesSelector b o u v) h t =
     board-tracks (store b storedSelector s) (store-tracks s t b storedSelector (selects-stores o) u (λ x. refl) (λ x. refl) n) b (λ j. onWorking restedWorking)
     (rw (follows-store b storedSelector s .sizes .boards) (up-below (s .bank) b u))
     (selects-lead o) (kept-change (selects-lead o) b refl (λ z. z))
-move-tracks {d = d} s _ n (givesCopy o p g u m r) h t = quiet-tracks s t _ (λ c z. z, λ z. z) (states-giveCopy o d p (s .bank))
-move-tracks {d = d} s _ n (passesOwnership o p g v m) h t = quiet-tracks s t _ (λ c z. z, λ z. z) (states-passOwnership o d p (s .bank))
+move-tracks {d = d} s _ n (givesCopy a o p x c i g u m r) h t = quiet-tracks s t _ (takes-quiet x) (states-giveCopy o d p (s .bank))
+move-tracks {d = d} s _ n (passesOwnership a o p c i g v m) h t = quiet-tracks s t _ (λ c z. z, λ z. z) (states-passOwnership o d p (s .bank))
 move-tracks s _ n (dropsCopies p l m) h t = quiet-tracks s t _ (λ c z. z, λ z. z) (states-dropCopies p (s .bank))
 move-tracks {d = d} s _ n (performs a i can has out) h t =
     quiet-tracks s t _ (begins-quiet i) (states-onBoard d (onWorking (accessed a)) (s .bank) refl)
@@ -255,13 +262,13 @@ move-tracks {d = d} s _ n (loads l down) h t =
     board-tracks s t d (λ j x. usedUp (loaded x)) l (λ c z. z, λ z. absurd z)
     (λ i. record { wentDown = λ u v. down-not-replaying v refl; restarted = λ u v. (λ e. never (cc), h .going n .boards d l .down down .fuse) })
 move-tracks {d = d} s _ n (repeatsAccess a z i rep same over) h t =
-    let k : Bank = onBoard d (tookDue a) (s .bank) in
+    let k : Bank = onBoard d tookDue (s .bank) in
     quiet-tracks s t _ (λ c z. z, λ z. z)
     (λ c.
     states-onBoard d (replayed a) k (replayed-state a (boardAt k d)) c
-    ∙ states-onBoard d (tookDue a) (s .bank) (tookDue-state a (boardAt (s .bank) d)) c)
+    ∙ states-onBoard d tookDue (s .bank) (tookDue-state (boardAt (s .bank) d)) c)
 move-tracks {d = d} s _ n (takesLast a i rep same over) h t =
-    quiet-tracks s t _ (λ c z. z, λ z. z) (states-onBoard d (tookDue a) (s .bank) (tookDue-state a (boardAt (s .bank) d)))
+    quiet-tracks s t _ (λ c z. z, λ z. z) (states-onBoard d tookDue (s .bank) (tookDue-state (boardAt (s .bank) d)))
 move-tracks {d = d} s _ n (settles l rep over) h t =
     board-tracks s t d (λ j. settled (λ p. eqb (entryAt j p .owner) d)) l (λ c z. z, λ z. z)
     (λ i. record { wentDown = λ u v. up-not-down refl v; restarted = λ u v. i .restarted u (λ z. down-not-replaying z rep) })

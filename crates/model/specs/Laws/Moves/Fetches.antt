@@ -1,53 +1,136 @@
--- What follows the owner's part of a fetch is a list of moves, under what codes 6 and 7 tested. Assumes nothing.
-use mathlib.Core.Path.{_≡_, sym, ap, _∙_}
+-- A fetch is a list of moves, under what codes 6 and 7 tested. Assumes nothing.
+use mathlib.Core.Path.{_≡_, refl, sym, ap, _∙_}
 use mathlib.Core.Logic.{_≢_}
-use Prim.Native.Nat.{ℕ, _<_}
+use Prim.Native.Nat.{ℕ, suc, _<_}
 use native.Mathlib.Omega.{arith}
-use mathlib.Core.Option.{none}
+use mathlib.Core.Bool.{true}
+use mathlib.Core.Option.{Option, none}
 use borrow.Author.Tests.{ne-eqb}
 use Rattle.model.specs.Definitions.WellFormed.{rightIn, WellFormed}
-use Rattle.model.specs.Laws.Logic.{byBool}
-use mathlib.Core.List.{List}
+use mathlib.Core.List.{List, [], _∷_, _++_, map, append-nil, append-assoc}
 use lib.ListN.{length}
+use Rattle.words.specs.Bytes.{Each, each-nil, each-cons}
 use Rattle.types.specs.declared.Right.the-variants.{None, Own}
 use Rattle.types.specs.declared.CopyOrOwn.the-variants.{GotCopy, GotOwn}
-use Rattle.types.specs.declared.Kind.{Kind}
 use Rattle.types.specs.declared.Kind.the-variants.{Got, Shown}
 use Rattle.types.specs.declared.State.the-variants.{Up}
 use Rattle.model.specs.Definitions.Parts.{zeros, member}
 use Rattle.model.specs.Definitions.Layout.{pageSize}
-use Rattle.model.specs.Definitions.Bank.{Entry, Board, Bank, boardAt, entryAt, frameAt, onWorking}
-use Rattle.model.specs.Definitions.Steps.{Run, Access, step, recorded, note, flush, frameOf, giver, show, readFetch, writeFetch}
+use Rattle.model.specs.Definitions.Bank.{Entry, Board, Bank, boardAt, entryAt, frameAt}
+use Rattle.model.specs.Definitions.Steps.{Run, Access, step, names, takes, note, flush, frameOf, giver, show, giveCopy, showAll, giveCopies, readFetch}
+use Rattle.model.specs.Definitions.Steps.{writeFetch}
 use Rattle.model.specs.Contracts.{CanFetch}
-use Rattle.model.specs.Moves.{NoteGot, GiveCopy, PassOwnership, does, Phase, Begun, Noted, Fetched, taker, Secure, Gives, notesGot, givesCopy}
-use Rattle.model.specs.Moves.{passesOwnership, Moves, still}
-use Rattle.model.specs.Laws.Runs.{Changed, entryAt-changed, follows-step, sizes-onBoard}
-use Rattle.model.specs.Laws.Runs.Stores.{FlushedWith, note-flush-changed, show-changed, flush-empties}
+use Rattle.model.specs.Moves.{NoteGot, GiveCopy, PassOwnership, does, Phase, Begun, Noted, Fetched, taker, TakesCopy, first, behind, Gives, notesGot}
+use Rattle.model.specs.Moves.{givesCopy, passesOwnership, Moves, still, cutOff}
+use Rattle.model.specs.Laws.Logic.{byBool, byOption}
+use Rattle.model.specs.Laws.Lists.{each-head, each-tail, each-imp, each-append, map-same}
+use Rattle.model.specs.Laws.Below.{Rising}
+use Rattle.model.specs.Laws.Runs.{step-none, step-done, step-lost, step-cases, follows-none, follows-show, Changed, entryAt-changed}
+use Rattle.model.specs.Laws.Runs.Stores.{FlushedWith, show-changed}
 use Rattle.model.specs.Laws.Keeps.Clauses.{fits, up-below}
-use Rattle.model.specs.Laws.Keeps.Fetches.{room-taker, room-owner, reader-same, writer-same, gave-changed, got-changed, gave-none, room-got}
+use Rattle.model.specs.Laws.Keeps.Fetches.{page-there, owner-up, owner-other, room-taker, room-owner, writer-same, gave-changed, got-changed, gave-none}
+use Rattle.model.specs.Laws.Keeps.Fetches.{room-got}
+use Rattle.model.specs.Laws.Keeps.Copies.{note-flush-secure, show-secure, room-giver, giver-same, showAll-shared, shown-can, CanTake, shown-take}
+use Rattle.model.specs.Laws.Keeps.Copies.{giver-giveCopy, taken-take}
 use Rattle.model.specs.Laws.Moves.{moves-do}
 use Rattle.model.specs.Laws.Moves.Stores.{noted-up, flush-moves, show-moves}
 use Rattle.model.specs.Laws.Moves.Formed.{formed-begun, run-formed, moves-formed}
 
--- a record noted and flushed leaves its board with all that it counted stable
-note-flush-secure : (b : ℕ) (kind : Kind) (bytes : Bank → List ℕ) (s : Run) → boardAt (s .bank) b .state ≡ Up
-    → flush b (step (λ k. note b kind (bytes k) k) s) .lost ≡ none → Secure (boardAt (flush b (step (λ k. note b kind (bytes k) k) s) .bank) b)
-unfolding onWorking recorded note
-note-flush-secure b kind bytes s u e =
-    let l : b < length (s .bank .boards) = up-below (s .bank) b u in
-    let t : FlushedWith kind (bytes (s .bank)) (boardAt (s .bank) b) (boardAt (flush b (step (λ k. note b kind (bytes k) k) s) .bank) b) =
-    note-flush-changed b kind bytes s e .this l in
-    record {
-      up = t .state ∙ u;
-      since = t .since;
-      volatile =
-          flush-empties b (step (λ k. note b kind (bytes k) k) s)
-          (rw (follows-step (λ k. note b kind (bytes k) k) s (sizes-onBoard b _ (s .bank)) .sizes .boards) l) e;
-    }
+-- ---- a read fetch
 
-show-secure : (o p : ℕ) (s : Run) → boardAt (s .bank) o .state ≡ Up → show o p s .lost ≡ none → Secure (boardAt (show o p s .bank) o)
-unfolding show
-show-secure o p s u e = note-flush-secure o (Shown p) (λ k. zeros pageSize) s u e
+-- the givers' part, page by page
+pub showAll-moves : {b : ℕ} {Again : Access → Type 0} {φ : Phase} {r : Run} (ps : List ℕ) (s : Run) → (s .lost ≡ none → CanFetch GotCopy b ps (s .bank))
+    → Moves b Again φ r Begun s → Moves b Again φ r Begun (showAll ps s)
+unfolding showAll
+showAll-moves [] s c t = t
+showAll-moves {b} (p ∷ ps) s c t =
+    let o : ℕ = giver (s .bank) p in
+    showAll-moves ps (show o p s)
+    (λ e. shown-can b p ps s (c (follows-none (follows-show o p s) e)) e)
+    (show-moves o p t (λ e. each-head (c e .owners)) (λ e. room-giver b p ps (s .bank) (c e)) (λ e. each-head (c e .pages)))
+
+-- one copy, then the others
+step-copies : (b p : ℕ) (ps : List ℕ) (s : Run)
+    → step (giveCopies b (p ∷ ps)) s ≡ step (giveCopies b ps) (step (giveCopy (giver (s .bank) p) b p) s)
+unfolding step giveCopies
+step-copies b p ps s = byOption (s .lost) (λ n. cc) (λ c e. cc)
+
+no-copies : (b : ℕ) (s : Run) → step (giveCopies b []) s ≡ s
+unfolding step giveCopies
+no-copies b s =
+    let at : Option ℕ → Run = λ o. record { bank = s .bank; stores = s .stores; lost = o } in
+    byOption (s .lost) (λ n. let t : step (giveCopies b []) s ≡ at none = cc in t ∙ ap at (sym n)) (λ c e. cc)
+
+-- a copy given leaves the owners of the pages
+givers-step : (b p : ℕ) (ps : List ℕ) (s : Run) → map (giver (step (giveCopy (giver (s .bank) p) b p) s .bank)) ps ≡ map (giver (s .bank)) ps
+givers-step b p ps s =
+    step-cases (λ u. map (giver (u .bank)) ps ≡ map (giver (s .bank)) ps) (giveCopy (giver (s .bank) p) b p) s
+    (λ c e. refl)
+    (λ e. map-same ps (giver-giveCopy (giver (s .bank) p) b p (s .bank)))
+
+copy-take : (b p : ℕ) (ps : List ℕ) (s : Run) → Rising (suc p) ps → (s .lost ≡ none → CanTake b (p ∷ ps) (s .bank))
+    → step (giveCopy (giver (s .bank) p) b p) s .lost ≡ none → CanTake b ps (step (giveCopy (giver (s .bank) p) b p) s .bank)
+copy-take b p ps s rise can n =
+    let f : Bank → Bank = giveCopy (giver (s .bank) p) b p in
+    rw (step-done f s n) (taken-take b p ps (s .bank) (can (step-none f s n)) rise)
+
+module _ {b : ℕ} {Again : Access → Type 0} {φ : Phase} {r : Run} (a : Access) (copy : takes a ≡ GotCopy) where
+  -- one copy
+  copy-moves : (p : ℕ) (ps : List ℕ) (s : Run) {χ ψ : Phase} → TakesCopy a (giver (s .bank) p) p χ ψ → names a p ≡ true
+      → (s .lost ≡ none → CanTake b (p ∷ ps) (s .bank)) → Moves b Again φ r χ s → Moves b Again φ r ψ (step (giveCopy (giver (s .bank) p) b p) s)
+  unfolding does
+  copy-moves p ps s x named can t =
+      let o : ℕ = giver (s .bank) p in
+      moves-do (GiveCopy o b p) t
+      (λ e.
+      givesCopy a o p x copy named (each-head (can e .gives)) (can e .up) (omega (arith, can e .room)) (each-head (can e .rights)))
+
+  -- the copies behind the first, each of a higher page
+  behind-moves : (n : ℕ) (ps os qs : List ℕ) (s : Run) → Each (λ p. names a p ≡ true) ps → Each (λ q. q < n) qs → Rising n ps
+      → (s .lost ≡ none → CanTake b ps (s .bank)) → Moves b Again φ r (Fetched a os qs) s
+      → Moves b Again φ r (Fetched a (os ++ map (giver (s .bank)) ps) (qs ++ ps)) (step (giveCopies b ps) s)
+  unfolding Rising
+  behind-moves n [] os qs s named low rise can t = rw (no-copies b s, append-nil os, append-nil qs) t
+  behind-moves n (p ∷ ps) os qs s named low rise can t =
+      let o : ℕ = giver (s .bank) p in
+      let u : Run = step (giveCopy o b p) s in
+      let lower : Each (λ q. q < suc p) (qs ++ (p ∷ [])) =
+      each-append qs (p ∷ []) (each-imp qs (λ q l. omega (arith, rise .0)) low) (each-cons (omega arith) each-nil) in
+      let here : Moves b Again φ r (Fetched a (os ++ (o ∷ [])) (qs ++ (p ∷ []))) u =
+      copy-moves p ps s (behind (each-imp qs (λ q l. omega (arith, rise .0)) low)) (each-head named) can t in
+      let rest : Moves b Again φ r (Fetched a ((os ++ (o ∷ [])) ++ map (giver (u .bank)) ps) ((qs ++ (p ∷ [])) ++ ps)) (step (giveCopies b ps) u) =
+      behind-moves (suc p) ps (os ++ (o ∷ [])) (qs ++ (p ∷ [])) u (each-tail named) lower (rise .1) (copy-take b p ps s (rise .1) can) here in
+      rw (step-copies b p ps s, ← append-assoc os (o ∷ []) (map (giver (s .bank)) ps), ← append-assoc qs (p ∷ []) ps, ← givers-step b p ps s) rest
+
+  -- all of them
+  copies-moves : (p : ℕ) (ps : List ℕ) (s : Run) → Each (λ q. names a q ≡ true) (p ∷ ps) → Rising 0 (p ∷ ps)
+      → (s .lost ≡ none → CanTake b (p ∷ ps) (s .bank)) → Moves b Again φ r Begun s
+      → Moves b Again φ r (Fetched a (map (giver (s .bank)) (p ∷ ps)) (p ∷ ps)) (step (giveCopies b (p ∷ ps)) s)
+  unfolding Rising
+  copies-moves p ps s named rise can t =
+      let o : ℕ = giver (s .bank) p in
+      let u : Run = step (giveCopy o b p) s in
+      rw (step-copies b p ps s, ← givers-step b p ps s)
+      (behind-moves (suc p) ps (o ∷ []) (p ∷ []) u (each-tail named) (each-cons (omega arith) each-nil) (rise .1) (copy-take b p ps s (rise .1) can)
+      (copy-moves p ps s first (each-head named) can t))
+
+  -- "Read fetch: .."
+  pub readFetch-moves : (p : ℕ) (ps : List ℕ) (s : Run) → WellFormed (s .bank) → CanFetch GotCopy b (p ∷ ps) (s .bank)
+      → Each (λ q. frameOf (s .bank) b q .right ≡ None) (p ∷ ps) → Each (λ q. names a q ≡ true) (p ∷ ps) → Rising 0 (p ∷ ps) → Moves b Again φ r Begun s
+      → Moves b Again φ r (Fetched a (map (giver (s .bank)) (p ∷ ps)) (p ∷ ps)) (readFetch b (p ∷ ps) s)
+  unfolding readFetch
+  readFetch-moves p ps s w c lack named rise t =
+      let qs : List ℕ = p ∷ ps in
+      let u : Run = showAll qs s in
+      let shown : Moves b Again φ r Begun u = showAll-moves qs s (λ e. c) t in
+      byOption (u .lost)
+      (λ n.
+      let same : map (giver (u .bank)) qs ≡ map (giver (s .bank)) qs =
+      map-same qs (giver-same (s .bank) (u .bank) (showAll-shared b qs s c n .directory)) in
+      rw (← same) (copies-moves p ps u named rise (λ e. shown-take b qs s w c lack e) shown))
+      (λ d e. rw (step-lost (giveCopies b qs) u e) (cutOff shown e))
+
+-- ---- a write fetch
 
 -- an entry gives right own to its owner alone
 owned-not : (e : Entry) (b : ℕ) → e .owner ≢ b → rightIn e b ≢ Own
@@ -75,33 +158,22 @@ module _ (b p : ℕ) (s : Run) (formed : WellFormed (s .bank)) where
         secure = show-secure o p s u e;
       }
 
-  -- "Read fetch: .."
-  pub readFetch-moves : {Again : Access → Type 0} {φ : Phase} {r : Run} → CanFetch GotCopy b p (s .bank) → frameOf (s .bank) b p .right ≡ None
-      → Moves b Again φ r Begun (show (giver (s .bank) p) p s) → Moves b Again φ r (Fetched (giver (s .bank) p) GotCopy p) (readFetch b p s)
-  unfolding readFetch does frameOf
-  readFetch-moves c lack t =
-      moves-do (GiveCopy o b p) t
-      (λ e.
-      givesCopy o p (gives-shown (c .owner) (c .page) (c .other) e)
-      (rw (reader-same b p s formed c e) (c .taker))
-      (rw (reader-same b p s formed c e) (room-taker GotCopy b p (s .bank) c))
-      (cc (reader-same b p s formed c e, lack)))
-
   -- the owner's part leaves the taker's frames
-  frame-same : show (giver (s .bank) p) p s .lost ≡ none → CanFetch GotOwn b p (s .bank)
+  frame-same : show (giver (s .bank) p) p s .lost ≡ none → CanFetch GotOwn b (p ∷ []) (s .bank)
       → frameOf (show (giver (s .bank) p) p s .bank) b p .right ≡ frameOf (s .bank) b p .right
   unfolding frameOf
   frame-same e c = ap (λ (x : Board). frameAt (x .working .frames) p .right) (writer-same b p s formed c e)
 
   -- who isn't the owner doesn't own the page
-  unowned : CanFetch GotOwn b p (s .bank) → frameOf (s .bank) b p .right ≢ Own
+  unowned : CanFetch GotOwn b (p ∷ []) (s .bank) → frameOf (s .bank) b p .right ≢ Own
   unfolding frameOf giver entryAt
   unowned c e =
-      owned-not (entryAt (s .bank) p) b (c .other)
-      (sym (fits formed b (up-below (s .bank) b (c .taker)) .agreed .rights (c .taker) p (c .page)) ∙ e)
+      owned-not (entryAt (s .bank) p) b (owner-other b p s formed c)
+      (sym (fits formed b (up-below (s .bank) b (c .taker)) .agreed .rights (c .taker) p (page-there b p s formed c)) ∙ e)
 
   -- "writer records got own and flushes"
-  pub got-moves : {Again : Access → Type 0} {φ : Phase} {r : Run} → CanFetch GotOwn b p (s .bank) → Moves b Again φ r Begun (show (giver (s .bank) p) p s)
+  pub got-moves : {Again : Access → Type 0} {φ : Phase} {r : Run} → CanFetch GotOwn b (p ∷ []) (s .bank)
+      → Moves b Again φ r Begun (show (giver (s .bank) p) p s)
       → Moves b Again φ r (Noted (giver (s .bank) p) p)
       (flush b (step (λ k. note b (Got GotOwn p) (frameOf k (giver (s .bank) p) p .bytes) k) (show (giver (s .bank) p) p s)))
   unfolding does
@@ -111,16 +183,17 @@ module _ (b p : ℕ) (s : Run) (formed : WellFormed (s .bank)) where
       (λ e.
       notesGot o p
       (rw (writer-same b p s formed c e) (c .taker))
-      (rw (writer-same b p s formed c e) (room-taker GotOwn b p (s .bank) c))
-      (rw (gave-changed b p s formed c e .directory) (c .page))
+      (rw (writer-same b p s formed c e) (room-taker b p s formed c))
+      (rw (gave-changed b p s formed c e .directory) (page-there b p s formed c))
       (λ i. unowned c (sym (frame-same e c) ∙ i))))
       (noted-up b (Got GotOwn p) (λ k. frameOf k o p .bytes) (show o p s) (λ e. rw (writer-same b p s formed c e) (c .taker)))
 
   -- "Write fetch: .."
-  pub writeFetch-moves : {Again : Access → Type 0} {φ : Phase} {r : Run} → CanFetch GotOwn b p (s .bank)
-      → Moves b Again φ r Begun (show (giver (s .bank) p) p s) → Moves b Again φ r (Fetched (giver (s .bank) p) GotOwn p) (writeFetch b p s)
+  pub writeFetch-moves : {Again : Access → Type 0} {φ : Phase} {r : Run} (a : Access) → takes a ≡ GotOwn → names a p ≡ true
+      → CanFetch GotOwn b (p ∷ []) (s .bank)
+      → Moves b Again φ r Begun (show (giver (s .bank) p) p s) → Moves b Again φ r (Fetched a (giver (s .bank) p ∷ []) (p ∷ [])) (writeFetch b p s)
   unfolding writeFetch does giver
-  writeFetch-moves c t =
+  writeFetch-moves a own named c t =
       let gave : Run = show o p s in
       let bytes : Bank → List ℕ = λ k. frameOf k o p .bytes in
       let got : Run = flush b (step (λ k. note b (Got GotOwn p) (bytes k) k) gave) in
@@ -130,22 +203,22 @@ module _ (b p : ℕ) (s : Run) (formed : WellFormed (s .bank)) where
       let g : Changed o (FlushedWith (Shown p) (zeros pageSize)) (s .bank) (gave .bank) = gave-changed b p s formed c m in
       let d : Changed b (FlushedWith (Got GotOwn p) (bytes (gave .bank))) (gave .bank) (got .bank) = got-changed b p s formed c e in
       let entry : entryAt (got .bank) p ≡ entryAt (s .bank) p = entryAt-changed d p ∙ entryAt-changed g p in
-      let gives : Gives o b p (gave .bank) = gives-shown (c .owner) (c .page) (c .other) m in
-      passesOwnership o p
+      let gives : Gives o b p (gave .bank) = gives-shown (owner-up b p s formed c) (page-there b p s formed c) (owner-other b p s formed c) m in
+      passesOwnership a o p own named
       (record {
         page = rw (d .directory) (gives .page);
         owner = ap (λ (x : Entry). x .owner) entry;
-        other = c .other;
-        secure = rw (d .others o (c .other)) (gives .secure);
+        other = owner-other b p s formed c;
+        secure = rw (d .others o (owner-other b p s formed c)) (gives .secure);
       })
       (note-flush-secure b (Got GotOwn p) bytes gave (rw (writer-same b p s formed c m) (c .taker)) e)
       (λ x l n i. room-got b p s formed c x e (rw (d .boards, g .boards) at l) n (rw entry at i)))
 
-  pub got-keeps : CanFetch GotOwn b p (s .bank)
+  pub got-keeps : CanFetch GotOwn b (p ∷ []) (s .bank)
       → WellFormed (flush b (step (λ k. note b (Got GotOwn p) (frameOf k (giver (s .bank) p) p .bytes) k) (show (giver (s .bank) p) p s)) .bank)
   got-keeps c =
       run-formed {d = b} {b = b} taker
       (moves-formed
       (got-moves {Again = λ a. ⊥} c
-      (show-moves o p still (λ e. c .owner) (λ e. omega (arith, room-owner b p s formed c)) (λ e. c .page)))
+      (show-moves o p still (λ e. owner-up b p s formed c) (λ e. omega (arith, room-owner b p s formed c)) (λ e. page-there b p s formed c)))
       (formed-begun b s formed))

@@ -3,10 +3,10 @@ use mathlib.Core.Path.{_≡_, refl, sym, ap, _∙_}
 use Prim.Native.Nat.{ℕ}
 use native.Mathlib.Omega.{arith}
 use mathlib.Core.Bool.{false}
-use mathlib.Core.Option.{Option, none, some}
+use mathlib.Core.Option.{none, some}
+use mathlib.Core.List.{List, []}
 use lib.ListN.{length}
 use borrow.Author.Tests.{leb-false}
-use Rattle.types.specs.declared.CopyOrOwn.{CopyOrOwn}
 use Rattle.types.specs.declared.CopyOrOwn.the-variants.{GotOwn}
 use Rattle.types.specs.declared.Kind.the-variants.{Got, Shown}
 use Rattle.model.specs.Definitions.Parts.{zeros}
@@ -20,7 +20,8 @@ use Rattle.model.specs.Definitions.Calls.{lackingOf}
 use Rattle.model.specs.Contracts.{Fits, InReplay, WellFormedBut}
 use Rattle.model.specs.Moves.{Move, does, Phase, Begun, Noted, Fetched, Replays, Settled, Finished, MayStore, anyone, taker, ender, Selects, checkpoints}
 use Rattle.model.specs.Moves.{notesShown, notesGot, storesRecord, storesFrame, storesHead, storesSelector, givesCopy, passesOwnership, dropsCopies}
-use Rattle.model.specs.Moves.{performs, losesPower, setsFuse, loads, repeatsAccess, takesLast, settles, Moves, resumes, closes, MayPerform, local, taken}
+use Rattle.model.specs.Moves.{performs, losesPower, setsFuse, loads, repeatsAccess, takesLast, settles, Moves, resumes, closes, MayPerform, local}
+use Rattle.model.specs.Moves.{taken, TakesCopy, first, behind}
 use Rattle.model.specs.Moves.{Guard}
 use Rattle.model.specs.History.Statement.{Event, Nothing}
 use Rattle.model.specs.Laws.Logic.{byOption}
@@ -33,6 +34,7 @@ use Rattle.model.specs.Laws.Keeps.Checkpoint.{storedFrame-fits, storedHe
 use Rattle.model.specs.Laws.Keeps.Accesses.{access-keeps, writable}
 use Rattle.model.specs.Laws.Keeps.Rights.{frameOk-of, giveCopy-keeps, dropCopies-keeps, passOwnership-keeps}
 use Rattle.model.specs.Laws.Keeps.Replay.{loaded-inReplay, usedUp-inReplay, settle-restores}
+use Rattle.model.specs.Laws.Keeps.Live.{frames-count}
 use Rattle.model.specs.Laws.Keeps.Entered.{taken-inReplay, replayed-keeps}
 use Rattle.model.specs.Laws.Moves.{induct}
 use Rattle.model.specs.Laws.Valid.{recordable-plain, recordable-got}
@@ -43,7 +45,7 @@ use Rattle.model.specs.Laws.Valid.{recordable-plain, recordable-got}
 unfoldable pub FormedIn : ℕ → Phase → Bank → Type 0
 FormedIn d Begun k = WellFormed k
 FormedIn d (Noted o p) k = WellFormed k
-FormedIn d (Fetched o g p) k = WellFormed k
+FormedIn d (Fetched a os ps) k = WellFormed k
 FormedIn d (Replays e) k = WellFormedBut d InReplay k
 FormedIn d (Settled e) k = WellFormed k
 FormedIn d (Finished e o) k = WellFormed k
@@ -69,10 +71,16 @@ formed-only ender w = w
 pub run-formed : {d b : ℕ} {φ : Phase} {r : Run} → MayStore d b φ → FormedRun d φ r → WellFormed (r .bank)
 run-formed {r = r} o h = byOption (r .lost) (λ n. only-formed o (h .going n)) (h .lost)
 
-begins-formed : (d : ℕ) {a : Access} {gave : Option ℕ} {φ : Phase} {k : Bank} → MayPerform a gave φ → FormedIn d φ k → WellFormed k
+begins-formed : (d : ℕ) {a : Access} {gave : List ℕ} {φ : Phase} {k : Bank} → MayPerform a gave φ → FormedIn d φ k → WellFormed k
 unfolding FormedIn
 begins-formed d local w = w
 begins-formed d taken w = w
+
+-- copies are taken in a well-formed bank, and leave one
+takes-well : (d : ℕ) {o p : ℕ} {a : Access} {φ ψ : Phase} {k : Bank} → TakesCopy a o p φ ψ → FormedIn d φ k → WellFormed k
+unfolding FormedIn
+takes-well d first w = w
+takes-well d (behind l) w = w
 
 -- a bank that is well formed, lost power or not
 formed-run : {d b : ℕ} {φ : Phase} {r : Run} → MayStore d b φ → WellFormed (r .bank) → FormedRun d φ r
@@ -100,6 +108,12 @@ formed-selected closes w = record { going = λ n. w; lost = λ c e. w }
 step-formed : {d : ℕ} {ψ : Phase} (f : Bank → Bank) (s : Run) → s .lost ≡ none → FormedIn d ψ (f (s .bank)) → FormedRun d ψ (step f s)
 step-formed {d} {ψ} f s n w =
     step-cases (FormedRun d ψ) f s (λ c e. lost-not n e) (λ e. record { going = λ m. w; lost = λ c e. lost-not refl e })
+
+takes-formed : {d o p : ℕ} {a : Access} {φ ψ : Phase} → TakesCopy a o p φ ψ → (f : Bank → Bank) (s : Run) → s .lost ≡ none → WellFormed (f (s .bank))
+    → FormedRun d ψ (step f s)
+unfolding FormedIn
+takes-formed first f s n w = step-formed f s n w
+takes-formed (behind l) f s n w = step-formed f s n w
 
 -- a store of an up board that keeps the clauses of its board
 store-formed : {d : ℕ} {φ : Phase} (b : ℕ) (f : Board → Board) (s : Run) → s .lost ≡ none → MayStore d b φ → FormedRun d φ s
@@ -134,16 +148,16 @@ move-formed s _ n (storesSelector b o u v) h =
     formed-selected o
     (step-keeps (onBoard b (onWorking restedWorking)) t w
     (λ e. onBoard-keeps b (onWorking restedWorking) (t .bank) w (λ l f. rested-fits (t .bank .directory) b (boardAt (t .bank) b) f)))
-move-formed {d} s _ n (givesCopy o p g u m r) h =
-    step-formed _ s n (giveCopy-keeps o d p (s .bank) (h .going n) u m (g .page) (λ e. g .other (sym (g .owner) ∙ e)))
-move-formed {d} s _ n (passesOwnership o p g v m) h =
+move-formed {d} s _ n (givesCopy a o p x c i g u m r) h =
+    takes-formed x _ s n (giveCopy-keeps o d p (s .bank) (takes-well d x (h .going n)) u m (g .page) (λ e. g .other (sym (g .owner) ∙ e)))
+move-formed {d} s _ n (passesOwnership a o p c i g v m) h =
     step-formed _ s n (passOwnership-keeps o d p (s .bank) (h .going n) (g .page) (g .owner) (g .secure .up) (v .up) m)
 move-formed s _ n (dropsCopies p l m) h = step-formed _ s n (dropCopies-keeps p (s .bank) (h .going n) l m)
 move-formed {d} s _ n (performs a i can has none-out) h =
     let w : WellFormed (s .bank) = begins-formed d i (h .going n) in
     step-formed _ s n
     (access-keeps d a (s .bank) w (λ e. up-not-down (can .up) e) (can .since) (can .number)
-    (writable a (boardAt (s .bank) d .working .frames) has (can .values)))
+    (writable a (boardAt (s .bank) d .working .frames) has (λ p t. rw (frames-count d a (s .bank) w can) (can .pages p t)) (can .values)))
 move-formed {d} s _ n (losesPower l) h = step-formed _ s n (powerOff-keeps d (s .bank) (h .going n))
 move-formed {d} s _ n (setsFuse m p low high) h = step-formed _ s n (withFuse-keeps d m (s .bank) (h .going n) low high p)
 move-formed {d} s _ n (loads l down) h =
@@ -151,13 +165,13 @@ move-formed {d} s _ n (loads l down) h =
     step-formed _ s n
     (onBoard-but d (λ x. usedUp (loaded x)) k (but {Kept = Fits} (h .going n) (λ f. f))
     (λ i f. usedUp-inReplay (k .directory) d (loaded (boardAt k d)) (loaded-inReplay (k .directory) d (boardAt k d) f down)))
-move-formed {d} s _ n (repeatsAccess a z i rep same over) h = step-formed _ s n (replayed-keeps d a (s .bank) (h .going n) i rep same)
+move-formed {d} s _ n (repeatsAccess a z i rep same over) h = step-formed _ s n (replayed-keeps d a (s .bank) (h .going n) i rep same over)
 move-formed {d} s _ n (takesLast a i rep same over) h = step-formed _ s n (taken-inReplay d a (s .bank) (h .going n) i rep same)
 move-formed {d} s _ n (settles l rep over) h = step-formed _ s n (settle-restores d (s .bank) (h .going n))
 
 -- a replay that waits has a record left
 waits-formed : {d : ℕ} {e : Event} (s : Run) → s .lost ≡ none → replayOver (boardAt (s .bank) d) ≡ false → FormedRun d (Replays e) s
-    → FormedRun d (Finished e none) s
+    → FormedRun d (Finished e []) s
 unfolding FormedIn replayOver
 waits-formed {d} s n over h =
     let x : Board = boardAt (s .bank) d in
@@ -174,7 +188,7 @@ waits-formed {d} s n over h =
       lost = h .lost;
     }
 
-ends-formed : {d : ℕ} (s : Run) → FormedRun d Begun s → FormedRun d (Finished Nothing none) s
+ends-formed : {d : ℕ} (s : Run) → FormedRun d Begun s → FormedRun d (Finished Nothing []) s
 unfolding FormedIn
 ends-formed s h = record { going = h .going; lost = h .lost }
 
@@ -188,24 +202,24 @@ moves-formed {d} t h = induct (FormedRun d) (λ χ ψ. move-formed) (λ e. waits
 pub induct-formed : {d : ℕ} {Again : Access → Type 0} (P : Phase → Run → Type 0)
     → ((χ ψ : Phase) (s : Run) (m : Move) → s .lost ≡ none → Guard d Again (s .bank) m χ ψ → FormedRun d χ s → FormedRun d ψ (does m s)
     → P χ s → P ψ (does m s))
-    → ((e : Event) (s : Run) → s .lost ≡ none → replayOver (boardAt (s .bank) d) ≡ false → FormedRun d (Finished e none) s
-    → P (Replays e) s → P (Finished e none) s)
-    → ((s : Run) → P Begun s → P (Finished Nothing none) s)
+    → ((e : Event) (s : Run) → s .lost ≡ none → replayOver (boardAt (s .bank) d) ≡ false → FormedRun d (Finished e []) s
+    → P (Replays e) s → P (Finished e []) s)
+    → ((s : Run) → P Begun s → P (Finished Nothing []) s)
     → ((χ ψ : Phase) (s : Run) (c : ℕ) → s .lost ≡ some c → P χ s → P ψ s)
     → {φ χ : Phase} {r s : Run} → Moves d Again φ r χ s → FormedRun d φ r → P φ r → P χ s
 induct-formed {d} P move wait end cut t f h =
     induct (λ χ s. FormedRun d χ s × P χ s)
     (λ χ ψ s m n a i. let w : FormedRun d ψ (does m s) = move-formed s m n a (i .0) in (w, move χ ψ s m n a (i .0) w (i .1)))
-    (λ e s n o i. let w : FormedRun d (Finished e none) s = waits-formed s n o (i .0) in (w, wait e s n o w (i .1)))
+    (λ e s n o i. let w : FormedRun d (Finished e []) s = waits-formed s n o (i .0) in (w, wait e s n o w (i .1)))
     (λ s i. (ends-formed s (i .0), end s (i .1)))
     (λ χ ψ s c e i. (lost-formed s e (i .0), cut χ ψ s c e (i .1)))
     t (f, h) .1
 
 -- a page fetched, a call that is over
-pub fetched-formed : {d o p : ℕ} {g : CopyOrOwn} {r : Run} → FormedRun d (Fetched o g p) r → WellFormed (r .bank)
+pub fetched-formed : {d : ℕ} {a : Access} {os ps : List ℕ} {r : Run} → FormedRun d (Fetched a os ps) r → WellFormed (r .bank)
 unfolding FormedIn
 fetched-formed {r = r} h = byOption (r .lost) (h .going) (h .lost)
 
-pub finished-formed : {d : ℕ} {e : Event} {gave : Option ℕ} {r : Run} → FormedRun d (Finished e gave) r → WellFormed (r .bank)
+pub finished-formed : {d : ℕ} {e : Event} {gave : List ℕ} {r : Run} → FormedRun d (Finished e gave) r → WellFormed (r .bank)
 unfolding FormedIn
 finished-formed {r = r} h = byOption (r .lost) (h .going) (h .lost)

@@ -97,7 +97,8 @@ copied-all pages x w c =
     ext-getD emptyFrame (x .stable .spare .frames) (x .working .frames) (c .size ∙ sym w) (λ i l. c .frames i (rw (c .size) at l))
 
 -- the stores up to the head, if none of them lost power
-pub head-saves : (b : ℕ) (r : Run) → WellFormed (r .bank) → b < length (r .bank .boards) → storeAll b (spareStores (length (r .bank .directory))) r .lost ≡ none
+pub head-saves : (b : ℕ) (r : Run) → WellFormed (r .bank) → b < length (r .bank .boards)
+    → storeAll b (spareStores (length (r .bank .directory))) r .lost ≡ none
     → Saved (boardAt (storeAll b (spareStores (length (r .bank .directory))) r .bank) b)
 unfolding tabulate
 head-saves b r w l e =

@@ -20,8 +20,8 @@ use Rattle.model.specs.Definitions.Replay.{settled, settle, endReplay}
 use Rattle.model.specs.Laws.Logic.{cases}
 use Rattle.model.specs.Laws.Lists.{foldl-keeps}
 use Rattle.model.specs.Laws.Boards.{storedRecord-cases}
-use Rattle.model.specs.Laws.Runs.{step-none, follows-none, follows-flush, each-recordStores, each-spareStores, afterStores, changed-map, changed-storeAll}
-use Rattle.model.specs.Laws.Runs.{follows-checkpoint, Changed, changed-trans, changed-onBoard, changed-step}
+use Rattle.model.specs.Laws.Runs.{step-none, follows-none, follows-flush, each-recordStores, each-spareStores, afterStores, changed-map}
+use Rattle.model.specs.Laws.Runs.{changed-storeAll, follows-checkpoint, Changed, changed-trans, changed-onBoard, changed-step}
 
 -- ---- a fuse lowered
 

@@ -11,10 +11,10 @@ enum-told-2 : tie.Need-enum-told-2
 enum-told-2 c = search needs
 
 returns : tie.Need-returns
-returns c = λ p o v. cc (serves-copy (c .before .before .args .writes) p o v)
+returns c = cc (serves-copy (c .before .before .args .writes))
 
 returns-2 : tie.Need-returns-2
-returns-2 c = λ p o v. cc (serves-own (c .before .before .args .writes) p o v)
+returns-2 c = cc (serves-own (c .before .before .args .writes))
 
 pub serves-spec : {M : Type 1} → statement M
 serves-spec = tie.close (tie.spec enum-told enum-told-2 returns returns-2)

@@ -1,61 +1,54 @@
--- `replay::got::take_due` meets its contract. Assumes nothing.
-use mathlib.Core.Path.{_≡_, sym, ap, _∙_}
-use mathlib.Core.Option.{some}
-use native.Mathlib.Omega.{arith}
-use borrow.Author.Needs.{needs}
-use Rattle.types.specs.declared.Record.{Record}
-use Rattle.model.specs.Definitions.Bank.{Board}
+-- `replay::got::take_due` meets its contract. The invariant: what is left to take gives what the whole gives. Assumes nothing.
+use mathlib.Core.Path.{_≡_, refl, sym, ap, _∙_}
+use lib.ListN.{length}
 use Rattle.model.specs.Definitions.Codec.{encodeBoard}
-use Rattle.model.specs.Definitions.Replay.{due}
-use Rattle.steps.specs.Access.{named-page}
-use Rattle.steps.specs.Blocks.{boardOf, readOrWrite}
-use Rattle.steps.specs.Selected.{stored-most}
-use Rattle.replay.specs.Got.{due-is-ready, took-none, took-some}
-use Rattle.replay.specs.Next.{found-some, found-none, ready-valid}
+use Rattle.model.specs.Definitions.Replay.{due, tookDue}
+use Rattle.steps.specs.BlockLaws.{block-length, board-written, block-written}
+use Rattle.steps.specs.Blocks.{IsBlock, boardOf}
+use Rattle.replay.specs.Got.{took-end, took-more}
 use Rattle.replay.proofs.got.take_due.Statement.{statement}
 use Rattle.replay.proofs.got.take_due.Tie as tie
 
-due-requires : tie.Need-due-requires
-due-requires c κs = search needs
+abbrev Inv-loop : tie.InvT-loop
+Inv-loop block₀ pages block = IsBlock pages block × (tookDue (boardOf pages block) ≡ tookDue (boardOf pages block₀))
 
-got-frame-requires : tie.Need-got-frame-requires
-got-frame-requires c κs = search needs
+abbrev μ-loop : tie.MeasureT-loop
+μ-loop block₀ pages block = length (due (boardOf pages block))
 
-use-with-frame-requires : tie.Need-use-with-frame-requires
-use-with-frame-requires c κs =
-    let b = c .before .before .before .before .before .before .before .pre .0 in
-    let x : Board = boardOf (c .before .before .before .before .before .before .before .args .pages)
-    (c .before .before .before .before .before .before .before .args .block .now) in
-    let r : Record = c .before .before .before .before .due .result .value in
-    let v = ready-valid x r (b .fields)
-    (due-is-ready x r (found-some _ _ (c .before .before .before .before .due .ensures) (c .before .before .before .if1 .taken)) .0) in
-    (b, omega (arith, v .0, stored-most b), c .before .before .before .before .before .before .before .pre .1, rw (c .got-frame .ensures) (v .1 .size))
+loop-holds : tie.Need-loop-holds Inv-loop μ-loop
+loop-holds c = (c .before .pre, refl)
 
-same-length : tie.Need-same-length
-same-length c = search needs
+take-got-requires : tie.Need-take-got-requires Inv-loop μ-loop
+take-got-requires c κs = c .before .loop .inv .0
 
-returns : tie.Need-returns
+loop-less : tie.Need-loop-less Inv-loop μ-loop
+loop-less c =
+    let b = c .before .before .before .before .before .loop .inv .0 in
+    let u = took-more (boardOf (c .before .before .before .before .before .before .before .args .pages)
+    (c .before .before .before .before .before .loop .block)) (b .fields) (sym (c .before .before .before .take-got .ensures .0) ∙ c .if1 .taken) in
+    rw (board-written _ (b .few) (u .fields) (c .before .before .before .take-got .ensures .1)) (u .fewer)
+
+loop-again : tie.Need-loop-again Inv-loop μ-loop
+loop-again c =
+    let b = c .before .before .before .before .before .loop .inv .0 in
+    let u = took-more (boardOf (c .before .before .before .before .before .before .before .args .pages)
+    (c .before .before .before .before .before .loop .block)) (b .fields) (sym (c .before .before .before .take-got .ensures .0) ∙ c .if1 .taken) in
+    let e = c .before .before .before .take-got .ensures .1 in (
+      block-written _ (b .few) (u .fields) e,
+      ap tookDue (board-written _ (b .few) (u .fields) e) ∙ sym (u .same)
+          ∙ c .before .before .before .before .before .loop .inv .1,
+    )
+
+same-length : tie.Need-same-length Inv-loop μ-loop
+same-length c =
+    c .before .before .before .take-got .kept .0 ∙ block-length (c .before .before .before .before .before .loop .inv .0)
+    ∙ sym (block-length (c .before .before .before .before .before .before .before .pre))
+
+returns : tie.Need-returns Inv-loop μ-loop
 returns c =
-    let start = c .before .before .before .before .before .before .before .before .before .before in
-    let x : Board = boardOf (start .args .pages) (start .args .block .now) in
-    let e : due x ≡ some (c .before .before .before .before .before .before .before .due .result .value) = found-some _ _
-    (c .before .before .before .before .before .before .before .due .ensures) (c .before .before .before .before .before .before .if1 .taken) in
-    λ w o v.
-    c .before .before .use-with-frame .ensures
-    ∙ ap encodeBoard
-    (took-some (readOrWrite w (start .args .page) o v) x _ (start .args .page) _ e (named-page w (start .args .page) o v)
-    (c .before .before .before .got-frame .ensures))
-
-same-length-2 : tie.Need-same-length-2
-same-length-2 c = search needs
-
-returns-2 : tie.Need-returns-2
-returns-2 c =
-    let start = c .before .before .before .before in
-    let x : Board = boardOf (start .args .pages) (start .args .block .now) in
-    λ w o v.
-    sym (start .pre .0 .back)
-    ∙ ap encodeBoard (took-none (readOrWrite w (start .args .page) o v) x (found-none _ _ (c .before .due .ensures) (c .if1 .left)))
+    let n = took-end (boardOf (c .before .before .before .before .before .before .before .args .pages)
+    (c .before .before .before .before .before .loop .block)) (sym (c .before .before .before .take-got .ensures .0) ∙ c .if1 .left) in
+    c .before .before .before .take-got .ensures .1 ∙ ap encodeBoard (n .1 ∙ sym (n .0) ∙ c .before .before .before .before .before .loop .inv .1)
 
 pub take-due-spec : {M : Type 1} → statement M
-take-due-spec = tie.close (tie.spec due-requires got-frame-requires use-with-frame-requires same-length returns same-length-2 returns-2)
+take-due-spec = tie.close (tie.spec Inv-loop μ-loop loop-holds take-got-requires loop-less loop-again same-length returns)

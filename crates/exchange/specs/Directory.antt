@@ -1,14 +1,14 @@
--- What is read of a bank's directory, and the number of a board. Assumes nothing.
-use mathlib.Core.Path.{_≡_}
-use Prim.Native.Nat.{ℕ, _+_, _*_, _-_, _≤_, _<_}
-use native.Mathlib.Omega.{arith}
+-- What is read of a bank's directory. Assumes nothing.
+use mathlib.Core.Path.{_≡_, ap}
+use Prim.Native.Nat.{ℕ, _+_, _*_, _≤_, _<_}
 use mathlib.Core.List.{List}
 use lib.ListN.{length}
 use Rattle.model.specs.Definitions.Parts.{part}
-use Rattle.model.specs.Definitions.Layout.{mostBoards, headSize, entrySize}
-use Rattle.model.specs.Definitions.Bank.{entryAt}
+use Rattle.model.specs.Definitions.Layout.{headSize, entrySize}
+use Rattle.model.specs.Definitions.Bank.{Entry, entryAt}
 use Rattle.model.specs.Definitions.Codec.{decodeEntry, decode}
+use Rattle.model.specs.Definitions.Steps.{giver}
 use Rattle.exchange.specs.Banks.{OfBank, of-holds, entry-in, entry-read}
 
 module _ {pages b : ℕ} {s : List ℕ} (o : OfBank pages b s) where
   -- a directory entry of the bank
@@ -18,9 +18,9 @@ module _ {pages b : ℕ} {s : List ℕ} (o : OfBank pages b s) where
   pub entry-told : (p : ℕ) → p < pages → decodeEntry (part s (headSize + p * entrySize) entrySize) ≡ entryAt (decode s) p
   entry-told p h = entry-read (of-holds o) p (rw (o .count) at h)
 
-  -- a board's number fits a byte
-  pub board-small : b < mostBoards
-  board-small = omega (arith, o .board, o .bank .sizes .boards)
+  pub giver-told : (p : ℕ) → p < pages → decodeEntry (part s (headSize + p * entrySize) entrySize) .owner ≡ giver (decode s) p
+  unfolding giver
+  giver-told p h = ap (λ (e : Entry). e .owner) (entry-told p h)
 
   -- another board of the same bank
   pub of-board : (c : ℕ) → c < length (decode s .boards) → OfBank pages c s

@@ -1,0 +1,255 @@
+-- A read fetch of the pages of a set, as the code walks over it: the givers' part so far, the copies so far, and the run that they make. Assumes nothing.
+use mathlib.Core.Path.{_≡_, refl, sym, _∙_}
+use Prim.Native.Nat.{ℕ, _+_, _*_, _≤_, _<_}
+use native.Mathlib.Omega.{arith}
+use mathlib.Core.Bool.{true, false}
+use mathlib.Core.Option.{Option, none, some}
+use mathlib.Core.List.{List, [], _∷_}
+use lib.ListN.{length, length-append}
+use Rattle.types.specs.declared.CopyOrOwn.the-variants.{GotCopy}
+use Rattle.types.specs.declared.Kind.the-variants.{Got, Shown}
+use Rattle.types.specs.declared.State.the-variants.{Up}
+use Rattle.model.specs.Definitions.Parts.{zeros, member}
+use Rattle.model.specs.Definitions.Layout.{pageSize, slotCount}
+use Rattle.model.specs.Definitions.Bank.{Bank, boardAt, onWorking, onFrames}
+use Rattle.model.specs.Definitions.Codec.{decode}
+use Rattle.model.specs.Definitions.WellFormed.{WellFormed}
+use Rattle.model.specs.Definitions.Steps.{Run, appended, recorded, withFrame, frameOf, giver, show, giveCopy, showAll, giveCopies, readFetch}
+use Rattle.model.specs.Laws.Lists.{each-head, each-tail, each-imp}
+use Rattle.model.specs.Laws.Boards.{tookCopy, boards-giveCopy, boardAt-giveCopy-same}
+use Rattle.model.specs.Laws.Runs.{Changed, SameSizes, follows-showAll, follows-step, sizes-giveCopy, sizes-giveCopies}
+use Rattle.model.specs.Laws.Runs.Stores.{FlushedWith, show-changed}
+use Rattle.model.specs.Laws.Keeps.Clauses.{up-below}
+use Rattle.model.specs.Laws.Keeps.Copies.{room-giver, giver-same, Shared, shown-can, showAll-shared, needs-reader, giver-giveCopy}
+use Rattle.model.specs.Laws.Moves.Stores.{show-keeps}
+use Rattle.model.specs.Laws.Moves.Fetches.{showAll-moves}
+use Rattle.model.specs.Laws.Moves.Formed.{formed-begun, run-formed, moves-formed}
+use Rattle.model.specs.Moves.{anyone, still}
+use Rattle.model.specs.Contracts.{volatileCount, CanFetch}
+use Rattle.exchange.specs.Banks.{Holds, OfBank, holds-bank, holds-decode, of-holds, holds-of}
+use Rattle.exchange.specs.Progress.{running, Came, CanShow, pagesIn, CanShowAll, CanGive}
+use Rattle.exchange.specs.Fetching.{came-holds, came-on, came-step, came-lost}
+use Rattle.exchange.specs.Walks.{left, left-all, left-none, left-next, left-skip}
+
+-- the pages of a set from page i on
+abbrev pub pagesFrom : ℕ → ℕ → ℕ → List ℕ
+pagesFrom pages set i = left (λ p. member p set) pages i
+
+-- ---- the givers' part
+
+-- after the pages below i, with m stores: what is left of the bank on entry is left of this one
+pub record Showing (pages set : ℕ) (k : Bank) (s : List ℕ) (m i : ℕ) : Type 0 where
+  pub bank : OfBank pages 0 s
+  pub formed : WellFormed (decode s)
+  pub can : CanShowAll (pagesFrom pages set i) (decode s)
+  pub run : (n : ℕ) → showAll (pagesFrom pages set i) (running (n + m) (decode s)) ≡ showAll (pagesIn pages set) (running n k)
+  pub few : m ≤ i * slotCount
+  pub within : i ≤ pages
+
+pub showing-first : {pages : ℕ} (set : ℕ) {s : List ℕ} → OfBank pages 0 s → WellFormed (decode s) → CanShowAll (pagesIn pages set) (decode s)
+    → Showing pages set (decode s) s 0 0
+showing-first {pages} set o w c =
+    let e : pagesFrom pages set 0 ≡ pagesIn pages set = left-all (λ p. member p set) pages in
+    record {
+      bank = o;
+      formed = w;
+      can = rw e c;
+      run = λ n. let z : n + 0 ≡ n = omega arith in rw (e, z);
+      few = omega arith;
+      within = omega arith;
+    }
+
+module _ {pages set : ℕ} {k : Bank} {s : List ℕ} {m i : ℕ} (h : Showing pages set k s m i) where
+  -- the last page is behind
+  pub showing-last : pages ≤ i → (n : ℕ) → Came s (n + m) none (showAll (pagesIn pages set) (running n k))
+  unfolding showAll
+  showing-last l n =
+      let e : pagesFrom pages set i ≡ [] = left-none (λ p. member p set) pages i l in
+      let r : running (n + m) (decode s) ≡ showAll (pagesIn pages set) (running n k) = rw e at (h .run n) in
+      rw (← r) (record { bytes = of-holds (h .bank) .bytes; stores = refl; lost = refl })
+
+  module _ (l : i < pages) where
+    -- a page that isn't in the set
+    pub showing-skip : member i set ≡ false → Showing pages set k s m (i + 1)
+    showing-skip t =
+        let e : pagesFrom pages set i ≡ pagesFrom pages set (i + 1) = left-skip (λ p. member p set) pages i l t in
+        record {
+          bank = h .bank;
+          formed = h .formed;
+          can = rw (← e) (h .can);
+          run = λ n. rw (← e) (h .run n);
+          few = omega (arith, h .few);
+          within = omega arith;
+        }
+
+    module _ (t : member i set ≡ true) where
+      abbrev rest : List ℕ
+      rest = pagesFrom pages set (i + 1)
+
+      here : pagesFrom pages set i ≡ i ∷ rest
+      here = left-next (λ p. member p set) pages i l t
+
+      abbrev taker : ℕ
+      taker = h .can .taker
+
+      can : CanFetch GotCopy taker (i ∷ rest) (decode s)
+      can = rw (← here) (h .can .fetch)
+
+      module _ (o : ℕ) (own : o ≡ giver (decode s) i) where
+        up : boardAt (decode s) o .state ≡ Up
+        up = rw own (each-head (can .owners))
+
+        -- the owner can show it
+        pub show-owner : o < length (decode s .boards)
+        show-owner = up-below (decode s) o up
+
+        pub show-can : CanShow o (decode s)
+        show-can = (up, rw own (room-giver taker i rest (decode s) can))
+
+        -- the owner has shown it
+        module _ {ys : List ℕ} (x : ℕ) {q : Option ℕ} (ran : (n : ℕ) → Came ys (n + x) q (show o i (running n (decode s)))) where
+          told : (n : ℕ) → Came ys (n + (m + x)) q (show o i (running (n + m) (decode s)))
+          told n = let e : n + (m + x) ≡ n + m + x = omega arith in rw e (ran (n + m))
+
+          goes : (n : ℕ) → showAll rest (show o i (running (n + m) (decode s))) ≡ showAll (pagesIn pages set) (running n k)
+          unfolding showAll
+          goes n = rw (own, ← h .run n, here)
+
+          -- and lost its power
+          pub showing-lost : (d : ℕ) → q ≡ some d → (n : ℕ) → Came ys (n + (m + x)) q (showAll (pagesIn pages set) (running n k))
+          showing-lost d e n = rw (← goes n) (came-lost (told n) d e (follows-showAll rest (show o i (running (n + m) (decode s)))))
+
+          -- and has it yet
+          module _ (on : q ≡ none) (small : x ≤ slotCount) where
+            keeps : (n : ℕ) → WellFormed (show o i (running n (decode s)) .bank)
+            keeps n = show-keeps o i (running n (decode s)) (h .formed) (λ e. up) (λ e. show-can .1) (λ e. each-head (can .pages))
+
+            held : Holds ys (show o i (running 0 (decode s)) .bank)
+            held = came-holds (ran 0) (keeps 0)
+
+            changed : Changed o (FlushedWith (Shown i) (zeros pageSize)) (decode s) (show o i (running 0 (decode s)) .bank)
+            changed = show-changed o i (running 0 (decode s)) (sym (ran 0 .lost) ∙ on)
+
+            pub showing-on : Showing pages set k ys (m + x) (i + 1)
+            showing-on =
+                record {
+                  bank = holds-of held pages 0 (rw (changed .directory) (h .bank .count)) (rw (changed .boards) (h .bank .board));
+                  formed = rw (holds-decode held) (keeps 0);
+                  can =
+                      record {
+                        taker = taker;
+                        fetch = rw (holds-decode held, own) (shown-can taker i rest (running 0 (decode s)) can (rw own at (sym (ran 0 .lost) ∙ on)));
+                      };
+                  run = λ n. rw (came-on (told n) on (keeps (n + m))) (goes n);
+                  few = omega (arith, h .few);
+                  within = omega arith;
+                }
+
+-- ---- the copies
+
+-- after the pages below i: what is left of the copies gives all of them
+pub record Giving (pages set b : ℕ) (k : Bank) (s : List ℕ) (i : ℕ) : Type 0 where
+  pub bank : OfBank pages b s
+  pub can : CanGive b (pagesFrom pages set i) (decode s)
+  pub gives : giveCopies b (pagesFrom pages set i) (decode s) ≡ giveCopies b (pagesIn pages set) k
+
+pub giving-first : {pages b : ℕ} (set : ℕ) {s : List ℕ} → OfBank pages b s → CanGive b (pagesIn pages set) (decode s) → Giving pages set b (decode s) s 0
+giving-first {pages} set o c =
+    let e : pagesFrom pages set 0 ≡ pagesIn pages set = left-all (λ p. member p set) pages in
+    record { bank = o; can = rw e c; gives = rw e }
+
+-- a copy given leaves the givers, and one slot less
+pub copy-can : (b p : ℕ) (ps : List ℕ) (k : Bank) → b < length (k .boards) → CanGive b (p ∷ ps) k → CanGive b ps (giveCopy (giver k p) b p k)
+unfolding tookCopy withFrame onWorking onFrames recorded appended
+copy-can b p ps k h c =
+    let o : ℕ = giver k p in
+    record {
+      givers = each-imp ps (λ q v. rw (giver-giveCopy o b p k q, boards-giveCopy o b p k) v) (each-tail (c .givers));
+      room =
+          rw (boardAt-giveCopy-same o b p k h)
+          (omega (
+            arith,
+            c .room,
+            length-append (boardAt k b .working .log .records)
+                (record { count = boardAt k b .working .since; kind = Got GotCopy p; bytes = frameOf k o p .bytes } ∷ []),
+          ));
+    }
+
+module _ {pages set b : ℕ} {k : Bank} {s : List ℕ} {i : ℕ} (h : Giving pages set b k s i) where
+  pub giving-last : pages ≤ i → Holds s (giveCopies b (pagesIn pages set) k)
+  unfolding giveCopies
+  giving-last l =
+      let e : pagesFrom pages set i ≡ [] = left-none (λ p. member p set) pages i l in
+      let r : decode s ≡ giveCopies b (pagesIn pages set) k = rw e at (h .gives) in
+      rw (← r) (of-holds (h .bank))
+
+  module _ (l : i < pages) where
+    pub giving-skip : member i set ≡ false → Giving pages set b k s (i + 1)
+    giving-skip t =
+        let e : pagesFrom pages set i ≡ pagesFrom pages set (i + 1) = left-skip (λ p. member p set) pages i l t in
+        record { bank = h .bank; can = rw (← e) (h .can); gives = rw (← e) (h .gives) }
+
+    module _ (t : member i set ≡ true) where
+      behind : pagesFrom pages set i ≡ i ∷ pagesFrom pages set (i + 1)
+      behind = left-next (λ p. member p set) pages i l t
+
+      gives-here : CanGive b (i ∷ pagesFrom pages set (i + 1)) (decode s)
+      gives-here = rw (← behind) (h .can)
+
+      module _ (o : ℕ) (own : o ≡ giver (decode s) i) where
+        pub give-owner : o < length (decode s .boards)
+        give-owner = rw own (each-head (gives-here .givers))
+
+        pub give-space : volatileCount (boardAt (decode s) b) < slotCount
+        give-space = omega (arith, gives-here .room)
+
+        pub giving-on : {ys : List ℕ} → Holds ys (giveCopy o b i (decode s)) → Giving pages set b k ys (i + 1)
+        unfolding giveCopies
+        giving-on {ys} y =
+            let z : SameSizes (decode s) (giveCopy o b i (decode s)) = sizes-giveCopy o b i (decode s) in
+            record {
+              bank = holds-of y pages b (h .bank .count ∙ sym (z .pages)) (rw (z .boards) (h .bank .board));
+              can = rw (holds-decode y, own) (copy-can b i (pagesFrom pages set (i + 1)) (decode s) (h .bank .board) gives-here);
+              gives = rw (holds-decode y, own, ← h .gives, behind);
+            }
+
+-- ---- both
+
+module _ {pages b : ℕ} {s ps : List ℕ} (o : OfBank pages b s) (w : WellFormed (decode s)) (c : CanFetch GotCopy b ps (decode s)) (n : ℕ) {l : List ℕ} {m : ℕ}
+    {q : Option ℕ} (ran : Came l m q (showAll ps (running n (decode s)))) where
+  -- power was lost in a giver's part
+  pub read-lost : (d : ℕ) → q ≡ some d → Came l m q (readFetch b ps (running n (decode s)))
+  unfolding readFetch
+  read-lost d e =
+      let u : Run = showAll ps (running n (decode s)) in
+      came-lost ran d e (follows-step (giveCopies b ps) u (sizes-giveCopies b ps (u .bank)))
+
+  module _ (on : q ≡ none) where
+    formed : WellFormed (showAll ps (running n (decode s)) .bank)
+    formed =
+        run-formed {d = b} {b = b} anyone
+        (moves-formed (showAll-moves {Again = λ a. ⊥} ps (running n (decode s)) (λ e. c) still) (formed-begun b (running n (decode s)) w))
+
+    shared : Shared b (decode s) (decode l)
+    shared = rw (holds-decode (came-holds ran formed)) (showAll-shared b ps (running n (decode s)) c (sym (ran .lost) ∙ on))
+
+    pub shown-of : OfBank pages b l
+    shown-of =
+        record {
+          bank = holds-bank (came-holds ran formed);
+          count = rw (shared .directory) (o .count);
+          board = rw (shared .boards) (o .board);
+        }
+
+    pub shown-give : CanGive b ps (decode l)
+    shown-give =
+        record {
+          givers = each-imp ps (λ p v. rw (giver-same (decode s) (decode l) (shared .directory) p, shared .boards) (up-below (decode s) _ v)) (c .owners);
+          room =
+              rw (shared .reader)
+              (omega (arith, c .room b (up-below (decode s) b (c .taker)), needs-reader (decode s) b ps));
+        }
+
+    pub read-given : (ys : List ℕ) → Holds ys (giveCopies b ps (decode l)) → Came ys m none (readFetch b ps (running n (decode s)))
+    unfolding readFetch
+    read-given ys y = came-step ran on formed (giveCopies b ps) ys y

@@ -1,0 +1,463 @@
+-- F-3's own claim: what a call gives are the bytes of single reads. A board sees in a cell its own byte or, without a right, that of who would give the page;
+-- an access that takes copies reads what its board sees, and leaves what it sees. Assumes nothing.
+use mathlib.Core.Path.{_≡_, refl, sym, ap, ap₂, _∙_}
+use mathlib.Core.Logic.{_≢_, _⊎_, inl, inr}
+use Prim.Native.Nat.{ℕ, suc, _<_}
+use native.Mathlib.Omega.{arith}
+use mathlib.Core.Bool.{Bool, true, false}
+use mathlib.Core.Option.{none, some}
+use mathlib.Core.List.{List, [], _∷_, map}
+use lib.ListN.{length, set, getD}
+use lib.Dec.{eqb}
+use borrow.Author.Tests.{eqb-true, not-false}
+use Rattle.words.specs.Bytes.{Each, each-nil, each-cons}
+use Rattle.types.specs.declared.Right.the-variants.{None, Copy, Own}
+use Rattle.types.specs.declared.Frame.{Frame}
+use Rattle.types.specs.declared.CopyOrOwn.{CopyOrOwn}
+use Rattle.types.specs.declared.CopyOrOwn.the-variants.{GotCopy, GotOwn}
+use Rattle.types.specs.declared.State.the-variants.{Up}
+use Rattle.types.specs.declared.Answer.{Answer}
+use Rattle.types.specs.declared.Answer.the-variants.{Done, Malformed, OutOfRange, WrongState, CountersFull, ReplayDiffers, OwnerNotUp, LogFull, PowerLost}
+use Rattle.types.specs.declared.Answer.the-variants.{WrongCells}
+use Rattle.model.specs.Definitions.Bank.{Board, Bank, boardAt, entryAt, frameAt, onBoard, onWorking, onFrames}
+use Rattle.model.specs.Definitions.Codec.{encode, decode}
+use Rattle.model.specs.Definitions.WellFormed.{rightIn, isReplaying, WellFormed}
+use Rattle.model.specs.Definitions.Check.{wellFormed}
+use Rattle.model.specs.Definitions.Steps.{Run, start, step, Access, Read, Write, ReadCells, Cell, cellsAsked, cellsRead, cellsWritten, names, takes}
+use Rattle.model.specs.Definitions.Steps.{lacks, lackingPages, cellByte, withBytes, readFrom, valueOf, givenOf, accessed, access, recorded, withFrame}
+use Rattle.model.specs.Definitions.Steps.{frameOf, giver, giveCopy, showAll, giveCopies, readFetch, fetch}
+use Rattle.model.specs.Definitions.Replay.{rightGot}
+use Rattle.model.specs.Definitions.Answers.{code, value}
+use Rattle.model.specs.Definitions.Calls.{Result, firstOf, unless, finished, copiesOut, lackingOf, pagesLacking, liveRefusals, prepared, performed, live}
+use Rattle.model.specs.Definitions.Calls.{replaying, accessRefusals, accessWithin, accessBank, refusalsWithin, Call, Accessing, callBank, Reply, refused}
+use Rattle.model.specs.Definitions.Calls.{replyOf, call}
+use Rattle.model.specs.Contracts.{CanFetch, CanAccess, Ready, Entered}
+use Rattle.model.specs.Moves.{Gives}
+use Rattle.model.specs.Laws.Logic.{cases, byBool, byEq, byOption, clash}
+use Rattle.model.specs.Laws.Lists.{each-head, each-tail, each-imp}
+use Rattle.model.specs.Laws.Below.{Rising, listed, lackingPages-lack, lackingPages-rise, has-right, read-named}
+use Rattle.model.specs.Laws.Boards.{rightIn-owner, frameAt-same, tookCopy, boardAt-same, boardAt-other, boardAt-giveCopy-same, boardAt-giveCopy-other}
+use Rattle.model.specs.Laws.Runs.{SameSizes, finished-run, step-none, step-done, step-going}
+use Rattle.model.specs.Laws.Keeps.Clauses.{fits, up-below}
+use Rattle.model.specs.Laws.Keeps.Rights.{or-cases}
+use Rattle.model.specs.Laws.Keeps.Fetches.{Taken}
+use Rattle.model.specs.Laws.Keeps.Copies.{giver-same, Shared, showAll-shared, CanTake, shown-take, giver-giveCopy, taken-take, reader-since}
+use Rattle.model.specs.Laws.Keeps.Copies.{giveCopies-taken}
+use Rattle.model.specs.Laws.Keeps.Copies.{rest-taken}
+use Rattle.model.specs.Laws.Keeps.Live.{first-in, copy-none, lacking-some, can-fetch, lacking-other, frames-count, fetched-taken, prepared-ready}
+use Rattle.model.specs.Laws.Keeps.Entered.{entered, entered-live}
+use Rattle.model.specs.Laws.Moves.{moves-follow}
+use Rattle.model.specs.Laws.Moves.Calls.{copy-out, bytes-seen, prepared-keeps, prepared-sizes, call-moves, call-keeps}
+use Rattle.model.specs.Laws.WellFormedTest.{wellFormed-sound}
+use Rattle.model.specs.History.OnBytes.{call-encode}
+use Rattle.model.specs.History.CellsStatement.{singleReads, answersOf, CellsAsReads}
+use Rattle.model.specs.Laws.Codes.Order.{never}
+use Rattle.model.specs.History.Statement.{bytesSeen, Observed, runOf}
+
+-- ==== what a board sees
+
+-- the bytes of page p that board b reads in bank k: its own, or those of the page's giver
+unfoldable pub pageSeen : ℕ → Bank → ℕ → List ℕ
+pageSeen b k p = elim (lacks GotCopy (frameOf k b p .right)) [ true ↦ frameOf k (giver k p) p .bytes | false ↦ frameOf k b p .bytes ]
+
+abbrev pub byteSeen : ℕ → Bank → Cell → ℕ
+byteSeen b k c = getD (pageSeen b k (c .page)) (c .offset) 0
+
+-- Bank j after board b took copies, or none: the same givers, nobody else's frames changed, and of b's only those of copies taken from who gives.
+pub record Sees (b : ℕ) (k j : Bank) : Type 0 where
+  pub givers : (q : ℕ) → giver j q ≡ giver k q
+  pub others : (c : ℕ) → c ≢ b → boardAt j c .working .frames ≡ boardAt k c .working .frames
+  pub own : (q : ℕ) → (frameOf j b q ≡ frameOf k b q)
+      ⊎ ((frameOf k b q .right ≡ None) × (frameOf j b q .right ≡ Copy) × (frameOf j b q .bytes ≡ frameOf k (giver k q) q .bytes))
+
+-- the giver of a page to which board b has no right is another board
+abbrev FromOthers : ℕ → Bank → ℕ → Type 0
+FromOthers b k q = frameOf k b q .right ≡ None → giver k q ≢ b
+
+sees-refl : (b : ℕ) (k : Bank) → Sees b k k
+sees-refl b k = record { givers = λ q. refl; others = λ c n. refl; own = λ q. inl refl }
+
+seen-copy : (b : ℕ) (k j : Bank) (q : ℕ) → frameOf k b q .right ≡ None → frameOf j b q .right ≡ Copy
+    → frameOf j b q .bytes ≡ frameOf k (giver k q) q .bytes → pageSeen b j q ≡ pageSeen b k q
+unfolding pageSeen lacks
+seen-copy b k j q n c e =
+    let x : lacks GotCopy (frameOf k b q .right) ≡ true = ap (lacks GotCopy) n in
+    let y : lacks GotCopy (frameOf j b q .right) ≡ false = ap (lacks GotCopy) c in
+    cc
+
+-- so a board sees the same in both
+sees-page : (b : ℕ) (k j : Bank) → Sees b k j → (q : ℕ) → FromOthers b k q → pageSeen b j q ≡ pageSeen b k q
+unfolding pageSeen frameOf
+sees-page b k j s q f =
+    elim (s .own q) [
+      | inl e ↦
+          byBool (lacks GotCopy (frameOf k b q .right))
+          (λ t.
+          let n : giver k q ≢ b = f (copy-none _ t) in
+          let g : frameAt (boardAt j (giver j q) .working .frames) q ≡ frameAt (boardAt k (giver k q) .working .frames) q =
+          rw (s .givers q, s .others (giver k q) n) in
+          cc)
+          (λ t. cc)
+      | inr e ↦ seen-copy b k j q (e .0) (e .1) (e .2)
+    ]
+
+-- ==== the copies
+
+each-listed : {P : ℕ → Type 0} (q : ℕ) (ps : List ℕ) → Each P ps → listed q ps ≡ true → P q
+unfolding listed
+each-listed q [] e t = clash t refl
+each-listed q (p ∷ ps) e t = or-cases (eqb p q) (listed q ps) t (λ s. rw (← eqb-true p q s) (each-head e)) (λ s. each-listed q ps (each-tail e) s)
+
+-- copies given leave all other boards, and the owners of pages
+copies-others : (b : ℕ) (ps : List ℕ) (k : Bank) (c : ℕ) → c ≢ b → boardAt (giveCopies b ps k) c ≡ boardAt k c
+unfolding giveCopies
+copies-others b [] k c n = refl
+copies-others b (p ∷ ps) k c n =
+    copies-others b ps (giveCopy (giver k p) b p k) c n ∙ boardAt-giveCopy-other (giver k p) b p k c n
+
+copies-givers : (b : ℕ) (ps : List ℕ) (k : Bank) (q : ℕ) → giver (giveCopies b ps k) q ≡ giver k q
+unfolding giveCopies
+copies-givers b [] k q = refl
+copies-givers b (p ∷ ps) k q = copies-givers b ps (giveCopy (giver k p) b p k) q ∙ giver-giveCopy (giver k p) b p k q
+
+-- each copy has the bytes of who gave it
+copies-bytes : (b n : ℕ) (ps : List ℕ) (k : Bank) → CanTake b ps k → Rising n ps → (q : ℕ) → listed q ps ≡ true
+    → frameOf (giveCopies b ps k) b q .bytes ≡ frameOf k (giver k q) q .bytes
+unfolding giveCopies Rising listed frameOf tookCopy withFrame onWorking onFrames recorded
+copies-bytes b n [] k c r q t = clash t refl
+copies-bytes b n (p ∷ ps) k c r q t =
+    let o : ℕ = giver k p in
+    let j : Bank = giveCopy o b p k in
+    let can : CanTake b ps j = taken-take b p ps k c (r .1) in
+    let rest : Taken GotCopy ps (boardAt j b) (boardAt (giveCopies b ps j) b) =
+    rest-taken b (suc p) ps j can (r .1) (reader-since b p ps k c (r .1)) in
+    byBool (listed q ps)
+    (λ v.
+    let g : Gives (giver k q) b q k = each-listed q ps (each-tail (c .gives)) v in
+    copies-bytes b (suc p) ps j can (r .1) q v
+    ∙ ap₂ (λ (d : ℕ) (x : Board). frameAt (x .working .frames) q .bytes) (giver-giveCopy o b p k q)
+    (ap (boardAt j) (giver-giveCopy o b p k q) ∙ boardAt-giveCopy-other o b p k (giver k q) (g .other)))
+    (λ v.
+    let here : p ≡ q = or-cases (eqb p q) (listed q ps) t (λ e. eqb-true p q e) (λ e. clash e v) in
+    let fs : List Frame = boardAt k b .working .frames in
+    let f : Frame = record { right = Copy; bytes = frameAt (boardAt k o .working .frames) p .bytes } in
+    let shown : boardAt j b .working .frames ≡ set fs p f =
+    ap (λ (x : Board). x .working .frames) (boardAt-giveCopy-same o b p k (up-below k b (c .up))) in
+    ap (λ (g : Frame). g .bytes) (rest .kept q v ∙ ap (λ (gs : List Frame). frameAt gs q) shown)
+    ∙ rw (← here) (ap (λ (g : Frame). g .bytes) (frameAt-same fs p f (rw (c .frames) (each-head (c .gives) .page)))))
+
+-- a read fetch that lost no power
+fetch-sees : (b p : ℕ) (ps : List ℕ) (s : Run) → WellFormed (s .bank) → CanFetch GotCopy b (p ∷ ps) (s .bank)
+    → Each (λ q. frameOf (s .bank) b q .right ≡ None) (p ∷ ps) → Rising 0 (p ∷ ps) → readFetch b (p ∷ ps) s .lost ≡ none
+    → Sees b (s .bank) (readFetch b (p ∷ ps) s .bank)
+unfolding readFetch frameOf rightGot
+fetch-sees b p ps s w c lack r n =
+    let qs : List ℕ = p ∷ ps in
+    let u : Run = showAll qs s in
+    let e : u .lost ≡ none = step-none (giveCopies b qs) u n in
+    let t : Shared b (s .bank) (u .bank) = showAll-shared b qs s c e in
+    let can : CanTake b qs (u .bank) = shown-take b qs s w c lack e in
+    let y : Taken GotCopy qs (boardAt (u .bank) b) (boardAt (giveCopies b qs (u .bank)) b) = giveCopies-taken b p ps (u .bank) can r in
+    let same : (q : ℕ) → giver (u .bank) q ≡ giver (s .bank) q = giver-same (s .bank) (u .bank) (t .directory) in
+    rw (step-done (giveCopies b qs) u n)
+    (record {
+      givers = λ q. copies-givers b qs (u .bank) q ∙ same q;
+      others = λ d m. ap (λ (x : Board). x .working .frames) (copies-others b qs (u .bank) d m) ∙ t .frames d;
+      own = λ q.
+          byBool (listed q qs)
+          (λ v.
+          inr (
+            each-listed q qs lack v,
+            y .right q v,
+            copies-bytes b 0 qs (u .bank) can r q v
+                ∙ (ap (λ (d : ℕ). frameAt (boardAt (u .bank) d .working .frames) q .bytes) (same q)
+                ∙ ap (λ (gs : List Frame). frameAt gs q .bytes) (t .frames (giver (s .bank) q))),
+          ))
+          (λ v. inl (y .kept q v ∙ ap (λ (x : Board). frameAt (x .working .frames) q) (t .reader)));
+    })
+
+-- a board reads its own bytes of a page to which it has a right
+page-own : (b : ℕ) (j : Bank) (q : ℕ) → lacks GotCopy (frameOf j b q .right) ≡ false → pageSeen b j q ≡ frameOf j b q .bytes
+unfolding pageSeen
+page-own b j q h = cc
+
+cells-seen : (b : ℕ) (k j : Bank) (cs : List Cell) → Each (λ c. frameOf j b (c .page) .bytes ≡ pageSeen b k (c .page)) cs
+    → map (cellByte (boardAt j b .working .frames)) cs ≡ map (byteSeen b k) cs
+unfolding cellByte frameOf
+cells-seen b k j [] e = refl
+cells-seen b k j (c ∷ cs) e = rw (each-head e, cells-seen b k j cs (each-tail e))
+
+-- ==== an access that takes copies
+
+-- a call that is done was refused by no test
+unless-done : (tests : List (Bool × Answer)) (r : Run) (go : Result) (v : ℕ) → Each (λ t. t .1 ≢ Done v) tests → unless tests r go .answer ≡ Done v
+    → (firstOf tests ≡ none) × (unless tests r go ≡ go)
+unfolding unless
+unless-done tests r go v quiet d =
+    byOption (firstOf tests)
+    (λ n. (n, cc))
+    (λ x e. absurd (first-in (λ y. y ≢ Done v) tests x quiet e (cc)))
+
+-- and lost no power
+finished-none : (v : ℕ) (given : List ℕ) (r : Run) (w : ℕ) → finished v given r .answer ≡ Done w
+    → (r .lost ≡ none) × (finished v given r .given ≡ given) × (v ≡ w)
+unfolding finished
+finished-none v given r w d =
+    byOption (r .lost)
+    (λ n. (n, cc, cc))
+    (λ c e. let z : _≡_ {A = ℕ} 0 1 = cc in absurd (omega arith))
+
+-- an access writes nothing that takes copies
+copy-writes : (a : Access) → takes a ≡ GotCopy → cellsWritten a ≡ []
+unfolding takes cellsWritten
+copy-writes (Read p o) e = refl
+copy-writes (Write p o v) e = let z : _≡_ {A = ℕ} 0 1 = cc in absurd (omega arith)
+copy-writes (ReadCells cells outLength) e = refl
+
+module _ (b : ℕ) (a : Access) (k : Bank) (w : WellFormed k) (can : CanAccess b a k) (copy : takes a ≡ GotCopy) where
+  abbrev fs : List Frame
+  fs = boardAt k b .working .frames
+
+  -- a page that is named comes from another board, if it is lacking
+  named-others : (q : ℕ) → names a q ≡ true → FromOthers b k q
+  unfolding frameOf lacks
+  named-others q n e =
+      lacking-other b a k w can q
+      (record { below = rw (frames-count b a k w can) (can .pages q n); named = n; right = rw (copy, e) })
+
+  module _ (passed : firstOf (liveRefusals b a k) ≡ none) where
+    sees-as : (g : CopyOrOwn) (ps : List ℕ) → g ≡ GotCopy → pagesLacking b a k ≡ ps → lackingOf b a k ≡ true → fetch g b ps (start k) .lost ≡ none
+        → Sees b k (fetch g b ps (start k) .bank)
+    unfolding fetch pagesLacking lackingOf frameOf start
+    sees-as GotCopy ps e i t n =
+        let (p, qs, s) = lacking-some a fs t in
+        let j : ps ≡ p ∷ qs = sym i ∙ s in
+        let c : CanFetch GotCopy b (p ∷ qs) k = rw (copy, s) at (can-fetch b a k w can passed) in
+        let lack : Each (λ q. frameAt fs q .right ≡ None) (p ∷ qs) =
+        each-imp (p ∷ qs) (λ q l. copy-none _ (ap (λ (g : CopyOrOwn). lacks g (frameAt fs q .right)) (sym copy) ∙ l .right))
+        (rw s at (lackingPages-lack a fs)) in
+        rw j (fetch-sees b p qs (start k) w c lack (rw s at (lackingPages-rise a fs)) (rw j at n))
+    sees-as GotOwn ps e i t n = let z : _≡_ {A = ℕ} 0 1 = cc in absurd (omega arith)
+
+    prepared-sees : prepared b a (start k) .lost ≡ none → Sees b k (prepared b a (start k) .bank)
+    unfolding prepared start
+    prepared-sees =
+        let P : Run → Type 0 = λ s. s .lost ≡ none → Sees b k (s .bank) in
+        cases P (lackingOf b a k)
+        (λ t n. sees-as (takes a) (pagesLacking b a k) copy refl t n)
+        (λ t.
+        cases P (copiesOut a k)
+        (λ o. clash o (copy-out a k copy))
+        (λ o n. sees-refl b k))
+
+    prepared-up : prepared b a (start k) .lost ≡ none → boardAt (prepared b a (start k) .bank) b .state ≡ Up
+    unfolding prepared start
+    prepared-up =
+        let P : Run → Type 0 = λ s. s .lost ≡ none → boardAt (s .bank) b .state ≡ Up in
+        cases P (lackingOf b a k)
+        (λ t n. fetched-taken b a (start k) w can passed t n .state)
+        (λ t.
+        cases P (copiesOut a k)
+        (λ o. clash o (copy-out a k copy))
+        (λ o n. can .up))
+
+    -- it has the right to each page that it names
+    prepared-right : prepared b a (start k) .lost ≡ none → (q : ℕ) → names a q ≡ true
+        → lacks GotCopy (frameOf (prepared b a (start k) .bank) b q .right) ≡ false
+    unfolding frameOf start
+    prepared-right n q t =
+        let j : Bank = prepared b a (start k) .bank in
+        let ready : Ready a (boardAt j b) = prepared-ready b a (start k) w can passed n in
+        let sizes : SameSizes k j = prepared-sizes b a (start k) in
+        let l : b < length (j .boards) = rw (sizes .boards) (up-below k b (can .up)) in
+        let count : length (boardAt j b .working .frames) ≡ length (j .directory) =
+        fits (prepared-keeps b a (start k) w can passed) b l .alone .fields .working .frames .count in
+        ap (λ (g : CopyOrOwn). lacks g (frameAt (boardAt j b .working .frames) q .right)) (sym copy)
+        ∙ has-right a (boardAt j b .working .frames) (ready .right) q (rw (count, sizes .pages) (can .pages q t)) t
+
+    -- what it reads is what its board sees
+    reads-seen : prepared b a (start k) .lost ≡ none
+        → readFrom a (boardAt (prepared b a (start k) .bank) b .working .frames) ≡ map (byteSeen b k) (cellsRead a)
+    unfolding readFrom start
+    reads-seen n =
+        let j : Bank = prepared b a (start k) .bank in
+        cells-seen b k j (cellsRead a)
+        (each-imp (cellsRead a)
+        (λ c t. sym (page-own b j (c .page) (prepared-right n (c .page) t)) ∙ sees-page b k j (prepared-sees n) (c .page) (named-others (c .page) t))
+        (read-named a))
+
+-- ==== a call that is done
+
+-- what an access of an up board that takes copies gives, and what it leaves
+pub record ReadDone (b : ℕ) (a : Access) (k : Bank) (v : ℕ) : Type 0 where
+  pub read : bytesSeen a v (accessBank b a k .given) ≡ map (byteSeen b k) (cellsRead a)
+  pub pages : (p : ℕ) → names a p ≡ true → p < length (k .directory)
+  pub sees : Sees b k (accessBank b a k .run .bank)
+  pub up : boardAt (accessBank b a k .run .bank) b .state ≡ Up
+
+-- the frames of all boards stay, and the directory
+sees-on : (b : ℕ) (k j i : Bank) → Sees b k j → i .directory ≡ j .directory → ((c : ℕ) → boardAt i c .working .frames ≡ boardAt j c .working .frames)
+    → Sees b k i
+unfolding frameOf
+sees-on b k j i s d f =
+    record {
+      givers = λ q. giver-same j i d q ∙ s .givers q;
+      others = λ c n. f c ∙ s .others c n;
+      own = λ q. rw (f b) (s .own q);
+    }
+
+directory-access : (b : ℕ) (a : Access) (k : Bank) → access b a k .directory ≡ k .directory
+unfolding access onBoard
+directory-access b a k = refl
+
+state-access : (b : ℕ) (a : Access) (k : Bank) → b < length (k .boards) → boardAt (access b a k) b .state ≡ boardAt k b .state
+unfolding access onWorking
+state-access b a k l = rw (boardAt-same b (onWorking (accessed a)) k l)
+
+access-frames : (b : ℕ) (a : Access) (k : Bank) → takes a ≡ GotCopy → b < length (k .boards) → (c : ℕ)
+    → boardAt (access b a k) c .working .frames ≡ boardAt k c .working .frames
+unfolding access accessed onWorking withBytes
+access-frames b a k copy l c =
+    byEq c b
+    (λ e. rw (e, boardAt-same b (onWorking (accessed a)) k l, copy-writes a copy))
+    (λ n. rw (boardAt-other b (onWorking (accessed a)) k c n))
+
+module _ (b : ℕ) (a : Access) (k : Bank) (w : WellFormed k) (up : boardAt k b .state ≡ Up) (copy : takes a ≡ GotCopy) where
+  pub read-done : (v : ℕ) → accessBank b a k .answer ≡ Done v → ReadDone b a k v
+  unfolding accessWithin refusalsWithin live liveRefusals performed isReplaying start
+  read-done v d =
+      let r : Run = prepared b a (start k) in
+      let fs : List Frame = boardAt (r .bank) b .working .frames in
+      let go : Result = elim (isReplaying (boardAt k b .state)) [ true ↦ replaying b a k | false ↦ live b a (start k) ] in
+      let one : (firstOf (accessRefusals b a k) ≡ none) × (unless (accessRefusals b a k) (start k) go ≡ go) =
+      unless-done (accessRefusals b a k) (start k) go v
+      (each-cons (λ e. never (cc)) (each-cons (λ e. never (cc)) (each-cons (λ e. never (cc))
+      (each-cons (λ e. never (cc)) (each-cons (λ e. never (cc)) each-nil)))))
+      d in
+      let idle : isReplaying (boardAt k b .state) ≡ false = ap isReplaying up in
+      let on : go ≡ live b a (start k) = cc in
+      let last : Result = performed b a r in
+      let two : (firstOf (liveRefusals b a k) ≡ none) × (unless (liveRefusals b a k) (start k) last ≡ last) =
+      unless-done (liveRefusals b a k) (start k) last v (each-cons (λ e. never (cc)) (each-cons (λ e. never (cc)) each-nil))
+      (ap (λ (t : Result). t .answer) (sym (one .1 ∙ on)) ∙ d) in
+      let all : accessBank b a k ≡ last = one .1 ∙ (on ∙ two .1) in
+      let three : (step (access b a) r .lost ≡ none) × (last .given ≡ givenOf a fs) × (valueOf a fs ≡ v) =
+      finished-none (valueOf a fs) (givenOf a fs) (step (access b a) r) v (ap (λ (t : Result). t .answer) (sym all) ∙ d) in
+      let n : r .lost ≡ none = step-none (access b a) r (three .0) in
+      let can : CanAccess b a k = entered-live b a k (entered b a k w (one .0)) idle in
+      let l : b < length (r .bank .boards) = rw (prepared-sizes b a (start k) .boards) (up-below k b up) in
+      let after : accessBank b a k .run .bank ≡ access b a (r .bank) =
+      ap (λ (t : Result). t .run .bank) all
+      ∙ (ap (λ (q : Run). q .bank) (finished-run (valueOf a fs) (givenOf a fs) (step (access b a) r)) ∙ step-going (access b a) r n) in
+      record {
+        read =
+            ap₂ (bytesSeen a) (sym (three .2)) (ap (λ (t : Result). t .given) all ∙ three .1)
+            ∙ (bytes-seen a fs ∙ reads-seen b a k w can copy (two .0) n);
+        pages = can .pages;
+        sees =
+            rw after
+            (sees-on b k (r .bank) (access b a (r .bank)) (prepared-sees b a k w can copy (two .0) n) (directory-access b a (r .bank))
+            (access-frames b a (r .bank) copy l));
+        up = rw after (state-access b a (r .bank) l ∙ prepared-up b a k w can copy (two .0) n);
+      }
+
+-- ==== single reads
+
+-- what a list of calls answers, on the bank
+unfoldable pub answersOn : List Call → Bank → List Answer
+answersOn [] k = []
+answersOn (c ∷ cs) k = callBank c k .answer ∷ answersOn cs (callBank c k .run .bank)
+
+answers-encode : (cs : List Call) (k : Bank) → WellFormed k → answersOf cs (encode k) ≡ answersOn cs k
+unfolding runOf answersOn replyOf
+answers-encode [] k w = refl
+answers-encode (c ∷ cs) k w =
+    rw (call-encode c k w) (ap (λ (xs : List Answer). callBank c k .answer ∷ xs) (answers-encode cs (callBank c k .run .bank) (call-keeps c k w)))
+
+up-others : (b : ℕ) (k : Bank) → WellFormed k → boardAt k b .state ≡ Up → (q : ℕ) → q < length (k .directory) → FromOthers b k q
+unfolding frameOf giver entryAt
+up-others b k w up q l e o =
+    let t : frameAt (boardAt k b .working .frames) q .right ≡ rightIn (entryAt k q) b =
+    fits w b (up-below k b up) .agreed .rights up q l in
+    let z : Own ≡ None = sym (t ∙ rightIn-owner (entryAt k q) b o) ∙ e in
+    never (cc)
+
+map-each : {A B : Type 0} {f g : A → B} (xs : List A) → Each (λ x. f x ≡ g x) xs → map f xs ≡ map g xs
+map-each [] e = refl
+map-each (x ∷ xs) e = cc (each-head e, map-each xs (each-tail e))
+
+read-copy : (p o : ℕ) → takes (Read p o) ≡ GotCopy
+unfolding takes
+read-copy p o = refl
+
+single-seen : (b : ℕ) (k : Bank) (p o v : ℕ) (given : List ℕ) → bytesSeen (Read p o) v given ≡ map (byteSeen b k) (cellsRead (Read p o))
+    → v ≡ byteSeen b k (record { page = p; offset = o })
+unfolding bytesSeen cellsRead
+single-seen b k p o v given e = cc
+
+-- single reads give what the board sees, and leave it
+reads-values : (b : ℕ) (cs : List Cell) (k : Bank) (values : List ℕ) → WellFormed k → boardAt k b .state ≡ Up
+    → Each (λ c. c .page < length (k .directory)) cs → answersOn (singleReads b cs) k ≡ map Done values → values ≡ map (byteSeen b k) cs
+unfolding answersOn callBank start
+reads-values b [] k [] w up l e = refl
+reads-values b [] k (v ∷ vs) w up l e = never (cc)
+reads-values b (c ∷ cs) k [] w up l e = never (cc)
+reads-values b (c ∷ cs) k (v ∷ vs) w up l e =
+    let a : Access = Read (c .page) (c .offset) in
+    let d : accessBank b a k .answer ≡ Done v = cc in
+    let r : ReadDone b a k v = read-done b a k w up (read-copy (c .page) (c .offset)) v d in
+    let j : Bank = accessBank b a k .run .bank in
+    let pages : length (j .directory) ≡ length (k .directory) = moves-follow (call-moves (Accessing b a) k w) .sizes .pages in
+    let rest : vs ≡ map (byteSeen b j) cs = reads-values b cs j vs (call-keeps (Accessing b a) k w) (r .up) (rw pages (each-tail l)) (cc) in
+    let same : map (byteSeen b j) cs ≡ map (byteSeen b k) cs =
+    map-each cs
+    (each-imp cs (λ (c : Cell) i. ap (λ (bs : List ℕ). getD bs (c .offset) 0) (sees-page b k j (r .sees) (c .page) (up-others b k w up (c .page) i)))
+    (each-tail l)) in
+    ap₂ (λ (x : ℕ) (xs : List ℕ). x ∷ xs) (single-seen b k (c .page) (c .offset) v _ (r .read)) (rest ∙ same)
+
+-- ==== the claim
+
+done-form : (x : Answer) → code x ≡ 0 → x ≡ Done (value x)
+unfolding code value
+done-form (Done v) e = refl
+done-form Malformed e = never (omega arith)
+done-form OutOfRange e = never (omega arith)
+done-form (WrongState b) e = never (omega arith)
+done-form (CountersFull b) e = never (omega arith)
+done-form (ReplayDiffers b) e = never (omega arith)
+done-form (OwnerNotUp b) e = never (omega arith)
+done-form (LogFull b) e = never (omega arith)
+done-form (PowerLost b) e = never (omega arith)
+done-form WrongCells e = never (omega arith)
+
+answers-bytes : (cs : List Call) (s : List ℕ) → wellFormed s ≡ true → answersOf cs s ≡ answersOn cs (decode s)
+unfolding runOf answersOn call replyOf
+answers-bytes [] s t = refl
+answers-bytes (c ∷ cs) s t =
+    let k : Bank = decode s in
+    let one : call c s ≡ replyOf (callBank c k) = cc in
+    rw one (ap (λ (xs : List Answer). callBank c k .answer ∷ xs) (answers-encode cs (callBank c k .run .bank) (call-keeps c k (wellFormed-sound s t))))
+
+-- of a well-formed bank
+cells-on : (b : ℕ) (cells : List ℕ) (outLength : ℕ) (k : Bank) → WellFormed k → boardAt k b .state ≡ Up
+    → code (callBank (Accessing b (ReadCells cells outLength)) k .answer) ≡ 0 → (values : List ℕ)
+    → answersOn (singleReads b (cellsAsked cells)) k ≡ map Done values → callBank (Accessing b (ReadCells cells outLength)) k .given ≡ values
+unfolding callBank takes cellsRead bytesSeen
+cells-on b cells outLength k w up done values e =
+    let a : Access = ReadCells cells outLength in
+    let r : ReadDone b a k (value (accessBank b a k .answer)) =
+    read-done b a k w up refl (value (accessBank b a k .answer)) (done-form (accessBank b a k .answer) done) in
+    r .read
+    ∙ sym (reads-values b (cellsAsked cells) k values w up (each-imp (cellsAsked cells) (λ c t. r .pages (c .page) t) (read-named a)) e)
+
+-- F-3: "On an up board they equal those of single reads with nothing between, where these are all done."
+pub cells-as-reads : (b : ℕ) (cells : List ℕ) (outLength : ℕ) (s : List ℕ) → CellsAsReads b cells outLength s
+unfolding call replyOf refused code
+cells-as-reads b cells outLength s up done values e =
+    let c : Call = Accessing b (ReadCells cells outLength) in
+    byBool (wellFormed s)
+    (λ t.
+    let k : Bank = decode s in
+    let one : call c s ≡ replyOf (callBank c k) = cc in
+    rw one (cells-on b cells outLength k (wellFormed-sound s t) up (rw one at done) values (sym (answers-bytes (singleReads b (cellsAsked cells)) s t) ∙ e)))
+    (λ t. let one : call c s ≡ refused Malformed s = cc in let z : _≡_ {A = ℕ} 1 0 = rw one at done in absurd (omega arith))
