@@ -45,9 +45,11 @@ enum bank_codes {
     BANK_COUNTERS_FULL = 4,  /* Board `who` made 4,294,967,295 accesses: its access number is used up, make a new bank. (In a bank that was made by
                                 hand only the count since its last record may be used up: a checkpoint helps then.) */
     BANK_REPLAY_DIFFERS = 5, /* Board `who` replays, and this access isn't the one that its log goes on with: repeat its accesses exactly, in their order. */
-    BANK_OWNER_NOT_UP = 6,   /* A page that the board lacks, of several such the lowest, belongs to board `who`, which is down or replays: restart it, let it
-                                repeat its accesses, then try again. */
-    BANK_LOG_FULL = 7,       /* The log of board `who` has no room: checkpoint that board, then try again. */
+    BANK_OWNER_NOT_UP = 6,   /* A page that the board lacks and nobody can give, of several such the lowest, belongs to board `who`, which is down or
+                                replays: restart it, let it repeat its accesses, then try again. For a read nobody holds a copy either; a write needs
+                                the owner in any case. */
+    BANK_LOG_FULL = 7,       /* The log of board `who` has no room: checkpoint that board, then try again. It may be the reader or writer, the owner of a
+                                page, or a board that holds a copy and would give it or lose it. */
     BANK_POWER_LOST = 8,     /* The fuse of board `who` blew in this call. It is down; what was stored before stands, this call was not finished:
                                 restart it. */
     BANK_WRONG_CELLS = 10    /* bank_shelf was given no cell, more than 32, half of one, or not one byte of `out` for each. The caller is wrong: mend it. */
@@ -62,7 +64,8 @@ static inline uint32_t bank_value(uint64_t answer) { return (uint32_t)(answer >>
 /* Makes a fresh bank: all boards up, page p owned by board p mod boards, all bytes of all pages 0. */
 uint64_t bank_make(uint8_t *bank, size_t len, uint32_t boards, uint32_t pages);
 
-/* A board reads a byte of a page (the value), or writes one. It fetches the page where it must. */
+/* A board reads a byte of a page (the value), or writes one. It fetches the page where it must: from its owner or, for a read while the owner is down or
+ * replays, from the lowest-numbered board that holds a copy. */
 uint64_t bank_read(uint8_t *bank, size_t len, uint32_t board, uint32_t page, uint32_t offset);
 uint64_t bank_write(uint8_t *bank, size_t len, uint32_t board, uint32_t page, uint32_t offset, uint32_t value);
 

@@ -88,7 +88,7 @@ fn line(text: &str) -> Line {
 
 /// Lines that the second engine carries out one after another, as long as each is done.
 fn done(bank: &mut [u8], lines: impl Iterator<Item = String>) -> Vec<Line> {
-    let mut watch = Watch::new();
+    let mut watch = Watch::of::<NEWEST>(bank);
     lines
         .map(|text| line(&text))
         .take_while(|line| {
@@ -184,6 +184,17 @@ pub fn rows(layout: Layout) -> Vec<Row> {
     let read_fetches = done(&mut fresh(layout), reads);
     let write_fetches = done(&mut fresh(layout), alternating());
 
+    // Board 1 holds board 0's pages and gives them to the others; a bank of two boards has no other.
+    let held = (0..layout.pages).step_by(boards);
+    let taken = held.clone().map(|page| format!("R 1 {page} 0"));
+    let mut owner_down = fresh(layout);
+    done(&mut owner_down, taken.chain(["F 0 0".into()]));
+    let given = (2..boards).flat_map(|board| {
+        let held = held.clone();
+        held.map(move |page| format!("R {board} {page} 0"))
+    });
+    let holder_fetches = done(&mut owner_down.clone(), given);
+
     let mut copies_out = fresh(layout);
     done(
         &mut copies_out,
@@ -204,7 +215,7 @@ pub fn rows(layout: Layout) -> Vec<Row> {
     done(&mut replaying, std::iter::once("S 1".into()));
     let repeated = alternating().filter(|text| text.starts_with("W 1"));
 
-    vec![
+    let rows = vec![
         row("accept, fresh bank", &bank, accept.clone()),
         row("accept, all boards down", &all_down, accept.clone()),
         row("accept, all logs full", &full_logs(layout), accept),
@@ -214,6 +225,7 @@ pub fn rows(layout: Layout) -> Vec<Row> {
         row("local read", &bank, vec![line("R 0 0 3"); REPEATS]),
         row("local write", &bank, vec![line("W 0 0 3 7"); REPEATS]),
         row("read fetch", &bank, read_fetches),
+        row("read fetch, owner down", &owner_down, holder_fetches),
         row("write fetch", &bank, write_fetches),
         row(
             "own write, copies out",
@@ -233,5 +245,8 @@ pub fn rows(layout: Layout) -> Vec<Row> {
         row("mixed script", &bank, mixed(layout)),
         conversion("convert, fresh bank", &bank),
         conversion("convert, all logs full", &full_logs(layout)),
-    ]
+    ];
+    rows.into_iter()
+        .filter(|row| row.work.calls() > 0)
+        .collect()
 }

@@ -47,13 +47,13 @@ module _ (k : Bank) (b o p c : ℕ) where
   need-taker true e = cc (eq-eqb c b e)
   need-taker false e = cc (eq-eqb c b e)
 
-  pub need-owner-writing : c ≢ b → c ≡ o → 2 ≡ fetchNeed (got true) k b o p c
+  pub need-giver-writing : c ≢ b → c ≡ o → 2 ≡ fetchNeed (got true) k b o p c
   unfolding fetchNeed got
-  need-owner-writing n e = cc (ne-eqb c b n, eq-eqb c o e)
+  need-giver-writing n e = cc (ne-eqb c b n, eq-eqb c o e)
 
-  pub need-owner-reading : c ≢ b → c ≡ o → 1 ≡ fetchNeed (got false) k b o p c
+  pub need-giver-reading : c ≢ b → c ≡ o → 1 ≡ fetchNeed (got false) k b o p c
   unfolding fetchNeed got
-  need-owner-reading n e = cc (ne-eqb c b n, eq-eqb c o e)
+  need-giver-reading n e = cc (ne-eqb c b n, eq-eqb c o e)
 
   pub need-holder : (copies : ℕ) → copies ≡ entryAt k p .copies → c ≢ b → c ≢ o → heldBy copies c ≡ fetchNeed (got true) k b o p c
   unfolding fetchNeed got heldBy
@@ -66,10 +66,10 @@ module _ (k : Bank) (b o p c : ℕ) where
 -- ---- one page of any access
 
 module _ {pages : ℕ} {a : Access} {q : Ask} {set : ℕ} {k : Bank} (l : Lacking pages a q set k) (c p : ℕ) where
-  pub need-fetch : member p set ≡ true → (owner : ℕ) → owner ≡ giver k p
-      → fetchNeed (got (q .writes)) k (q .board) owner p c ≡ pageNeed (q .board) a k c p
+  pub need-fetch : member p set ≡ true → (o : ℕ) → o ≡ giver (got (q .writes)) k p
+      → fetchNeed (got (q .writes)) k (q .board) o p c ≡ pageNeed (q .board) a k c p
   unfolding pageNeed
-  need-fetch t owner e = let m : lacksPage a (boardAt k (q .board) .working .frames) p ≡ true = sym (l .lacks p) ∙ t in cc (l .stands .takes .takes)
+  need-fetch t o e = let m : lacksPage a (boardAt k (q .board) .working .frames) p ≡ true = sym (l .lacks p) ∙ t in cc (l .stands .takes .takes)
 
   module _ (t : member p set ≡ false) where
     need-drop : pageNeed (q .board) a k c p ≡ dropNeed a k p c

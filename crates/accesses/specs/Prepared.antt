@@ -20,11 +20,11 @@ use Rattle.model.specs.Definitions.Parts.{firstBelow, member}
 use Rattle.model.specs.Definitions.Layout.{mostPages}
 use Rattle.model.specs.Definitions.Bank.{Bank, boardAt, entryAt}
 use Rattle.model.specs.Definitions.Codec.{encode, decode}
-use Rattle.model.specs.Definitions.WellFormed.{isUp, WellFormed}
-use Rattle.model.specs.Definitions.Steps.{Run, step, Access, takes, lacksPage, lackingPages, valueOf, givenOf, readFrom, access, giver, dropCopies, fetch}
+use Rattle.model.specs.Definitions.WellFormed.{WellFormed}
+use Rattle.model.specs.Definitions.Steps.{Run, step, Access, takes, lacksPage, lackingPages, valueOf, givenOf, readFrom, access, ownerUp, dropCopies, fetch}
 use Rattle.model.specs.Definitions.Calls.{firstOf, unless, finished, pageWritten, copiesOut, lackingOf, pagesLacking}
 use Rattle.model.specs.Definitions.Calls.{need, short, shortBoard, isSome, numberIn}
-use Rattle.model.specs.Definitions.Calls.{pageMissing, liveRefusals, prepared, performed, live}
+use Rattle.model.specs.Definitions.Calls.{nobodyGives, pageMissing, liveRefusals, prepared, performed, live}
 use Rattle.model.specs.Laws.Logic.{byBool, byEq, clash}
 use Rattle.model.specs.Laws.Runs.{SameSizes}
 use Rattle.model.specs.Laws.Keeps.Clauses.{fits, up-below}
@@ -142,19 +142,25 @@ module _ (b : ℕ) (a : Access) (r : Run) where
 
 -- ---- codes 6 and 7
 
+-- an owner that is up gives to readers and writers
+pub given-up : (w : Bool) (k : Bank) (p : ℕ) → ownerUp k p ≡ true → false ≡ nobodyGives (got w) k p
+unfolding nobodyGives got
+given-up true k p u = cc
+given-up false k p u = cc
+
 -- as the code has them: the page and the board that the searches found
 module _ {pages : ℕ} {a : Access} {q : Ask} {set : ℕ} {k : Bank} (l : Lacking pages a q set k) (count : pages ≡ length (k .directory)) (p : ℕ)
-    (found : foundIn pages p ≡ firstBelow pages (λ j. member j set && not (isUp (boardAt k (giver k j) .state)))) where
+    (found : foundIn pages p ≡ firstBelow pages (λ j. member j set && nobodyGives (got (q .writes)) k j)) where
   missing-is : foundIn pages p ≡ pageMissing (q .board) a k
   unfolding pageMissing
   missing-is =
       found
-      ∙ rw (← count)
-      (firstBelow-same (λ j. member j set && not (isUp (boardAt k (giver k j) .state)))
-      (λ j. lacksPage a (boardAt k (q .board) .working .frames) j && not (isUp (boardAt k (giver k j) .state))) pages
-      (λ j. ap (λ (t : Bool). t && not (isUp (boardAt k (giver k j) .state))) (l .lacks j)))
+      ∙ rw (← count, l .stands .takes .takes)
+      (firstBelow-same (λ j. member j set && nobodyGives (got (q .writes)) k j)
+      (λ j. lacksPage a (boardAt k (q .board) .working .frames) j && nobodyGives (got (q .writes)) k j) pages
+      (λ j. ap (λ (t : Bool). t && nobodyGives (got (q .writes)) k j) (l .lacks j)))
 
-  pub refuses-owner : (owner : ℕ) → owner ≡ giver k p → p < pages → some (OwnerNotUp owner) ≡ firstOf (liveRefusals (q .board) a k)
+  pub refuses-owner : (owner : ℕ) → owner ≡ entryAt k p .owner → p < pages → some (OwnerNotUp owner) ≡ firstOf (liveRefusals (q .board) a k)
   unfolding liveRefusals firstOf foundIn isSome numberIn
   refuses-owner owner o h =
       let s : pageMissing (q .board) a k ≡ some p = cc (missing-is, lt-ltb p pages h) in
@@ -182,7 +188,7 @@ pub passes-idle : {pages : ℕ} {a : Access} {q : Ask} {k : Bank} → Lacking pa
     → none ≡ firstOf (liveRefusals (q .board) a k)
 unfolding shortBoard short
 passes-idle {pages} {a} {q} {k} l count formed w =
-    let missing = none-found pages (λ j. member j 0 && not (isUp (boardAt k (giver k j) .state))) (λ j h. rw (member-none j)) in
+    let missing = none-found pages (λ j. member j 0 && nobodyGives (got (q .writes)) k j) (λ j h. rw (member-none j)) in
     let roomy =
     none-found (length (k .boards)) (short (q .board) a k)
     (λ c h.
@@ -225,6 +231,12 @@ copies-none n m e h = ones-below n n (omega arith) (omega arith)
 pub copies-some : (n m : ℕ) → m ≡ ones n → 0 < m → n ≡ 0 → ⊥
 unfolding ones onesIn
 copies-some n m e h z = let y : ones n ≡ 0 = rw z refl in absurd (omega arith)
+
+pub copies-counted : (n m : ℕ) → m ≡ ones n → eqb m 0 ≡ eqb n 0
+copies-counted n m e =
+    byEq m 0
+    (λ z. eq-eqb m 0 z ∙ sym (eq-eqb n 0 (copies-none n m e (omega arith))))
+    (λ z. ne-eqb m 0 z ∙ sym (ne-eqb n 0 (copies-some n m e (omega arith))))
 
 -- ---- a run that goes on, and one whose bytes are known
 

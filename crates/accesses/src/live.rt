@@ -7,7 +7,7 @@ use exchange::copies::drop_copies;
 use exchange::fetch::fetch;
 use exchange::progress::Loss;
 use exchange::progress::Progress;
-use exchange::state::board_state;
+use exchange::state::board_up;
 use fields::copies::count_copies;
 use fields::sets::has;
 use format::directory::read_copies;
@@ -15,11 +15,10 @@ use format::directory::read_owner;
 use format::layout::block_at;
 use format::layout::block_size;
 use steps::access::lacking_pages;
-use steps::state::is_up;
 use types::Answer;
 use types::Outcome;
 ghost use mathlib.Core.Path.{_≡_};
-ghost use mathlib.Core.Bool.{_&&_, not, true};
+ghost use mathlib.Core.Bool.{_&&_, true};
 ghost use mathlib.Core.List.{map};
 ghost use Prim.Native.Nat.{ℕ, _+_, _*_, _≤_, _<_};
 ghost use lib.ListN.{length};
@@ -27,24 +26,17 @@ ghost use Rattle.model.specs.Definitions.Parts.{firstBelow, member};
 ghost use Rattle.model.specs.Definitions.Layout.{mostPages, slotCount};
 ghost use Rattle.model.specs.Definitions.Bank.{boardAt, entryAt};
 ghost use Rattle.model.specs.Definitions.Codec.{decode};
-ghost use Rattle.model.specs.Definitions.WellFormed.{WellFormed, EntryOk, isUp};
-ghost use Rattle.model.specs.Definitions.Steps.{Access, cellsAsked, cellsRead, cellByte, access, giver};
-ghost use Rattle.model.specs.Definitions.Calls.{firstOf, liveRefusals, prepared, performed, live};
+ghost use Rattle.model.specs.Definitions.WellFormed.{WellFormed, EntryOk};
+ghost use Rattle.model.specs.Definitions.Steps.{Access, cellsAsked, cellsRead, cellByte, access};
+ghost use Rattle.model.specs.Definitions.Calls.{firstOf, nobodyGives, liveRefusals, prepared, performed, live};
 ghost use Rattle.model.specs.Contracts.{Space, Ready};
+ghost use Rattle.steps.specs.Asked.{got};
 ghost use Rattle.exchange.specs.Banks.{OfBank, Holds};
 ghost use Rattle.exchange.specs.Progress.{running, lossOf, Came};
 ghost use Rattle.accesses.specs.Asks.{Stands, Lacking, Goes, Passes, Asks, InRange};
 ghost use Rattle.accesses.specs.Results.{Answered, refusal};
 ghost use Rattle.accesses.specs.Needs.{foundIn};
 ghost use Rattle.accesses.specs.Prepared.{withoutOut};
-
-// Whether a board of the bank is up.
-fn board_up(bank: &[u8], pages: usize, board: usize) -> bool
-    requires { ⌜ OfBank pages board (now bank) ⌝ }
-    ensures { λ r. ⌜ r ≡ isUp (boardAt (decode (now (bank .entry))) board .state) ⌝ }
-{
-    is_up(board_state(bank, pages, board))
-}
 
 // The pages that the access lacks.
 fn board_lacks(bank: &[u8], pages: usize, ask: Ask) -> u16
@@ -57,28 +49,41 @@ fn board_lacks(bank: &[u8], pages: usize, ask: Ask) -> u16
     lacking_pages(&bank[a..a + size], pages, ask.named, ask.writes)
 }
 
-// "6: live fetch, owner not up", of one page
-fn owner_missing(bank: &[u8], pages: usize, page: usize, lacking: u16) -> bool
+// Whether nobody can give a page, to a reader: "owner not up and copy-set empty"; and to a writer: "A write still needs the owner." (F-4)
+fn nobody_gives(bank: &[u8], pages: usize, page: usize, writes: bool) -> bool
+    requires { ⌜ OfBank pages (entryAt (decode (now bank)) page .owner) (now bank) × (page < pages) ⌝ }
+    ensures { λ r. ⌜ r ≡ nobodyGives (got writes) (decode (now (bank .entry))) page ⌝ }
+{
+    let owner = read_owner(bank, page) as usize;
+    if board_up(bank, pages, owner) {
+        return false;
+    }
+    if writes {
+        return true;
+    }
+    count_copies(read_copies(bank, page)) == 0
+}
+
+// "6: live fetch, owner not up", of one page: it is lacking, and nobody can give it.
+fn giver_missing(bank: &[u8], pages: usize, page: usize, lacking: u16, writes: bool) -> bool
     requires { ⌜ OfBank pages 0 (now bank) × WellFormed (decode (now bank)) × (page < pages) ⌝ }
-    ensures { λ r. ⌜ r ≡ (member page lacking && not (isUp (boardAt (decode (now (bank .entry))) (giver (decode (now (bank .entry))) page) .state))) ⌝ }
+    ensures { λ r. ⌜ r ≡ (member page lacking && nobodyGives (got writes) (decode (now (bank .entry))) page) ⌝ }
 {
     if has(page, lacking) {
-        let owner = read_owner(bank, page) as usize;
-        return !board_up(bank, pages, owner);
+        return nobody_gives(bank, pages, page, writes);
     }
     false
 }
 
-// "the lowest lacking page whose owner isn't up" (F-3); the number of pages where there is none.
-fn missing_page(bank: &[u8], pages: usize, lacking: u16) -> usize
+// "the lowest lacking page" (F-3) that nobody can give; the number of pages where there is none.
+fn missing_page(bank: &[u8], pages: usize, lacking: u16, writes: bool) -> usize
     requires { ⌜ OfBank pages 0 (now bank) × WellFormed (decode (now bank)) ⌝ }
-    ensures found { λ r. ⌜ foundIn pages r ≡ firstBelow pages
-        (λ p. member p lacking && not (isUp (boardAt (decode (now (bank .entry))) (giver (decode (now (bank .entry))) p) .state))) ⌝ }
+    ensures found { λ r. ⌜ foundIn pages r ≡ firstBelow pages (λ p. member p lacking && nobodyGives (got writes) (decode (now (bank .entry))) p) ⌝ }
     ensures within { λ r. ⌜ r ≤ pages ⌝ }
 {
     let mut page = 0;
     while page < pages {
-        if owner_missing(bank, pages, page, lacking) {
+        if giver_missing(bank, pages, page, lacking, writes) {
             return page;
         }
         page += 1;
@@ -86,7 +91,7 @@ fn missing_page(bank: &[u8], pages: usize, lacking: u16) -> usize
     pages
 }
 
-// Codes 6 and 7, in this order, of an access that needs other boards, or their copies dropped; "Code 6 names the owner of the lowest lacking page whose owner isn't up" (F-3).
+// Codes 6 and 7, in this order, of an access that needs other boards, or their copies dropped; "Code 6 names the owner" (F-3).
 fn live_verdict(bank: &[u8], boards: usize, pages: usize, ask: Ask, lacking: u16) -> Verdict
     requires { ⌜ Asks boards pages ask (now bank) × (ask .writes ≡ true → ask .page < pages) ⌝ }
     ensures { λ r. ⌜ ((a : Access) → Lacking pages a ask lacking (decode (now (bank .entry)))
@@ -98,7 +103,7 @@ fn live_verdict(bank: &[u8], boards: usize, pages: usize, ask: Ask, lacking: u16
             return Verdict::Pass;
         }
     }
-    let missing = missing_page(bank, pages, lacking);
+    let missing = missing_page(bank, pages, lacking, writes);
     if missing < pages {
         return Verdict::Refuse(Answer::OwnerNotUp(read_owner(bank, missing)));
     }

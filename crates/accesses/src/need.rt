@@ -1,9 +1,9 @@
 // Code 7: "stored + volatile + needed > 32 on some board".
 use crate::ask::Ask;
+use exchange::givers::giver;
 use fields::copies::holds;
 use fields::sets::has;
 use format::directory::read_copies;
-use format::directory::read_owner;
 use format::layout::block_at;
 use format::layout::block_size;
 use steps::records::room;
@@ -14,7 +14,7 @@ ghost use lib.Dec.{ltb};
 ghost use Rattle.model.specs.Definitions.Layout.{mostBoards, slotCount};
 ghost use Rattle.model.specs.Definitions.Bank.{Bank, boardAt, entryAt};
 ghost use Rattle.model.specs.Definitions.Codec.{decode};
-ghost use Rattle.model.specs.Definitions.WellFormed.{RoomOk};
+ghost use Rattle.model.specs.Definitions.WellFormed.{RoomOk, WellFormed};
 ghost use Rattle.model.specs.Definitions.Steps.{Access};
 ghost use Rattle.model.specs.Definitions.Calls.{fetchNeed, pageNeed, need, shortBoard};
 ghost use Rattle.model.specs.Contracts.{volatileCount, storedCount};
@@ -35,16 +35,16 @@ fn holder_need(copies: u8, board: usize) -> usize
     0
 }
 
-// "read fetch: reader 1, owner 1; write fetch: writer 1, owner 2, other holders 1"
-fn fetch_need(writes: bool, taker: usize, owner: usize, copies: u8, board: usize) -> usize
+// "read fetch: reader 1, owner 1; write fetch: writer 1, owner 2, other holders 1"; "its need in code 7 moves to the giver" (F-4)
+fn fetch_need(writes: bool, taker: usize, giver: usize, copies: u8, board: usize) -> usize
     requires { ⌜ board < mostBoards ⌝ }
-    ensures need { λ r. ⌜ ((k : Bank) (p : ℕ) → copies ≡ entryAt k p .copies → r ≡ fetchNeed (got writes) k taker owner p board) ⌝ }
+    ensures need { λ r. ⌜ ((k : Bank) (p : ℕ) → copies ≡ entryAt k p .copies → r ≡ fetchNeed (got writes) k taker giver p board) ⌝ }
     ensures few { λ r. ⌜ r ≤ 2 ⌝ }
 {
     if board == taker {
         return 1;
     }
-    if board == owner {
+    if board == giver {
         if writes {
             return 2;
         }
@@ -58,16 +58,16 @@ fn fetch_need(writes: bool, taker: usize, owner: usize, copies: u8, board: usize
 
 // What a board needs in its log for one page: it is fetched, or an own write drops its copies, or nothing.
 fn page_need(bank: &[u8], pages: usize, ask: Ask, lacking: u16, page: usize, board: usize) -> usize
-    requires { ⌜ OfBank pages board (now bank) × (page < pages) ⌝ }
+    requires { ⌜ OfBank pages board (now bank) × WellFormed (decode (now bank)) × (page < pages) ⌝ }
     ensures need { λ r. ⌜ ((a : Access) → Lacking pages a ask lacking (decode (now (bank .entry)))
         → r ≡ pageNeed (ask .board) a (decode (now (bank .entry))) board page) ⌝ }
     ensures few { λ r. ⌜ r ≤ 2 ⌝ }
 {
     let writes = ask.writes;
     if has(page, lacking) {
-        let owner = read_owner(bank, page) as usize;
+        let giver = giver(bank, pages, page, writes);
         let copies = read_copies(bank, page);
-        return fetch_need(writes, ask.board, owner, copies, board);
+        return fetch_need(writes, ask.board, giver, copies, board);
     }
     if writes {
         if page == ask.page {
@@ -79,7 +79,7 @@ fn page_need(bank: &[u8], pages: usize, ask: Ask, lacking: u16, page: usize, boa
 
 // "code 7 adds up the needs of all pages" (F-3). A write has one page, and an access that lacks none and writes nothing needs nothing.
 fn need(bank: &[u8], pages: usize, ask: Ask, lacking: u16, board: usize) -> usize
-    requires { ⌜ OfBank pages board (now bank) × (ask .writes ≡ true → ask .page < pages) ⌝ }
+    requires { ⌜ OfBank pages board (now bank) × WellFormed (decode (now bank)) × (ask .writes ≡ true → ask .page < pages) ⌝ }
     ensures need { λ r. ⌜ ((a : Access) → Lacking pages a ask lacking (decode (now (bank .entry)))
         → r ≡ need (ask .board) a (decode (now (bank .entry))) board) ⌝ }
     ensures few { λ r. ⌜ r ≤ 2 * pages ⌝ }

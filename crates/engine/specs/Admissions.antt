@@ -26,7 +26,7 @@ use Rattle.model.specs.Definitions.Replay.{differs}
 use Rattle.model.specs.Definitions.Calls.{Result, firstOf, unless, live, replaying, cellInRange, accessInRange, wrongCells, countersFull, refusalsWithin}
 use Rattle.model.specs.Definitions.Calls.{accessRefusals, accessWithin, accessBank, refused, Accessing, callWithin, callBank, call}
 use Rattle.model.specs.Laws.Logic.{byBool, and-left, and-right}
-use Rattle.model.specs.Laws.Keeps.Live.{isReplaying-replaying}
+use Rattle.model.specs.Laws.Keeps.Clauses.{isReplaying-replaying}
 use Rattle.model.specs.Contracts.{IsBank}
 use Rattle.model.specs.Laws.Keeps.Entered.{entered-live, entered, fitting}
 use Rattle.model.specs.Likeness.{onValue}

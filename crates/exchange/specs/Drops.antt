@@ -2,10 +2,8 @@
 -- Assumes nothing.
 use mathlib.Core.Path.{_≡_, refl, sym, ap, _∙_}
 use mathlib.Core.Logic.{_≢_}
-use Prim.Native.Nat.{ℕ, zero, suc, _+_, _*_, _/_, _%_, _^_, _≤_, _<_}
-use native.Mathlib.Nat.{pow-suc}
+use Prim.Native.Nat.{ℕ, _+_, _^_, _≤_, _<_}
 use native.Mathlib.Omega.{arith}
-use native.Mathlib.Decide.{decLt}
 use mathlib.Core.Bool.{Bool, true, false, _&&_, not}
 use mathlib.Core.List.{List}
 use lib.ListN.{length}
@@ -19,10 +17,11 @@ use Rattle.model.specs.Definitions.Bank.{Entry, Board, Bank, noBoard, boardAt, 
 use Rattle.model.specs.Definitions.Codec.{decode}
 use Rattle.model.specs.Definitions.Steps.{dropped, dropAt}
 use Rattle.model.specs.Laws.Logic.{byBool, byEq, clash}
-use Rattle.model.specs.Laws.Sets.{member-with-same, member-with-other, member-without-same, member-without-other, member-none, member-past, without-le}
-use Rattle.model.specs.Laws.Boards.{boards-onBoard, boardAt-same, boardAt-other, droppedIf, boards-dropAt, boardAt-dropAt, gives}
+use Rattle.model.specs.Laws.Sets.{member-with-same, member-with-other, member-without-same, member-without-other, member-none, member-below, without-le}
+use Rattle.model.specs.Laws.Sets.{lowest-member, lowest-in}
+use Rattle.model.specs.Laws.Boards.{boards-onBoard, boardAt-same, boardAt-other, droppedIf, boards-dropAt, boardAt-dropAt, loses}
 use Rattle.model.specs.Contracts.{Space}
-use Rattle.fields.specs.Sets.{lowest-member, without-in}
+use Rattle.fields.specs.Sets.{without-in}
 use Rattle.exchange.specs.Banks.{Holds, OfBank, holds-decode, holds-of}
 
 -- a slot for the record on every board that loses its right
@@ -30,19 +29,6 @@ abbrev pub CanDrop : (ℕ → Bool) → Bank → Type 0
 CanDrop loses k = (c : ℕ) → c < length (k .boards) → loses c ≡ true → Space (boardAt k c)
 
 -- ---- sets
-
-pub member-below : (n b set : ℕ) → set < 2 ^ n → member b set ≡ true → b < n
-member-below n b set h m = elim (decLt b n) [ yes l ↦ l | no l ↦ clash m (member-past n b set h (omega arith)) ]
-
--- a set that is not empty has a lowest member
-pub lowest-in : (k set : ℕ) → set < 2 ^ k → set ≢ 0 → trailingZeros k set < k
-unfolding trailingZeros
-lowest-in zero set h n = absurd (n (omega arith))
-lowest-in (suc k) set h n =
-    let e : 2 ^ suc k ≡ 2 ^ k * 2 = pow-suc 2 k in
-    byEq (set % 2) 0
-    (λ z. let m : trailingZeros k (set / 2) < k = lowest-in k (set / 2) (omega arith) (λ y. n (omega arith)) in rw z (omega arith))
-    (λ z. let o : set % 2 ≡ 1 = omega arith in rw o (omega arith))
 
 pub without-less : (b set rest : ℕ) → member b set ≡ true → rest ≡ withoutMember b set → rest < set
 without-less b set rest m e =
@@ -156,7 +142,7 @@ module _ {s : List ℕ} {k : Bank} {losers left p b : ℕ} (d : Dropping s k los
 
 -- all but the taker: the old owner and the holders, as one set
 pub gives-set : (o w p : ℕ) (k : Bank) (copies losers : ℕ) → o ≢ w → copies ≡ entryAt k p .copies → losers ≡ withMember o (withoutMember w copies)
-    → (c : ℕ) → member c losers ≡ gives o w p k c
+    → (c : ℕ) → member c losers ≡ loses o w p k c
 gives-set o w p k copies losers n e f c =
     byEq c w
     (λ q.

@@ -15,7 +15,7 @@ use Rattle.model.specs.Definitions.WellFormed.{EntryOk}
 use Rattle.model.specs.Definitions.Steps.{frameOf, giveCopy, dropAt, dropCopies, passOwnership}
 use Rattle.model.specs.Laws.Logic.{byEq, clash}
 use Rattle.model.specs.Laws.Sets.{member-with-other, member-without-same, member-without-other, with-below, without-le}
-use Rattle.model.specs.Laws.Boards.{tookCopy, withCopy, giveCopy-parts, withoutCopies, dropCopies-parts, ownedBy, tookOwn, gives, passOwnership-parts}
+use Rattle.model.specs.Laws.Boards.{tookCopy, withCopy, giveCopy-parts, withoutCopies, dropCopies-parts, ownedBy, tookOwn, loses, passOwnership-parts}
 use Rattle.model.specs.Contracts.{Space}
 use Rattle.exchange.specs.Banks.{Holds, holds-decode, entry-read, entry-holds}
 use Rattle.exchange.specs.Drops.{CanDrop, dropAt-same, gives-set}
@@ -69,10 +69,10 @@ module _ {xs : List ℕ} {k : Bank} (o w p copies losers : ℕ) (l : p < length 
 
   -- the taker's frame is the one that was read before the drops
   page-taken : {ys zs : List ℕ} (f : Frame) → f ≡ frameOf k o p → Holds ys (dropAt (λ c. member c losers) p k)
-      → Holds zs (onBoard w (tookOwn p (f .bytes)) (decode ys)) → Holds zs (onBoard w (tookOwn p (frameOf k o p .bytes)) (dropAt (gives o w p k) p k))
+      → Holds zs (onBoard w (tookOwn p (f .bytes)) (decode ys)) → Holds zs (onBoard w (tookOwn p (frameOf k o p .bytes)) (dropAt (loses o w p k) p k))
   page-taken f e d t =
-      let j : dropAt (λ c. member c losers) p k ≡ dropAt (gives o w p k) p k
-      = dropAt-same (λ c. member c losers) (gives o w p k) p k (λ c b. gives-set o w p k copies losers n passing m c) in
+      let j : dropAt (λ c. member c losers) p k ≡ dropAt (loses o w p k) p k
+      = dropAt-same (λ c. member c losers) (loses o w p k) p k (λ c b. gives-set o w p k copies losers n passing m c) in
       rw (holds-decode d ∙ j, e) at t
 
   pub page-passed : {ys zs us : List ℕ} (f : Frame) → f ≡ frameOf k o p → Holds ys (dropAt (λ c. member c losers) p k)

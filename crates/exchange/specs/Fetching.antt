@@ -58,7 +58,7 @@ one-page o c e = rw (o .count) (each-head (rw e at (c .pages)))
 
 -- what a write fetch asks for: page p, of owner o, by board b
 abbrev pub Ready : ℕ → ℕ → ℕ → ℕ → List ℕ → Type 0
-Ready pages b p o s = OfBank pages b s × WellFormed (decode s) × CanFetch GotOwn b (p ∷ []) (decode s) × (o ≡ giver (decode s) p)
+Ready pages b p o s = OfBank pages b s × WellFormed (decode s) × CanFetch GotOwn b (p ∷ []) (decode s) × (o ≡ giver GotOwn (decode s) p)
 
 module _ {s : List ℕ} {pages b p o : ℕ} (ready : Ready pages b p o s) where
   page-in : p < length (decode s .directory)

@@ -6,6 +6,7 @@ use mathlib.Core.Option.{Option, none, some}
 use mathlib.Core.List.{List}
 use lib.ListN.{length}
 use Rattle.words.specs.Bytes.{Each}
+use Rattle.types.specs.declared.CopyOrOwn.{CopyOrOwn}
 use Rattle.types.specs.declared.CopyOrOwn.the-variants.{GotCopy, GotOwn}
 use Rattle.types.specs.declared.Kind.the-variants.{Got}
 use Rattle.types.specs.declared.State.the-variants.{Up}
@@ -54,7 +55,7 @@ pub record CanShowAll (ps : List ℕ) (k : Bank) : Type 0 where
   pub taker : ℕ
   pub fetch : CanFetch GotCopy taker ps k
 
--- pages of which board b can be given copies: boards own them, and its volatile log has a slot for each
+-- pages of which board b can be given copies: boards own and give them, and its volatile log has a slot for each
 pub record CanGive (b : ℕ) (ps : List ℕ) (k : Bank) : Type 0 where
-  pub givers : Each (λ p. giver k p < length (k .boards)) ps
+  pub givers : (g : CopyOrOwn) → Each (λ p. giver g k p < length (k .boards)) ps
   pub room : volatileCount (boardAt k b) + length ps ≤ slotCount

@@ -6,30 +6,35 @@ use mathlib.Core.Bool.{true, false}
 use mathlib.Core.Option.{Option, none, some}
 use mathlib.Core.List.{List, [], _∷_}
 use lib.ListN.{length, length-append}
-use Rattle.types.specs.declared.CopyOrOwn.the-variants.{GotCopy}
+use Rattle.words.specs.Bytes.{Each}
+use Rattle.types.specs.declared.CopyOrOwn.{CopyOrOwn}
+use Rattle.types.specs.declared.CopyOrOwn.the-variants.{GotCopy, GotOwn}
 use Rattle.types.specs.declared.Kind.the-variants.{Got, Shown}
 use Rattle.types.specs.declared.State.the-variants.{Up}
 use Rattle.model.specs.Definitions.Parts.{zeros, member}
 use Rattle.model.specs.Definitions.Layout.{pageSize, slotCount}
-use Rattle.model.specs.Definitions.Bank.{Bank, boardAt, onWorking, onFrames}
+use Rattle.model.specs.Definitions.Bank.{Bank, boardAt, entryAt, onWorking, onFrames}
 use Rattle.model.specs.Definitions.Codec.{decode}
 use Rattle.model.specs.Definitions.WellFormed.{WellFormed}
 use Rattle.model.specs.Definitions.Steps.{Run, appended, recorded, withFrame, frameOf, giver, show, giveCopy, showAll, giveCopies, readFetch}
-use Rattle.model.specs.Laws.Lists.{each-head, each-tail, each-imp}
+use Rattle.model.specs.Laws.Lists.{each-head, each-tail, each-imp, each-both}
 use Rattle.model.specs.Laws.Boards.{tookCopy, boards-giveCopy, boardAt-giveCopy-same}
 use Rattle.model.specs.Laws.Runs.{Changed, SameSizes, follows-showAll, follows-step, sizes-giveCopy, sizes-giveCopies}
 use Rattle.model.specs.Laws.Runs.Stores.{FlushedWith, show-changed}
 use Rattle.model.specs.Laws.Keeps.Clauses.{up-below}
-use Rattle.model.specs.Laws.Keeps.Copies.{room-giver, giver-same, Shared, shown-can, showAll-shared, needs-reader, giver-giveCopy}
+use Rattle.model.specs.Laws.Keeps.Rights.{entry-at}
+use Rattle.model.specs.Laws.Keeps.Givers.{giver-giveCopy}
+use Rattle.model.specs.Laws.Keeps.Copies.{room-giver, Shared, shared-giver, shown-can, showAll-shared, needs-reader}
 use Rattle.model.specs.Laws.Moves.Stores.{show-keeps}
 use Rattle.model.specs.Laws.Moves.Fetches.{showAll-moves}
 use Rattle.model.specs.Laws.Moves.Formed.{formed-begun, run-formed, moves-formed}
 use Rattle.model.specs.Moves.{anyone, still}
 use Rattle.model.specs.Contracts.{volatileCount, CanFetch}
 use Rattle.exchange.specs.Banks.{Holds, OfBank, holds-bank, holds-decode, of-holds, holds-of}
+use Rattle.exchange.specs.Directory.{of-board}
 use Rattle.exchange.specs.Progress.{running, Came, CanShow, pagesIn, CanShowAll, CanGive}
 use Rattle.exchange.specs.Fetching.{came-holds, came-on, came-step, came-lost}
-use Rattle.exchange.specs.Walks.{left, left-all, left-none, left-next, left-skip}
+use Rattle.exchange.specs.Walks.{left, left-all, left-none, left-next, left-skip, left-above}
 
 -- the pages of a set from page i on
 abbrev pub pagesFrom : ℕ → ℕ → ℕ → List ℕ
@@ -95,25 +100,25 @@ module _ {pages set : ℕ} {k : Bank} {s : List ℕ} {m i : ℕ} (h : Showing pa
       can : CanFetch GotCopy taker (i ∷ rest) (decode s)
       can = rw (← here) (h .can .fetch)
 
-      module _ (o : ℕ) (own : o ≡ giver (decode s) i) where
+      module _ (o : ℕ) (from : o ≡ giver GotCopy (decode s) i) where
         up : boardAt (decode s) o .state ≡ Up
-        up = rw own (each-head (can .owners))
+        up = rw from (each-head (can .givers))
 
-        -- the owner can show it
-        pub show-owner : o < length (decode s .boards)
-        show-owner = up-below (decode s) o up
+        -- who gives it can show it
+        pub show-giver : o < length (decode s .boards)
+        show-giver = up-below (decode s) o up
 
         pub show-can : CanShow o (decode s)
-        show-can = (up, rw own (room-giver taker i rest (decode s) can))
+        show-can = (up, rw from (room-giver taker i rest (decode s) can))
 
-        -- the owner has shown it
+        -- and has shown it
         module _ {ys : List ℕ} (x : ℕ) {q : Option ℕ} (ran : (n : ℕ) → Came ys (n + x) q (show o i (running n (decode s)))) where
           told : (n : ℕ) → Came ys (n + (m + x)) q (show o i (running (n + m) (decode s)))
           told n = let e : n + (m + x) ≡ n + m + x = omega arith in rw e (ran (n + m))
 
           goes : (n : ℕ) → showAll rest (show o i (running (n + m) (decode s))) ≡ showAll (pagesIn pages set) (running n k)
           unfolding showAll
-          goes n = rw (own, ← h .run n, here)
+          goes n = rw (from, ← h .run n, here)
 
           -- and lost its power
           pub showing-lost : (d : ℕ) → q ≡ some d → (n : ℕ) → Came ys (n + (m + x)) q (showAll (pagesIn pages set) (running n k))
@@ -138,7 +143,7 @@ module _ {pages set : ℕ} {k : Bank} {s : List ℕ} {m i : ℕ} (h : Showing pa
                   can =
                       record {
                         taker = taker;
-                        fetch = rw (holds-decode held, own) (shown-can taker i rest (running 0 (decode s)) can (rw own at (sym (ran 0 .lost) ∙ on)));
+                        fetch = rw (holds-decode held, from) (shown-can taker i rest (running 0 (decode s)) can (rw from at (sym (ran 0 .lost) ∙ on)));
                       };
                   run = λ n. rw (came-on (told n) on (keeps (n + m))) (goes n);
                   few = omega (arith, h .few);
@@ -158,13 +163,16 @@ giving-first {pages} set o c =
     let e : pagesFrom pages set 0 ≡ pagesIn pages set = left-all (λ p. member p set) pages in
     record { bank = o; can = rw e c; gives = rw e }
 
--- a copy given leaves the givers, and one slot less
-pub copy-can : (b p : ℕ) (ps : List ℕ) (k : Bank) → b < length (k .boards) → CanGive b (p ∷ ps) k → CanGive b ps (giveCopy (giver k p) b p k)
+-- a copy given leaves the givers of the pages behind it, and one slot less
+pub copy-can : (o b p : ℕ) (ps : List ℕ) (k : Bank) → b < length (k .boards) → Each (λ q. p < q) ps → CanGive b (p ∷ ps) k
+    → CanGive b ps (giveCopy o b p k)
 unfolding tookCopy withFrame onWorking onFrames recorded appended
-copy-can b p ps k h c =
-    let o : ℕ = giver k p in
+copy-can o b p ps k h behind c =
     record {
-      givers = each-imp ps (λ q v. rw (giver-giveCopy o b p k q, boards-giveCopy o b p k) v) (each-tail (c .givers));
+      givers = λ g.
+          each-imp ps
+          (λ q v. rw (giver-giveCopy g o b p k q (λ e. absurd (omega (arith, v .0))), boards-giveCopy o b p k) (v .1))
+          (each-both behind (each-tail (c .givers g)));
       room =
           rw (boardAt-giveCopy-same o b p k h)
           (omega (
@@ -196,21 +204,27 @@ module _ {pages set b : ℕ} {k : Bank} {s : List ℕ} {i : ℕ} (h : Giving pag
       gives-here : CanGive b (i ∷ pagesFrom pages set (i + 1)) (decode s)
       gives-here = rw (← behind) (h .can)
 
-      module _ (o : ℕ) (own : o ≡ giver (decode s) i) where
-        pub give-owner : o < length (decode s .boards)
-        give-owner = rw own (each-head (gives-here .givers))
+      pub give-owner : OfBank pages (entryAt (decode s) i .owner) s
+      unfolding giver
+      give-owner = of-board (h .bank) (entryAt (decode s) i .owner) (each-head (gives-here .givers GotOwn))
 
-        pub give-space : volatileCount (boardAt (decode s) b) < slotCount
-        give-space = omega (arith, gives-here .room)
+      pub give-space : volatileCount (boardAt (decode s) b) < slotCount
+      give-space = omega (arith, gives-here .room)
+
+      module _ (o : ℕ) (from : o ≡ giver GotCopy (decode s) i) where
+        pub give-from : o < length (decode s .boards)
+        give-from = rw from (each-head (gives-here .givers GotCopy))
 
         pub giving-on : {ys : List ℕ} → Holds ys (giveCopy o b i (decode s)) → Giving pages set b k ys (i + 1)
         unfolding giveCopies
         giving-on {ys} y =
             let z : SameSizes (decode s) (giveCopy o b i (decode s)) = sizes-giveCopy o b i (decode s) in
+            let rest : List ℕ = pagesFrom pages set (i + 1) in
+            let above : Each (λ q. i < q) rest = each-imp rest (λ q v. omega arith) (left-above (λ p. member p set) pages (i + 1)) in
             record {
               bank = holds-of y pages b (h .bank .count ∙ sym (z .pages)) (rw (z .boards) (h .bank .board));
-              can = rw (holds-decode y, own) (copy-can b i (pagesFrom pages set (i + 1)) (decode s) (h .bank .board) gives-here);
-              gives = rw (holds-decode y, own, ← h .gives, behind);
+              can = rw (holds-decode y) (copy-can o b i rest (decode s) (h .bank .board) above gives-here);
+              gives = rw (holds-decode y, from, ← h .gives, behind);
             }
 
 -- ---- both
@@ -241,10 +255,17 @@ module _ {pages b : ℕ} {s ps : List ℕ} (o : OfBank pages b s) (w : WellForme
           board = rw (shared .boards) (o .board);
         }
 
+    -- who owns and who gives is a board as before
+    shown-givers : (g : CopyOrOwn) → Each (λ p. giver g (decode l) p < length (decode l .boards)) ps
+    unfolding giver
+    shown-givers GotCopy =
+        each-imp ps (λ p v. rw (shared-giver shared GotCopy p, shared .boards) (up-below (decode s) (giver GotCopy (decode s) p) v)) (c .givers)
+    shown-givers GotOwn = each-imp ps (λ p v. rw (shared-giver shared GotOwn p, shared .boards) (entry-at w p v .owner)) (c .pages)
+
     pub shown-give : CanGive b ps (decode l)
     shown-give =
         record {
-          givers = each-imp ps (λ p v. rw (giver-same (decode s) (decode l) (shared .directory) p, shared .boards) (up-below (decode s) _ v)) (c .owners);
+          givers = shown-givers;
           room =
               rw (shared .reader)
               (omega (arith, c .room b (up-below (decode s) b (c .taker)), needs-reader (decode s) b ps));

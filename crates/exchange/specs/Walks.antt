@@ -4,7 +4,9 @@ use Prim.Native.Nat.{ℕ, suc, _+_, _-_, _≤_, _<_}
 use native.Mathlib.Omega.{arith}
 use mathlib.Core.Bool.{Bool, true, false}
 use mathlib.Core.List.{List, [], _∷_}
+use Rattle.words.specs.Bytes.{Each}
 use Rattle.model.specs.Definitions.Parts.{allFrom, allBelow}
+use Rattle.model.specs.Laws.Below.{rising-each, allFrom-rising}
 
 module _ (f : ℕ → Bool) (n : ℕ) where
   -- the indices from i on that pass the test
@@ -32,3 +34,7 @@ module _ (f : ℕ → Bool) (n : ℕ) where
       let m : n - i ≡ suc (n - suc i) = omega arith in
       let q : i + 1 ≡ suc i = omega arith in
       rw (q, m) cc
+
+  -- none of them is below i
+  pub left-above : (i : ℕ) → Each (λ p. i ≤ p) (left i)
+  left-above i = rising-each i (left i) (allFrom-rising f i (n - i))

@@ -2,6 +2,7 @@
 use crate::boards::drop_right;
 use crate::boards::take_copy;
 use crate::boards::take_own;
+use crate::givers::giver;
 use fields::copies::lowest_holder;
 use fields::copies::with_holder;
 use fields::copies::without_holder;
@@ -50,15 +51,15 @@ fn copy_to(bank: &mut [u8], pages: usize, board: usize, page: usize, frame: Fram
 }
 
 // "reader records got copy, gains the copy and its bit"
-pub fn give_copy(bank: &mut [u8], pages: usize, owner: usize, board: usize, page: usize)
-    requires { ⌜ OfBank pages board (now bank) × (owner < length (decode (now bank) .boards)) × Space (boardAt (decode (now bank)) board) × (page < pages) ⌝ }
-    ensures { λ _. ⌜ Holds (now (bank .exit)) (giveCopy owner board page (decode (now (bank .entry)))) ⌝ }
+pub fn give_copy(bank: &mut [u8], pages: usize, giver: usize, board: usize, page: usize)
+    requires { ⌜ OfBank pages board (now bank) × (giver < length (decode (now bank) .boards)) × Space (boardAt (decode (now bank)) board) × (page < pages) ⌝ }
+    ensures { λ _. ⌜ Holds (now (bank .exit)) (giveCopy giver board page (decode (now (bank .entry)))) ⌝ }
 {
-    let frame = page_frame(bank, pages, owner, page);
+    let frame = page_frame(bank, pages, giver, page);
     copy_to(bank, pages, board, page, frame);
-    let named = read_owner(bank, page);
+    let owner = read_owner(bank, page);
     let copies = read_copies(bank, page);
-    write_entry(bank, page, named, with_holder(board, copies));
+    write_entry(bank, page, owner, with_holder(board, copies));
 }
 
 // "Only then are the copies taken, together. The got records follow each other, the later ones with count 0." (F-3)
@@ -69,8 +70,8 @@ pub fn give_copies(bank: &mut [u8], pages: usize, board: usize, lacking: u16)
     let mut page = 0;
     while page < pages {
         if has(page, lacking) {
-            let owner = read_owner(bank, page) as usize;
-            give_copy(bank, pages, owner, board, page);
+            let giver = giver(bank, pages, page, false);
+            give_copy(bank, pages, giver, board, page);
         }
         page += 1;
     }

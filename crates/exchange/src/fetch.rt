@@ -1,12 +1,12 @@
-// Fetches: the owners' records are stored first, then the taker's, and only then does a right pass.
+// Fetches: the givers' records are stored first, then the taker's, and only then does a right pass.
 use crate::copies::give_copies;
 use crate::copies::page_frame;
 use crate::copies::pass_ownership;
+use crate::givers::giver;
 use crate::progress::Loss;
 use crate::progress::Progress;
 use crate::runs::log_through;
 use fields::sets::has;
-use format::directory::read_owner;
 use stores::spend::Stored;
 use types::CopyOrOwn;
 use types::Kind;
@@ -28,17 +28,17 @@ ghost use Rattle.steps.specs.Asked.{got};
 ghost use Rattle.exchange.specs.Banks.{OfBank};
 ghost use Rattle.exchange.specs.Progress.{running, lostBy, lossOf, Came, CanShow, pagesIn, CanShowAll, getOwn};
 
-// The giver's part of every fetch: "owner records shown and flushes".
-fn show(bank: &mut [u8], pages: usize, owner: usize, page: usize) -> Stored
-    requires { ⌜ OfBank pages owner (now bank) × WellFormed (decode (now bank)) × (page < pages) × CanShow owner (decode (now bank)) ⌝ }
-    ensures run { λ r. ⌜ ((n : ℕ) → Came (now (bank .exit)) (n + r .stores) (lostBy owner (r .lost)) (show owner page (running n (decode (now (bank .entry))))))
+// "That giver records shown and flushes as an owner does." (F-4): the giver's part of every fetch.
+fn show(bank: &mut [u8], pages: usize, giver: usize, page: usize) -> Stored
+    requires { ⌜ OfBank pages giver (now bank) × WellFormed (decode (now bank)) × (page < pages) × CanShow giver (decode (now bank)) ⌝ }
+    ensures run { λ r. ⌜ ((n : ℕ) → Came (now (bank .exit)) (n + r .stores) (lostBy giver (r .lost)) (show giver page (running n (decode (now (bank .entry))))))
         ⌝ }
     ensures few { λ r. ⌜ r .stores ≤ slotCount ⌝ }
 {
     log_through(
         bank,
         pages,
-        owner,
+        giver,
         Kind::Shown(page as u8),
         [0u8; PAGE_SIZE],
     )
@@ -55,13 +55,13 @@ fn show_all(bank: &mut [u8], pages: usize, lacking: u16) -> Progress
     let mut page = 0;
     while page < pages {
         if has(page, lacking) {
-            let owner = read_owner(bank, page) as usize;
-            let shown = show(bank, pages, owner, page);
+            let giver = giver(bank, pages, page, false);
+            let shown = show(bank, pages, giver, page);
             stores += shown.stores;
             if shown.lost {
                 return Progress {
                     stores,
-                    loss: Loss::Board(owner as u8),
+                    loss: Loss::Board(giver as u8),
                 };
             }
         }
@@ -73,7 +73,7 @@ fn show_all(bank: &mut [u8], pages: usize, lacking: u16) -> Progress
     }
 }
 
-// "owner records shown and flushes; reader records got copy, gains the copy and its bit", of each page in turn
+// "owner records shown and flushes; reader records got copy, gains the copy and its bit", each page from its giver
 fn read_fetch(bank: &mut [u8], pages: usize, board: usize, lacking: u16) -> Progress
     requires { ⌜ OfBank pages board (now bank) × WellFormed (decode (now bank)) × CanFetch GotCopy board (pagesIn pages lacking) (decode (now bank)) ⌝ }
     ensures run { λ r. ⌜ ((n : ℕ) → Came (now (bank .exit)) (n + r .stores) (lossOf (r .loss))
@@ -110,7 +110,7 @@ fn get_own(bank: &mut [u8], pages: usize, owner: usize, board: usize, page: usiz
 // "owner records shown and flushes; writer records got own and flushes; then together .."
 fn write_fetch(bank: &mut [u8], pages: usize, owner: usize, board: usize, page: usize) -> Progress
     requires { ⌜ OfBank pages board (now bank) × WellFormed (decode (now bank)) × CanFetch GotOwn board (page ∷ []) (decode (now bank))
-        × (owner ≡ giver (decode (now bank)) page) ⌝ }
+        × (owner ≡ giver GotOwn (decode (now bank)) page) ⌝ }
     ensures run { λ r. ⌜ ((n : ℕ) → Came (now (bank .exit)) (n + r .stores) (lossOf (r .loss)) (writeFetch board page (running n (decode (now (bank .entry))))))
         ⌝ }
     ensures few { λ r. ⌜ r .stores ≤ 2 * slotCount ⌝ }
@@ -153,7 +153,7 @@ pub fn fetch(
     ensures few { λ r. ⌜ r .stores ≤ mostPages * slotCount ⌝ }
 {
     if writes {
-        let owner = read_owner(bank, page) as usize;
+        let owner = giver(bank, pages, page, true);
         return write_fetch(bank, pages, owner, board, page);
     }
     read_fetch(bank, pages, board, lacking)

@@ -2,6 +2,7 @@
 pub mod boards;
 pub mod copies;
 pub mod fetch;
+pub mod givers;
 pub mod progress;
 pub mod runs;
 pub mod state;

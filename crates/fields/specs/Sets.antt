@@ -1,13 +1,12 @@
--- A set as a number, by arithmetic: a member is a digit, joining adds a power of two and leaving takes it away; and what the
--- count of trailing zeros says of the members. By induction on the lowest digit, so for any width. Assumes nothing.
+-- A set as a number, by arithmetic: a member is a digit, joining adds a power of two and leaving takes it away. By induction on the lowest digit,
+-- so for any width. Assumes nothing.
 use mathlib.Core.Path.{_≡_}
-use Prim.Native.Nat.{ℕ, zero, suc, _+_, _*_, _-_, _/_, _%_, _^_, _<_}
-use native.Mathlib.Nat.{pow-suc, pow-succ', div-one, div-div-eq-div-mul, not-suc-le-zero}
+use Prim.Native.Nat.{ℕ, zero, suc, _+_, _*_, _-_, _/_, _%_, _^_}
+use native.Mathlib.Nat.{pow-suc, pow-succ', div-one, div-div-eq-div-mul}
 use native.Mathlib.Omega.{arith}
 use mathlib.Core.Bool.{true, false}
 use lib.Dec.{eqb}
-use lib.Count.{trailingZeros}
-use borrow.Author.Tests.{eq-eqb, ne-eqb, eqb-true}
+use borrow.Author.Tests.{eq-eqb, eqb-true}
 use Rattle.model.specs.Definitions.Parts.{member, withMember, withoutMember}
 use Rattle.model.specs.Laws.Logic.{byEq, clash}
 
@@ -51,44 +50,3 @@ without-out zero set h =
     (λ e. clash (eq-eqb (set % 2) 1 e) h)
     (λ n. let e : set % 2 ≡ 0 = omega arith in omega arith)
 without-out (suc b) set h = let e : set / 2 ≡ withoutMember b (set / 2) = without-out b (set / 2) h in omega arith
-
--- ---- the lowest member
-
-even-trailing : (k set : ℕ) → set % 2 ≡ 0 → trailingZeros (suc k) set ≡ suc (trailingZeros k (set / 2))
-unfolding trailingZeros
-even-trailing k set e = rw e
-
-odd-trailing : (k set : ℕ) → set % 2 ≡ 1 → trailingZeros (suc k) set ≡ 0
-unfolding trailingZeros
-odd-trailing k set e = rw e
-
--- where it is below the width, it is a member
-pub lowest-member : (k set : ℕ) → trailingZeros k set < k → member (trailingZeros k set) set ≡ true
-unfolding member
-lowest-member zero set h = absurd (not-suc-le-zero h)
-lowest-member (suc k) set h =
-    byEq (set % 2) 0
-    (λ e.
-    let f : trailingZeros (suc k) set ≡ suc (trailingZeros k (set / 2)) = even-trailing k set e in
-    rw f (lowest-member k (set / 2) (omega arith)))
-    (λ n.
-    let e : set % 2 ≡ 1 = omega arith in
-    rw (odd-trailing k set e) (eq-eqb (set % 2) 1 e))
-
--- none below it is one
-pub lowest-others : (k set j : ℕ) → j < trailingZeros k set → member j set ≡ false
-unfolding member trailingZeros
-lowest-others zero set j h = absurd (not-suc-le-zero h)
-lowest-others (suc k) set zero h =
-    byEq (set % 2) 1
-    (λ e. let f : trailingZeros (suc k) set ≡ 0 = odd-trailing k set e in absurd (omega arith))
-    (λ n. ne-eqb (set % 2) 1 n)
-lowest-others (suc k) set (suc j) h =
-    byEq (set % 2) 0
-    (λ e.
-    let f : trailingZeros (suc k) set ≡ suc (trailingZeros k (set / 2)) = even-trailing k set e in
-    lowest-others k (set / 2) j (omega arith))
-    (λ n.
-    let e : set % 2 ≡ 1 = omega arith in
-    let f : trailingZeros (suc k) set ≡ 0 = odd-trailing k set e in
-    absurd (omega arith))

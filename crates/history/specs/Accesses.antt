@@ -1,7 +1,7 @@
 -- A live access keeps the invariant: the board has the right, so its frame holds the page's memory, and a write finds no copy out.
 -- Assumes nothing.
 use mathlib.Core.Path.{_≡_, refl, sym, ap, subst, _∙_}
-use mathlib.Core.Logic.{_≢_, _⊎_, inl, inr, ⊎-elim}
+use mathlib.Core.Logic.{_≢_, _⊎_, ⊎-elim}
 use Prim.Native.Nat.{ℕ, _+_, _-_, _≤_, _<_}
 use native.Mathlib.Omega.{arith}
 use mathlib.Core.Bool.{true, false}
@@ -28,6 +28,7 @@ use Rattle.model.specs.Laws.Below.{has-right}
 use Rattle.model.specs.Laws.Sets.{member-none}
 use Rattle.model.specs.Laws.Boards.{boards-onBoard, directory-onBoard, boardAt-same, boardAt-other}
 use Rattle.model.specs.Laws.Keeps.Clauses.{fits}
+use Rattle.model.specs.Laws.Keeps.Rights.{right-from}
 use Rattle.model.specs.Contracts.{Fits}
 use Rattle.model.specs.History.Statement.{HistoryEntry, History, ofBoard, discard, zeroMemory, byteIn, withNumberOf}
 use Rattle.history.specs.Rerun.{Rebuilt, Made, next, Accepts, Serves}
@@ -72,14 +73,6 @@ unfolding lacks
 right-own None h = clash refl h
 right-own Copy h = clash refl h
 right-own Own h = refl
-
--- a right comes from the directory: the owner, or a holder of a copy
-right-from : (e : Entry) (b : ℕ) → rightIn e b ≢ None → (e .owner ≡ b) ⊎ (member b (e .copies) ≡ true)
-unfolding rightIn
-right-from e b h =
-    byBool (eqb (e .owner) b)
-    (λ t. inl (eqb-true (e .owner) b t))
-    (λ t. byBool (member b (e .copies)) (λ m. inr m) (λ m. absurd (h (cc))))
 
 own-from : (e : Entry) (b : ℕ) → rightIn e b ≡ Own → e .owner ≡ b
 unfolding rightIn

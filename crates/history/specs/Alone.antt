@@ -24,9 +24,8 @@ use Rattle.model.specs.Laws.Boards.{boardAt-out, byBoard}
 use Rattle.model.specs.Laws.Runs.{lost-not, SameSizes, sizes-same}
 use Rattle.model.specs.Laws.Moves.{moves-follow}
 use Rattle.model.specs.Laws.Codes.Statement.{boardNamed}
-use Rattle.model.specs.Laws.Keeps.Clauses.{up-not-replaying, fits}
+use Rattle.model.specs.Laws.Keeps.Clauses.{up-not-replaying, fits, isReplaying-replaying}
 use Rattle.model.specs.Contracts.{Fits}
-use Rattle.model.specs.Laws.Keeps.Live.{isReplaying-replaying}
 use Rattle.model.specs.History.Statement.{accessOf}
 use Rattle.history.specs.Bystanders.{call-leaves}
 use Rattle.model.specs.History.AloneStatement.{Heard, heardOf, liveIn, heard, heardFrom, isAccess, endBank, endFrom, callsOf, SameOwned, SameStart, SameReplay}

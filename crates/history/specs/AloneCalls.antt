@@ -13,7 +13,7 @@ use Rattle.types.specs.declared.Answer.{Answer}
 use Rattle.model.specs.Definitions.Layout.{noFuse}
 use Rattle.model.specs.Definitions.Bank.{Board, Bank, boardAt, entryAt, onBoard}
 use Rattle.model.specs.Definitions.WellFormed.{isUp, isDown, isReplaying, WellFormed}
-use Rattle.model.specs.Definitions.Steps.{Run, start, withFuse, fuseBoard, Access, valueOf}
+use Rattle.model.specs.Definitions.Steps.{Run, start, withFuse, fuseBoard, Access}
 use Rattle.model.specs.Definitions.Replay.{loaded, usedUp, tookDue, replayOver, endIfOver, replayed}
 use Rattle.model.specs.Definitions.Calls.{Result, firstOf, unless, finished, accessInRange, countersFull, refusalsWithin, accessRefusals, accessWithin}
 use Rattle.model.specs.Definitions.Calls.{accessBank, checkpointBank, fuseBank, restartBank}
@@ -24,8 +24,8 @@ use Rattle.model.specs.Laws.Codes.Statement.{afterReplay, LiveOn, up, replayEnd
 use Rattle.model.specs.Laws.Tests.{Says}
 use Rattle.model.specs.Laws.Codes.Order.{fails}
 use Rattle.model.specs.Laws.Codes.Tests.{replay-other, LastDue, last-due}
-use Rattle.model.specs.Laws.Keeps.Clauses.{replaying-place, fits, up-not-replaying, down-not-replaying}
-use Rattle.model.specs.Laws.Keeps.Live.{NoneOf, isUp-up, isDown-down, isReplaying-replaying, firstOf-none}
+use Rattle.model.specs.Laws.Keeps.Clauses.{replaying-place, fits, up-not-replaying, down-not-replaying, isUp-up, isDown-down, isReplaying-replaying}
+use Rattle.model.specs.Laws.Keeps.Live.{NoneOf, firstOf-none}
 use Rattle.model.specs.Laws.Keeps.Entered.{taken-inReplay, replayed-keeps}
 use Rattle.history.specs.ReplayAccess.{unless-refused, unless-goes, finished-lost, finished-done, tookIn, repeatedIn, access-lost, access-repeated}
 use Rattle.history.specs.ReplayAccess.{ended-idle, over-idle, enteredAt, replayingAt, fittingAt, restartedIn, restarted-inReplay, restart-idle}

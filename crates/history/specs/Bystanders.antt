@@ -32,7 +32,7 @@ use Rattle.model.specs.Laws.Moves.{induct}
 use Rattle.model.specs.Laws.Moves.Formed.{FormedIn, FormedRun, formed-begun, induct-formed}
 use Rattle.model.specs.Laws.Moves.Stores.{checkpoint-moves}
 use Rattle.model.specs.Laws.Moves.Calls.{makes-now, live-moves, call-moves}
-use Rattle.model.specs.Laws.Moves.Down.{SameStates, states-onBoard, states-giveCopy, states-dropCopies, states-passOwnership}
+use Rattle.model.specs.Laws.States.{SameStates, states-onBoard, states-giveCopy, states-dropCopies, states-passOwnership}
 use Rattle.model.specs.Laws.Runs.Stores.{burnt-state, flushed-storedRecord}
 use Rattle.model.specs.History.Statement.{Event}
 use Rattle.model.specs.Laws.Codes.Statement.{boardNamed}
@@ -66,7 +66,7 @@ module _ (b : ℕ) {d : ℕ} {Again : Access → Type 0} (other : b ≢ d) where
       let m : b ≢ c = λ e. i (rw e u) in
       step-leaves b _ (store c storedSelector s) (boardAt-other c _ (store c storedSelector s .bank) b m) ∙ store-leaves b c storedSelector s m
   move-leaves s _ n (givesCopy a o p x c y g u m r) w i = step-leaves b _ s (boardAt-giveCopy-other o d p (s .bank) b other)
-  move-leaves s _ n (passesOwnership a o p c y g v m) w i =
+  move-leaves s _ n (passesOwnership a o p c y g own v m) w i =
       step-leaves b _ s
       (leaves-in b (sizes-passOwnership o d p (s .bank))
       (λ l.
@@ -184,7 +184,7 @@ move-awake s _ n (storesSelector b checkpoints u v) i =
 move-awake s _ n (storesSelector b resumes u v) i = absurd (i .going n)
 move-awake s _ n (storesSelector b closes u v) i = absurd (i .going n)
 move-awake {d} s _ n (givesCopy a o p x c y g u m r) i = step-awake _ s (states-giveCopy o d p (s .bank)) u (takes-up x)
-move-awake {d} s _ n (passesOwnership a o p c y g v m) i = step-awake _ s (states-passOwnership o d p (s .bank)) (v .up) (λ x e. e)
+move-awake {d} s _ n (passesOwnership a o p c y g own v m) i = step-awake _ s (states-passOwnership o d p (s .bank)) (v .up) (λ x e. e)
 move-awake s _ n (dropsCopies p l m) i = step-awake _ s (states-dropCopies p (s .bank)) (i .going n) (λ x e. e)
 move-awake {d} s _ n (performs a z can has out) i = step-awake _ s (states-onBoard d _ (s .bank) refl) (can .up) (λ x e. tt)
 move-awake {d} s _ n (losesPower l) i = off-awake s n l

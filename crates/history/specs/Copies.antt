@@ -25,12 +25,12 @@ use Rattle.model.specs.Laws.Boards.{frameAt-same, tookCopy, withCopy, droppedIf
 use Rattle.model.specs.Laws.Boards.{boards-dropCopies, boardAt-dropCopies}
 use Rattle.model.specs.Laws.Keeps.Clauses.{fits, up-below}
 use Rattle.model.specs.Contracts.{Fits}
-use Rattle.model.specs.Laws.Keeps.Rights.{entry-at, holder-up}
+use Rattle.model.specs.Laws.Keeps.Rights.{entry-at, no-right, holder-up}
 use Rattle.model.specs.History.Statement.{History, zeroMemory}
 use Rattle.history.specs.Rerun.{Rebuilt, Logged, logged, next, LacksFor, MayLog, Joins, Accepts}
 use Rattle.history.specs.Invariant.{memoryAfter, unstableWrite, settledAs, BoardInvariant, Invariant, onlyOf}
 use Rattle.history.specs.Logging.{newRecord}
-use Rattle.history.specs.Rights.{kept-on, entry-holds, framed-holds, lost-holds, quiet-held, got-holds, onlyOf-same, onlyOf-other, no-right}
+use Rattle.history.specs.Rights.{kept-on, entry-holds, framed-holds, lost-holds, quiet-held, got-holds, onlyOf-same, onlyOf-other}
 use Rattle.history.specs.Rights.{entry-invariant}
 
 -- ---- a copy given

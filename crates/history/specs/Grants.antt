@@ -6,15 +6,14 @@ use Prim.Native.Nat.{ℕ, _≤_, _<_}
 use native.Mathlib.Nat.{le-trans}
 use native.Mathlib.Omega.{arith}
 use mathlib.Core.Bool.{Bool}
-use mathlib.Core.Option.{none, some}
-use mathlib.Core.List.{List, [], _∷_, _++_}
+use mathlib.Core.Option.{none}
+use mathlib.Core.List.{List, [], _∷_}
 use Rattle.words.specs.Bytes.{Each, each-nil, each-cons}
 use Rattle.model.specs.Laws.Lists.{each-head, each-tail, each-imp, each-append}
 use lib.ListN.{length}
 use lib.Dec.{eqb}
 use borrow.Author.Tests.{eqb-true}
 use Rattle.types.specs.declared.Kind.the-variants.{Shown}
-use Rattle.types.specs.declared.Answer.the-variants.{PowerLost}
 use Rattle.model.specs.Definitions.Parts.{zeros}
 use Rattle.model.specs.Definitions.Layout.{pageSize}
 use Rattle.model.specs.Definitions.Bank.{Working, Board, Bank, boardAt, onBoard, onWorking, onFrames, onSpare}
@@ -96,7 +95,7 @@ move-number s _ n (storesSelector b o u v) z c l e =
     step-number t g c _ (onBoard-number b (onWorking restedWorking) (t .bank) refl c (rw (follows-store b storedSelector s .sizes .boards) l))
     ∙ store-number s n c b storedSelector (λ x. refl) g l
 move-number {d} s _ n (givesCopy a o p x y i g u m r) z c l e = other-number s n c _ (boardAt-giveCopy-other o d p (s .bank) c e)
-move-number {d} s _ n (passesOwnership a o p y i g v m) z c l e =
+move-number {d} s _ n (passesOwnership a o p y i g own v m) z c l e =
     step-number s n c _
     (ap (λ (x : Board). x .working .number) (boardAt-passOwnership-other o d p (s .bank) c l e) ∙ droppedIf-number _ p (boardAt (s .bank) c))
 move-number s _ n (dropsCopies p i m) z c l e =
@@ -172,7 +171,7 @@ move-recoverable s _ n (storesFrame b p x u) h = h .gave n
 move-recoverable s _ n (storesHead b x u) h = h .gave n
 move-recoverable s _ n (storesSelector b x u v) h = rw (selects-none x) each-nil
 move-recoverable s _ n (givesCopy a o p x c i g u m r) h = takes-given x (h .gave n) (giver-recoverable s n h o p g)
-move-recoverable s _ n (passesOwnership a o p c i g v m) h = each-cons (giver-recoverable s n h o p g) each-nil
+move-recoverable s _ n (passesOwnership a o p c i g own v m) h = each-cons (giver-recoverable s n h o p g) each-nil
 move-recoverable s _ n (dropsCopies p l m) h = each-nil
 move-recoverable s _ n (performs a i can has out) h = rw (performs-given i) at (h .gave n)
 move-recoverable s _ n (losesPower l) h = each-nil

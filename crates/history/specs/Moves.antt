@@ -34,12 +34,13 @@ use Rattle.model.specs.Moves.{Move, does, Phase, Begun, Noted, Fetched, Replays
 use Rattle.model.specs.Moves.{resumes, closes, MayPerform, local, taken, Secure, Guard, notesShown, notesGot, storesRecord, storesFrame, storesHead}
 use Rattle.model.specs.Moves.{storesSelector, givesCopy, passesOwnership, dropsCopies, performs, losesPower, setsFuse, loads, repeatsAccess, takesLast}
 use Rattle.model.specs.Moves.{settles, Moves, TakesCopy, first, behind, Gives}
-use Rattle.model.specs.Laws.Logic.{byOption, byEq, clash}
+use Rattle.model.specs.Laws.Logic.{byOption, byEq}
 use Rattle.model.specs.Laws.Boards.{onBoard-out, boardAt-same, boardAt-other, boards-onBoard, onBoard-onBoard, boardAt-powerOff-same, powerOff-onBoard}
 use Rattle.model.specs.Laws.Boards.{frameAt-same, tookDue-state, replayed-state, tookCopy, boardAt-giveCopy-same}
 use Rattle.model.specs.Laws.Runs.{lost-not, step-cases, store-cases}
 use Rattle.model.specs.Laws.Runs.Stores.{burnt-working, flushed-storedRecord}
 use Rattle.model.specs.Laws.Keeps.Clauses.{fits, onBoard-keeps, up-below, up-not-down, up-not-replaying}
+use Rattle.model.specs.Laws.Keeps.Rights.{right-from}
 use Rattle.model.specs.Laws.Keeps.Stores.{store-keeps, poweredOff-burnt}
 use Rattle.model.specs.Laws.Keeps.Checkpoint.{storedFrame-fits, storedHead-fits}
 use Rattle.model.specs.Laws.Moves.Formed.{FormedIn, FormedRun, formed-begun, selects-stores, run-formed, induct-formed}
@@ -50,23 +51,24 @@ use Rattle.model.specs.Laws.Codes.Order.{never}
 use Rattle.model.specs.Laws.Codes.Statement.{boardNamed}
 use Rattle.model.specs.Definitions.Answers.{code}
 use Rattle.model.specs.History.Statement.{HistoryEntry, History, ofBoard, entryCount, repeats, withNumberOf, withEntry, nextEntry, Event, Accessed}
-use Rattle.model.specs.History.Statement.{Restarted, LostPower, Nothing, eventOf, fed, accessOf, zeroMemory}
+use Rattle.model.specs.History.Statement.{Restarted, LostPower, Nothing, eventOf, fed, accessOf}
 use Rattle.model.specs.History.Banks.{historyAfter}
 use Rattle.history.specs.Rerun.{Rebuilt, Serves, Joins}
-use Rattle.history.specs.Invariant.{CountsAgree, Explains, ReplayExplains, BoardInvariant, Invariant, memoryAfter, writesPage, settledAs, nobody, onlyOf}
+use Rattle.history.specs.Invariant.{CountsAgree, Explains, ReplayExplains, BoardInvariant, Invariant, writesPage, unstableWrite, settledAs, nobody}
+use Rattle.history.specs.Invariant.{onlyOf}
 use Rattle.history.specs.View.{SameView, view-holds}
 use Rattle.history.specs.Lift.{onBoard-invariant}
 use Rattle.history.specs.PowerLoss.{lostAt}
 use Rattle.history.specs.Traces.{next-exists, next-none}
 use Rattle.history.specs.Unstable.{writes-own}
-use Rattle.history.specs.Rights.{quiet-page, onlyOf-same, onlyOf-other}
+use Rattle.history.specs.Rights.{quiet-held, quiet-page, onlyOf-same, onlyOf-other}
 use Rattle.history.specs.Copies.{readerAhead, giveCopy-invariant, dropCopies-invariant}
 use Rattle.history.specs.Ownership.{writerAhead, gotOwn-invariant, taker-frames, taker-since, passOwnership-invariant}
 use Rattle.history.specs.Logging.{newRecord}
 use Rattle.history.specs.Replaying.{restarted-allUsed, usedUp-number, usedUp-log}
 use Rattle.history.specs.Repeating.{Repeated, took-last, took-below, repeated, replayed-number, replayed-stable, replayed-log}
-use Rattle.history.specs.LoggedRecords.{counts-up, owner-frame}
-use Rattle.history.specs.Accesses.{entryOf, grown, cursor-same, cursor-other, MayAccess, access-invariant}
+use Rattle.history.specs.LoggedRecords.{counts-up}
+use Rattle.history.specs.Accesses.{entryOf, grown, cursor-same, cursor-other, right-frame, MayAccess, access-invariant}
 use Rattle.history.specs.Restarts.{moved, cursors-invariant}
 use Rattle.history.specs.CallsInProgress.{RunMeets, OnlyAhead, nobody-ahead, step-meets, MayLosePower, may-lose, loses-power, burnt-view, all-stable}
 use Rattle.history.specs.CallsInProgress.{none-unstable, storedRecord-invariant, shown-invariant}
@@ -275,13 +277,15 @@ secure-point : {g : ℕ → Option Rebuilt} {h : History} (o : ℕ) (k : Bank) �
     → recoveryPoint (boardAt k o) ≡ length (ofBoard o (h .entries))
 secure-point o k q s = all-stable (q .boards o (up-below k o (s .up))) (s .up) (s .volatile) (s .since)
 
--- an owner's frame of a page
-owner-bytes : (k : Bank) {g : ℕ → Option Rebuilt} {h : History} (o p : ℕ) → Invariant g k h → p < length (k .directory) → entryAt k p .owner ≡ o
-    → boardAt k o .state ≡ Up → frameOf k o p .bytes ≡ memoryAfter zeroMemory (h .entries) p
+-- On a page that a board may give no write is unstable: an owner that gives has stored all that it counted, and while a copy is out there is none.
+giver-quiet : (k : Bank) {g : ℕ → Option Rebuilt} {h : History} (o p : ℕ) → Invariant g k h → p < length (k .directory) → frameOf k o p .right ≢ None
+    → Secure (boardAt k o) → (c : ℕ) → c < length (k .boards) → unstableWrite c (recoveryPoint (boardAt k c)) p (h .entries) ≡ false
 unfolding frameOf entryAt
-owner-bytes k o p q l own u =
-    let i : o < length (k .boards) = up-below k o u in
-    ap (λ (f : Frame). f .bytes) (owner-frame (q .boards o i) u p l (fits (q .formed) o i .alone .fields .selected .frames .count) own)
+giver-quiet k {h = h} o p q l r s c i =
+    elim (right-from (entryAt k p) o (λ e. r (q .formed .boards o (up-below k o (s .up)) .rights (s .up) p l ∙ e))) [
+      | inl own ↦ quiet-page k q p l (rw own (none-unstable o h (boardAt k o) p (secure-point o k q s))) c i
+      | inr held ↦ quiet-held (q .boards c i) p l o held
+    ]
 
 note-frames : (b : ℕ) (kind : Kind) (bytes : List ℕ) (k : Bank) → SameFrames k (note b kind bytes k)
 unfolding note onWorking recorded
@@ -487,17 +491,18 @@ module _ {d : ℕ} (h : History) (a : Access) (o p : ℕ) (k : Bank) (copy : tak
     (u : boardAt k d .state ≡ Up) (none-yet : frameOf k d p .right ≡ None) (formed : WellFormed (giveCopy o d p k)) where
   copied : (c : Copying d h a p k) (ps : List ℕ) → map (λ (r : Record). pageOf (r .kind)) (settledAs (c .ahead d) (boardAt k d) .pending) ≡ ps
       → PagesFetched d h a (ps ++ (p ∷ [])) (giveCopy o d p k)
-  unfolding Serves pageOf tookCopy withFrame onWorking onFrames recorded
+  unfolding Serves pageOf tookCopy withFrame onWorking onFrames recorded frameOf
   copied c ps e =
       let qs : List Record = settledAs (c .ahead d) (boardAt k d) .pending in
       let bytes : List ℕ = frameOf k o p .bytes in
       let own : Record = newRecord (Got GotCopy p) bytes (boardAt k d .working) in
+      let i : o < length (k .boards) = up-below k o (g .secure .up) in
       record {
         ahead = readerAhead o d p k qs;
         holds =
             giveCopy-invariant o d p k (c .holds) (c .only) u (g .page) none-yet (c .shows) (copy-joins k bytes c qs (c .lower) (c .since))
-            (owner-bytes k o p (c .holds) (g .page) (g .owner) (g .secure .up))
-            (quiet-page k (c .holds) p (g .page) (rw (g .owner) (none-unstable o h (boardAt k o) p (secure-point o k (c .holds) (g .secure)))))
+            (right-frame (c .holds .boards o i) (fits (c .holds .formed) o i) (g .secure .up) p (g .page) (g .right))
+            (giver-quiet k o p (c .holds) (g .page) (g .right) (g .secure))
             formed;
         frames = refl;
         pending = each-append qs (own ∷ []) (c .pending) (each-cons (named, sym copy) each-nil);
@@ -568,7 +573,7 @@ module _ (d : ℕ) (h : History) {Again : Access → Type 0} (premise : (a : Acc
       (λ e i. selected-holds-in h k z (q .going n) (onBoard b (onWorking restedWorking) (store b storedSelector s .bank)) i)
   move-holds s _ n (givesCopy a o p x c y g u m r) w v q =
       step-meets _ s q (λ e i. copied-holds h a o p (s .bank) c y g u r (takes-now x _ s n v) x i)
-  move-holds s _ n (passesOwnership a o p c z g y m) w v q =
+  move-holds s _ n (passesOwnership a o p c z g own y m) w v q =
       let k : Bank = s .bank in
       step-meets _ s q
       (λ e i.
@@ -578,7 +583,7 @@ module _ (d : ℕ) (h : History) {Again : Access → Type 0} (premise : (a : Acc
       record {
         ahead = i .ahead;
         holds =
-            passOwnership-invariant o d p k (i .ahead) (i .holds) (g .page) (g .owner) (g .other) (g .secure .up) (y .up)
+            passOwnership-invariant o d p k (i .ahead) (i .holds) (g .page) own (g .other) (g .secure .up) (y .up)
             (none-unstable o h (boardAt k o) p (secure-point o k (i .holds) (g .secure)))
             (y .volatile)
             (secure-point d k (i .holds) y)

@@ -27,7 +27,7 @@ use Rattle.model.specs.Laws.Lists.{each-imp}
 use Rattle.model.specs.Laws.Sets.{member-none}
 use Rattle.model.specs.Laws.Boards.{frameAt-same, droppedIf, ownedBy, tookOwn, boards-passOwnership, boardAt-passOwnership-same, boardAt-passOwnership-other}
 use Rattle.model.specs.Laws.Keeps.Clauses.{fits, up-below}
-use Rattle.model.specs.Laws.Keeps.Rights.{holder-up}
+use Rattle.model.specs.Laws.Keeps.Rights.{not-owner, holder-up}
 use Rattle.model.specs.History.Statement.{HistoryEntry, History, ofBoard, zeroMemory}
 use Rattle.history.specs.Rerun.{Rebuilt, logged, next, LacksFor, MayLog, Joins, Accepts, rebuilt}
 use Rattle.history.specs.Invariant.{memoryAfter, unstableWrite, isShown, settledAs, BoardInvariant, Invariant, nobody, onlyOf}
@@ -37,7 +37,7 @@ use Rattle.history.specs.Logging.{newRecord, recoveryPoint-same, rebuilt
 use Rattle.history.specs.LoggedRecords.{explained-up, owner-frame}
 use Rattle.history.specs.CallsInProgress.{all-rebuilt}
 use Rattle.history.specs.Rights.{kept-on, entry-holds, framed-holds, lost-holds, quiet-unowned, quiet-page, got-holds, onlyOf-same, onlyOf-other}
-use Rattle.history.specs.Rights.{not-owner, entry-invariant}
+use Rattle.history.specs.Rights.{entry-invariant}
 
 -- ---- the writer logs its got
 

@@ -19,9 +19,8 @@ use Rattle.model.specs.Definitions.Calls.{restartBank}
 use Rattle.model.specs.Laws.Logic.{byOption}
 use Rattle.model.specs.Laws.Boards.{boards-onBoard}
 use Rattle.model.specs.Laws.Codes.Statement.{afterReplay}
-use Rattle.model.specs.Laws.Keeps.Clauses.{but, onBoard-but}
+use Rattle.model.specs.Laws.Keeps.Clauses.{but, onBoard-but, isReplaying-replaying}
 use Rattle.model.specs.Contracts.{Fits, InReplay, WellFormedBut, Entered}
-use Rattle.model.specs.Laws.Keeps.Live.{isReplaying-replaying}
 use Rattle.model.specs.Laws.Keeps.Replay.{loaded-inReplay, usedUp-inReplay}
 use Rattle.model.specs.Laws.Keeps.Entered.{board-taken, entered, fitting, below-taken, taken-inReplay, replayed-keeps, live-can}
 use Rattle.model.specs.Laws.Moves.Calls.{ended-formed}

@@ -24,9 +24,9 @@ use Rattle.model.specs.Definitions.Calls.{Result, firstOf, unless, finished, re
 use Rattle.model.specs.Definitions.Calls.{restartBank, Call, Accessing, Checkpointing, Fusing, Restarting, callBank}
 use Rattle.model.specs.Laws.Logic.{byBool, byOption, byEq, casesOption, clash, and-left}
 use Rattle.model.specs.Laws.Codes.Statement.{boardNamed, Due, NeedsGots}
-use Rattle.model.specs.Laws.Keeps.Clauses.{up-not-replaying, down-not-replaying, replaying-place, fits}
+use Rattle.model.specs.Laws.Keeps.Clauses.{up-not-replaying, down-not-replaying, replaying-place, fits, isUp-up, isDown-down}
 use Rattle.model.specs.Laws.Boards.{tookDue-state, boards-onBoard, boardAt-same, boardAt-powerOff-same}
-use Rattle.model.specs.Laws.Keeps.Live.{first-in, NoneOf, isUp-up, isDown-down, firstOf-none}
+use Rattle.model.specs.Laws.Keeps.Live.{first-in, NoneOf, firstOf-none}
 use Rattle.model.specs.Definitions.Layout.{noFuse}
 use Rattle.model.specs.Laws.Runs.{endReplay-self, finished-run}
 use Rattle.model.specs.Laws.Runs.Stores.{endReplay-changed}

@@ -1,6 +1,6 @@
 -- One board where the directory's entry of a page changes, where its frame of a page does, where it drops a page and where it logs a got; and when no
 -- write on a page is unstable. Assumes nothing.
-use mathlib.Core.Path.{_≡_, refl, sym, subst, _∙_}
+use mathlib.Core.Path.{_≡_, refl, sym, subst}
 use mathlib.Core.Logic.{_≢_}
 use Prim.Native.Nat.{ℕ, _<_}
 use native.Mathlib.Omega.{arith}
@@ -10,7 +10,7 @@ use mathlib.Core.List.{List, [], _∷_}
 use lib.ListN.{length, set}
 use borrow.Author.Tests.{eq-eqb, ne-eqb}
 use Rattle.words.specs.Bytes.{Each, each-nil, each-cons}
-use Rattle.types.specs.declared.Right.the-variants.{None, Copy, Own}
+use Rattle.types.specs.declared.Right.the-variants.{Own}
 use Rattle.types.specs.declared.Frame.{Frame}
 use Rattle.types.specs.declared.CopyOrOwn.{CopyOrOwn}
 use Rattle.types.specs.declared.Kind.the-variants.{Got, Dropped}
@@ -20,14 +20,13 @@ use Rattle.model.specs.Definitions.Parts.{zeros, update, member}
 use Rattle.model.specs.Definitions.Layout.{pageSize}
 use Rattle.model.specs.Definitions.Bank.{Entry, Board, Bank, emptyFrame, boardAt, entryAt, frameAt, onWorking, onFrames, noEntry, entryIn}
 use Rattle.model.specs.Definitions.Codec.{pageOf}
-use Rattle.model.specs.Definitions.WellFormed.{rightIn, WellFormed}
-use Rattle.model.specs.Definitions.Steps.{recorded, withFrame, frameOf, dropped}
+use Rattle.model.specs.Definitions.WellFormed.{WellFormed}
+use Rattle.model.specs.Definitions.Steps.{recorded, withFrame, dropped}
 use Rattle.model.specs.Definitions.Replay.{recoveryPoint}
 use Rattle.model.specs.Laws.Logic.{byBool, byOption, byEq, clash}
 use Rattle.model.specs.Laws.Lists.{each-head, each-tail, each-imp, length-update, getD-update-same}
 use Rattle.model.specs.Laws.Sets.{member-none}
-use Rattle.model.specs.Laws.Boards.{frameAt-same, frameAt-other, rightIn-owner, rightIn-copy}
-use Rattle.model.specs.Laws.Keeps.Clauses.{up-below}
+use Rattle.model.specs.Laws.Boards.{frameAt-same, frameAt-other}
 use Rattle.model.specs.Laws.Keeps.Rights.{entryIn-same, entryIn-other}
 use Rattle.model.specs.History.Statement.{HistoryEntry, History, ofBoard, discard, zeroMemory}
 use Rattle.history.specs.Rerun.{Rebuilt, Logged, logged, next, Joins, Accepts, MayLog, rebuilt}
@@ -226,25 +225,6 @@ onlyOf-same b t = cc (eq-eqb b b refl)
 pub onlyOf-other : (b : ℕ) (t : Rebuilt) (c : ℕ) → c ≢ b → onlyOf b t c ≡ none
 unfolding onlyOf
 onlyOf-other b t c n = cc (ne-eqb c b n)
-
--- without the right own an up board is not the owner
-pub not-owner : {k : Bank} → WellFormed k → (b p : ℕ) → boardAt k b .state ≡ Up → p < length (k .directory) → frameOf k b p .right ≢ Own
-    → entryAt k p .owner ≢ b
-unfolding frameOf
-not-owner {k} w b p u l n o = n (w .boards b (up-below k b u) .rights u p l ∙ rightIn-owner (entryAt k p) b o)
-
--- without a right it is neither the owner nor a holder
-pub no-right : {k : Bank} → WellFormed k → (b p : ℕ) → boardAt k b .state ≡ Up → p < length (k .directory) → frameOf k b p .right ≡ None
-    → (entryAt k p .owner ≢ b) × (member b (entryAt k p .copies) ≡ false)
-unfolding frameOf
-no-right {k} w b p u l n =
-    let other : entryAt k p .owner ≢ b = not-owner w b p u l (λ e. let z : _≡_ {A = ℕ} 0 1 = cc in omega arith) in
-    let r : None ≡ rightIn (entryAt k p) b = sym n ∙ w .boards b (up-below k b u) .rights u p l in (
-      other,
-      byBool (member b (entryAt k p .copies))
-          (λ t. let c : rightIn (entryAt k p) b ≡ Copy = rightIn-copy (entryAt k p) b other t in let z : _≡_ {A = ℕ} 0 1 = cc in absurd (omega arith))
-          (λ t. t),
-    )
 
 -- one entry of the directory changes, and boards with it
 pub entry-invariant : (p : ℕ) (f : Entry → Entry) (k j : Bank) {g g' : ℕ → Option Rebuilt} {h : History} → Invariant g k h → WellFormed j

@@ -4,6 +4,7 @@ pub mod Digest
 pub mod Table
 pub mod Conversions
 pub mod Cells
+pub mod Holders
 pub mod Worked
 pub mod Running
 pub mod Computed

@@ -1,5 +1,6 @@
 -- The words of contracts inside the engine: what a function asks of a bank, a board or an access, because the tests before it have shown it. Needed to read
--- those contracts. Of what a reader believes only the counts of records are here (Laws/Codes/Statement says code 7 with them). No law stands here.
+-- those contracts. Of what a reader believes only the counts of records and the room for more are here (Laws/Codes/Statement says code 7 with them,
+-- History/ServedStatement what a read needs). No law stands here.
 -- Assumes nothing.
 use mathlib.Core.Path.{_≡_}
 use mathlib.Core.Logic.{_≢_}
@@ -117,14 +118,14 @@ pub record CanAccess (b : ℕ) (a : Access) (k : Bank) : Type 0 where
 -- the needs of a board added up over the pages that board b fetches
 unfoldable pub fetchNeeds : CopyOrOwn → Bank → ℕ → List ℕ → ℕ → ℕ
 fetchNeeds g k b [] c = 0
-fetchNeeds g k b (p ∷ ps) c = fetchNeed g k b (giver k p) p c + fetchNeeds g k b ps c
+fetchNeeds g k b (p ∷ ps) c = fetchNeed g k b (giver g k p) p c + fetchNeeds g k b ps c
 
--- pages are fetched by board b: taker and owners are up boards, the taker no owner, and each board has the room that code 7 asks for
+-- pages are fetched by board b: taker and givers are up boards, the taker gives none, and each board has the room that code 7 asks for
 pub record CanFetch (g : CopyOrOwn) (b : ℕ) (ps : List ℕ) (k : Bank) : Type 0 where
   pub pages : Each (λ p. p < length (k .directory)) ps
   pub taker : boardAt k b .state ≡ Up
-  pub owners : Each (λ p. boardAt k (giver k p) .state ≡ Up) ps
-  pub others : Each (λ p. giver k p ≢ b) ps
+  pub givers : Each (λ p. boardAt k (giver g k p) .state ≡ Up) ps
+  pub others : Each (λ p. giver g k p ≢ b) ps
   pub room : (c : ℕ) → c < length (k .boards) → RoomFor (fetchNeeds g k b ps c) (boardAt k c)
 
 -- what an access needs of its board

@@ -9,3 +9,4 @@ pub mod ReplayEndsStatement
 pub mod AloneStatement
 pub mod ConversionStatement
 pub mod CellsStatement
+pub mod ServedStatement

@@ -15,6 +15,7 @@ pub mod CodecBankBack
 pub mod WellFormedTest
 pub mod Fresh
 pub mod Boards
+pub mod States
 pub mod Below
 pub mod Valid
 pub mod BoardFields
@@ -23,6 +24,7 @@ pub mod Keeps
 pub mod Moves
 pub mod Codes
 pub mod CellsRead
+pub mod Served
 pub mod Refusals
 pub mod FewStores
 pub mod LargestSince

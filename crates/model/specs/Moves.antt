@@ -118,10 +118,10 @@ pub record Secure (x : Board) : Type 0 where
   pub since : x .working .since ≡ 0
   pub volatile : x .working .log .records ≡ []
 
--- board o owns page p, which another board takes, and can't lose what it wrote
+-- board o has a right to page p, which another board takes, and has stored all that it counted
 pub record Gives (o d p : ℕ) (k : Bank) : Type 0 where
   pub page : p < length (k .directory)
-  pub owner : entryAt k p .owner ≡ o
+  pub right : frameOf k o p .right ≢ None
   pub other : o ≢ d
   pub secure : Secure (boardAt k o)
 
@@ -137,7 +137,7 @@ pub data Guard (d : ℕ) (Again : Access → Type 0) (k : Bank) : Move → Phase
   storesSelector : (b : ℕ) {φ ψ : Phase} → Selects d b φ ψ → boardAt k b .state ≡ Up → Saved (boardAt k b) → Guard d Again k (StoreSelector b) φ ψ
   givesCopy : (a : Access) (o p : ℕ) {φ ψ : Phase} → TakesCopy a o p φ ψ → takes a ≡ GotCopy → names a p ≡ true → Gives o d p k → boardAt k d .state ≡ Up
       → RoomFor 1 (boardAt k d) → frameOf k d p .right ≡ None → Guard d Again k (GiveCopy o d p) φ ψ
-  passesOwnership : (a : Access) (o p : ℕ) → takes a ≡ GotOwn → names a p ≡ true → Gives o d p k → Secure (boardAt k d)
+  passesOwnership : (a : Access) (o p : ℕ) → takes a ≡ GotOwn → names a p ≡ true → Gives o d p k → entryAt k p .owner ≡ o → Secure (boardAt k d)
       → ((c : ℕ) → c < length (k .boards) → c ≢ d → (eqb c o || member c (entryAt k p .copies)) ≡ true → RoomFor 1 (boardAt k c))
       → Guard d Again k (PassOwnership o d p) (Noted o p) (Fetched a (o ∷ []) (p ∷ []))
   dropsCopies : (p : ℕ) → p < length (k .directory) → ((c : ℕ) → c < length (k .boards) → member c (entryAt k p .copies) ≡ true → RoomFor 1 (boardAt k c))

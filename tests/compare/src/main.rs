@@ -13,6 +13,7 @@ use second::asked;
 use second::calls::Answer;
 use second::damage;
 use second::fault::{self, Fault, FAULTS};
+use second::fetches::Fetch;
 use second::gen::{Generator, LONG_SCRIPT};
 use second::layout::{Layout, NEWEST, OLDER};
 use second::line::Line;
@@ -83,12 +84,18 @@ impl Comparing {
             return Ok(());
         }
         // Which case it is can be told of well-formed banks.
-        let shelf = match (source, line) {
-            (Source::Script | Source::Made, Line::Call(call)) => Shelf::asked(&pair.archive, call),
-            _ => None,
+        let (shelf, fetch) = match (source, line) {
+            (Source::Script | Source::Made, Line::Call(call)) => (
+                Shelf::asked(&pair.archive, call),
+                Fetch::asked(&pair.archive, call),
+            ),
+            _ => (None, None),
         };
         let answer = pair.take(line)?;
         self.met.call(source, line, answer);
+        if let Some(fetch) = fetch {
+            self.met.fetch(source, &fetch, answer);
+        }
         if let Some(shelf) = shelf {
             self.met.shelf(&shelf, answer);
         }

@@ -2,8 +2,10 @@
 
 use crate::engines::unpacked;
 use second::calls::Call;
+use second::cases::Cases;
+use second::fetches::{self, Fetch};
 use second::line::Line;
-use second::shelves::{Shelf, Shelves, ROWS};
+use second::shelves::{self, Shelf};
 
 #[derive(Clone, Copy)]
 pub enum Source {
@@ -48,12 +50,17 @@ const CODES: [usize; 10] = [0, 1, 2, 3, 4, 5, 6, 7, 8, 10];
 const MOST_CODE: usize = 10;
 const CONVERT: usize = 8;
 
+/// The two sources whose fetches are looked at.
+const FETCH_SOURCES: [&str; 2] = ["random scripts", "made by hand"];
+
 pub struct Met {
     pub calls: u64,
     answered: [[u64; MOST_CODE + 1]; KINDS.len()],
     /// For each source its banks, its calls and those answered 1.
     sources: [[u64; 3]; SOURCES.len()],
-    shelves: Shelves,
+    shelves: Cases<Shelf>,
+    /// In random scripts, and in banks made by hand.
+    fetches: [Cases<Fetch>; 2],
 }
 
 fn kind_of(line: &Line) -> usize {
@@ -75,12 +82,18 @@ impl Met {
             calls: 0,
             answered: Default::default(),
             sources: Default::default(),
-            shelves: Shelves::new(),
+            shelves: shelves::all(),
+            fetches: [fetches::cases(), fetches::cases()],
         }
     }
 
     pub fn shelf(&mut self, shelf: &Shelf, answer: u64) {
         self.shelves.count(shelf, &unpacked(answer));
+    }
+
+    pub fn fetch(&mut self, source: Source, fetch: &Fetch, answer: u64) {
+        let made = matches!(source, Source::Made) as usize;
+        self.fetches[made].count(fetch, &unpacked(answer));
     }
 
     pub fn bank(&mut self, source: Source) {
@@ -115,11 +128,15 @@ impl Met {
         for (name, [banks, calls, refused]) in SOURCES.iter().zip(&self.sources) {
             println!("{name}: {banks} banks, {calls} calls, {refused} of them with code 1");
         }
-        self.shelves.print(ROWS.len());
+        self.shelves.print();
+        for (fetches, source) in self.fetches.iter().zip(FETCH_SOURCES) {
+            print!("{source}: ");
+            fetches.print();
+        }
         println!("never met: {}", self.never_met());
     }
 
-    /// Calls with a code that they can answer and didn't, and cases of shelf calls that didn't come.
+    /// Calls with a code that they can answer and didn't, and cases of shelf calls and of fetches that didn't come.
     fn never_met(&self) -> String {
         let mut missing: Vec<String> = KINDS
             .iter()
@@ -132,6 +149,10 @@ impl Met {
             })
             .collect();
         missing.extend(self.shelves.missing().map(String::from));
+        for (fetches, source) in self.fetches.iter().zip(FETCH_SOURCES) {
+            let rows = fetches.missing().map(|row| format!("{source}: {row}"));
+            missing.extend(rows);
+        }
         if missing.is_empty() {
             "none".into()
         } else {

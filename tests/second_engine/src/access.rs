@@ -4,7 +4,7 @@
 use crate::engine::{Engine, Refusal, Step};
 use crate::fault::Fault;
 use crate::layout::*;
-use crate::watch::{Flush, Turn};
+use crate::watch::{Flush, Giver, Turn};
 
 /// One byte of one page.
 #[derive(Clone, Copy, PartialEq, Eq, Debug)]
@@ -46,6 +46,13 @@ impl Access {
 /// How many records each board must have room for.
 type Needs = [usize; MAX_BOARDS];
 
+/// A page that is fetched, and who gives it.
+#[derive(Clone, Copy)]
+struct Gift {
+    page: usize,
+    giver: usize,
+}
+
 impl<const FORM: Form> Engine<'_, FORM> {
     /// An access of an up board.
     pub fn live(&mut self, access: &Access) -> Step {
@@ -58,7 +65,7 @@ impl<const FORM: Form> Engine<'_, FORM> {
         match (access.deed, &self.lacking(access)[..]) {
             (Deed::Read | Deed::Shelf, pages) => self.read_fetch(access, pages)?,
             (Deed::Write(_), []) => self.recall_copies(access.cells[0].page)?,
-            (Deed::Write(_), [page, ..]) => self.write_fetch(access.board, *page)?,
+            (Deed::Write(_), pages) => self.write_fetch(access, pages)?,
         }
         self.touch(access);
         Ok(())
@@ -97,19 +104,71 @@ impl<const FORM: Form> Engine<'_, FORM> {
         cells
     }
 
-    /// All owners record shown and store first, page by page; only then are the copies taken, together with the access.
+    /// Who gives a page to this access: its owner if up; to a reader otherwise the lowest holder.
+    pub fn giver(&self, access: &Access, page: usize) -> Option<usize> {
+        let owner = self.owner(page);
+        if self.gives_as_owner(owner) {
+            return Some(owner);
+        }
+        let mut holders = Self::holders(self.copies(page));
+        match (access.wanted(), self.fault) {
+            (OWN, Fault::HolderServesWrite) => holders.find(|holder| *holder != access.board),
+            (OWN, _) | (_, Fault::OwnerAlone) => None,
+            (_, Fault::HighestHolder) => holders.last(),
+            _ => holders.next(),
+        }
+    }
+
+    fn gives_as_owner(&self, owner: usize) -> bool {
+        match self.state(owner) {
+            REPLAYING => self.fault == Fault::ReplayingGives,
+            state => state == UP,
+        }
+    }
+
+    /// The pages with their givers; code 6 for the owner of the lowest that nobody can give.
+    fn gifts(&self, access: &Access, pages: &[usize]) -> Step<Vec<Gift>> {
+        if let Some(page) = self.first_missed(access, pages) {
+            let holder = Self::holders(self.copies(page)).next();
+            let who = match self.fault {
+                Fault::SixNamesHolder => holder.unwrap_or(self.owner(page)),
+                _ => self.owner(page),
+            };
+            return Err(Refusal { code: 6, who });
+        }
+        let gift = |page: &usize| {
+            let giver = self.giver(access, *page)?;
+            Some(Gift { page: *page, giver })
+        };
+        Ok(pages.iter().filter_map(gift).collect())
+    }
+
+    /// The lowest page that nobody can give.
+    fn first_missed(&self, access: &Access, pages: &[usize]) -> Option<usize> {
+        let missed = |page: &usize| self.giver(access, *page).is_none();
+        let owner_not_up = |page: &usize| self.state(self.owner(*page)) != UP;
+        let lowest = pages.iter().copied().find(missed)?;
+        let mut asked = access.cells.iter().map(|cell| cell.page);
+        match self.fault {
+            Fault::SixAsAsked => asked.find(|page| pages.contains(page) && missed(page)),
+            Fault::SixOfGivenPage => pages.iter().copied().find(owner_not_up),
+            _ => Some(lowest),
+        }
+    }
+
+    /// All givers record shown and store first, page by page; only then are the copies taken, together with the access.
     fn read_fetch(&mut self, access: &Access, lacking: &[usize]) -> Step {
-        let pages = &self.fetching_order(access, lacking)[..];
-        self.owners_up(access, pages)?;
-        self.room(&self.reading_needs(access, pages))?;
-        for (place, page) in pages.iter().enumerate() {
-            self.show_to_reader(pages, place)?;
+        let pages = self.fetching_order(access, lacking);
+        let gifts = &self.gifts(access, &pages)?[..];
+        self.room(&self.reading_needs(access, gifts))?;
+        for (place, gift) in gifts.iter().enumerate() {
+            self.show_to_reader(gifts, place)?;
             if self.fault == Fault::CopiesOneByOne {
-                self.take_copies(access.board, &[*page]);
+                self.take_copies(access.board, &[*gift]);
             }
         }
         if self.fault != Fault::CopiesOneByOne {
-            self.take_copies(access.board, pages);
+            self.take_copies(access.board, gifts);
         }
         Ok(())
     }
@@ -126,88 +185,92 @@ impl<const FORM: Form> Engine<'_, FORM> {
         pages
     }
 
-    /// Code 6 for the owner of the lowest page whose owner isn't up.
-    fn owners_up(&self, access: &Access, pages: &[usize]) -> Step {
-        let asked = access.cells.iter().map(|cell| cell.page);
-        let pages: Vec<usize> = match self.fault {
-            Fault::SixAsAsked => asked.filter(|page| pages.contains(page)).collect(),
-            _ => pages.to_vec(),
-        };
-        pages
-            .iter()
-            .try_for_each(|page| self.up_owner(*page).map(|_| ()))
-    }
-
-    /// The needs of all pages added up: the reader's and the owner's one for each.
-    fn reading_needs(&self, access: &Access, pages: &[usize]) -> Needs {
+    /// The needs of all pages added up: the reader's and the giver's one for each.
+    fn reading_needs(&self, access: &Access, gifts: &[Gift]) -> Needs {
         let mut needs = Needs::default();
-        for page in pages {
+        for Gift { page, giver } in gifts {
             let cells = access.cells.iter().filter(|cell| cell.page == *page);
             let times = match self.fault {
                 Fault::NeedsOfCells => cells.count(),
                 _ => 1,
             };
             needs[access.board] += times;
-            needs[self.owner(*page)] += times;
+            needs[*giver] += times;
+            if self.fault == Fault::OwnerCharged && *giver != self.owner(*page) {
+                needs[self.owner(*page)] += times;
+            }
         }
         needs
     }
 
-    /// The owner of the page at a place in the list records shown and flushes.
-    fn show_to_reader(&mut self, pages: &[usize], place: usize) -> Step {
-        let owner = self.owner(pages[place]);
+    /// The giver of the page at a place in the list records shown and flushes.
+    fn show_to_reader(&mut self, gifts: &[Gift], place: usize) -> Step {
+        let Gift { page, giver } = gifts[place];
         let now = match self.fault {
-            Fault::ShowTogether if place == 0 => pages,
+            Fault::ShowTogether if place == 0 => gifts,
             Fault::ShowTogether => &[],
-            _ => &pages[place..=place],
+            _ => &gifts[place..=place],
         };
-        for page in now {
-            self.record(self.owner(*page), SHOWN, *page, [0; PAGE]);
+        for Gift { page, giver } in now {
+            if self.fault != Fault::HolderUnshown || *giver == self.owner(*page) {
+                self.record(*giver, SHOWN, *page, [0; PAGE]);
+            }
         }
-        let gave_before = pages[..place].iter().any(|page| self.owner(*page) == owner);
         let turn = match place {
-            _ if gave_before => Turn::Again,
-            0 if pages.len() == 1 => Turn::Alone,
+            _ if gifts[..place].iter().any(|gift| gift.giver == giver) => Turn::Again,
+            0 if gifts.len() == 1 => Turn::Alone,
             0 => Turn::First,
             _ => Turn::Later,
         };
-        self.flush(owner, Flush::OwnerShowsReader(turn))
+        let kind = match giver == self.owner(page) {
+            true => Giver::Owner,
+            false if self.fault == Fault::HolderUnstored => return Ok(()),
+            false => Giver::Holder,
+        };
+        self.flush(giver, Flush::ShowsReader(kind, turn))
     }
 
     /// The reader's gots follow each other, so that all but the first have count 0. No store is made.
-    fn take_copies(&mut self, reader: usize, pages: &[usize]) {
+    fn take_copies(&mut self, reader: usize, gifts: &[Gift]) {
         let since = self.since(reader);
-        for page in pages {
+        for Gift { page, giver } in gifts {
             let owner = self.owner(*page);
-            let bytes = self.page_bytes(owner, *page);
+            let bytes = match self.fault {
+                Fault::OwnersBytes => self.page_bytes(owner, *page),
+                _ => self.page_bytes(*giver, *page),
+            };
             if self.fault == Fault::GotsKeepCount {
                 self.put_since(reader, since);
             }
             self.record(reader, GOT_COPY, *page, bytes);
             self.set_frame(reader, *page, COPY, bytes);
             let copies = self.layout.copies(*page);
-            self.bank[copies] |= 1 << reader;
-            self.watch.givers.push(owner);
+            if self.fault != Fault::CopyUnlisted || *giver == owner {
+                self.bank[copies] |= 1 << reader;
+            }
+            self.watch.givers.push(*giver);
         }
     }
 
-    fn write_fetch(&mut self, writer: usize, page: usize) -> Step {
-        let owner = self.up_owner(page)?;
-        let others = self.copies(page) & !(1 << writer);
+    fn write_fetch(&mut self, access: &Access, pages: &[usize]) -> Step {
+        let Gift { page, giver } = self.gifts(access, pages)?[0];
+        let writer = access.board;
+        // Only a wrong engine's giver is in the copy-set.
+        let others = self.copies(page) & !(1 << writer) & !(1 << giver);
         let mut needs = Needs::default();
         needs[writer] += 1;
-        needs[owner] += 2;
+        needs[giver] += 2;
         Self::holders(others).for_each(|holder| needs[holder] += 1);
         self.room(&needs)?;
-        self.show_to_writer(owner, page)?;
-        let bytes = self.page_bytes(owner, page);
+        self.show_to_writer(giver, page)?;
+        let bytes = self.page_bytes(giver, page);
         if self.fault == Fault::EarlyOwner {
             self.name_owner(page, writer);
         }
         self.record(writer, GOT_OWN, page, bytes);
         self.flush(writer, Flush::Writer)?;
-        self.pass_ownership(owner, others, writer, page, bytes);
-        self.watch.givers.push(owner);
+        self.pass_ownership(giver, others, writer, page, bytes);
+        self.watch.givers.push(giver);
         Ok(())
     }
 
@@ -257,18 +320,6 @@ impl<const FORM: Form> Engine<'_, FORM> {
     fn drop_right(&mut self, board: usize, page: usize) {
         self.record(board, DROPPED, page, [0; PAGE]);
         self.clear_frame(board, page);
-    }
-
-    fn up_owner(&self, page: usize) -> Step<usize> {
-        let owner = self.owner(page);
-        if self.state(owner) == UP {
-            Ok(owner)
-        } else {
-            Err(Refusal {
-                code: 6,
-                who: owner,
-            })
-        }
     }
 
     /// Code 7 for the lowest board whose log lacks room.

@@ -1,5 +1,6 @@
 //! Which call comes next on a bank: numbers in range mostly, at and past every limit sometimes.
 
+use crate::absent::{pages, Page};
 use crate::calls::{Call, MOST_CELLS};
 use crate::engine::on_copy;
 use crate::layout::*;
@@ -137,14 +138,53 @@ pub fn make(random: &mut Random, layout: Layout) -> Line {
     }
 }
 
-/// Mostly an access that a replaying board's log waits for, if the bank has such a board; else any call.
+/// Mostly an access that a replaying board's log waits for, if the bank has such a board; sometimes a fetch of pages that
+/// holders alone can give; else any call.
 pub fn fitting(random: &mut Random, bank: &[u8]) -> Line {
     let layout = Layout::of(bank);
+    if random.permille(100) {
+        if let Some(call) = held(random, bank, layout) {
+            return call.into();
+        }
+    }
     let board = random.below(layout.boards as u32) as usize;
     if bank[layout.state(board)] != REPLAYING || random.permille(300) {
         return any(random, layout, 985);
     }
     awaited(random, bank, layout, board).into()
+}
+
+/// A fetch of pages whose owner isn't up and of which copies are out; none if every up board has the one it looks at.
+fn held(random: &mut Random, bank: &[u8], layout: Layout) -> Option<Call> {
+    let held: Vec<Page> = pages(bank, layout).filter(Page::held).collect();
+    if held.is_empty() {
+        return None;
+    }
+    let page = &held[random.below(held.len() as u32) as usize];
+    let readers = page.readers();
+    if readers.is_empty() {
+        return None;
+    }
+    let board = random.pick(&readers) as u32;
+    let (page, offset) = (page.page as u32, random.below(PAGE as u32));
+    let value = random.below(256);
+    Some(match random.below(5) {
+        0 => Call::Write {
+            board,
+            page,
+            offset,
+            value,
+        },
+        1 | 2 => Call::Read {
+            board,
+            page,
+            offset,
+        },
+        _ => {
+            let pages = held.iter().map(|page| page.page as u8);
+            near_shelf(random, layout, board, pages.collect())
+        }
+    })
 }
 
 /// What the gots that are due are needed by, or nearly; else an access to a page that the board has a right to.
@@ -159,15 +199,22 @@ fn awaited(random: &mut Random, bank: &[u8], layout: Layout, board: usize) -> Ca
         [alone] => alone,
         _ => group[random.below(group.len() as u32) as usize],
     };
+    if !group.is_empty() && random.permille(200) {
+        if let Some(fuse) = fuse_of_giver(random, bank, layout) {
+            return fuse;
+        }
+    }
     let shelf_chance = [500, 300, 900][group.len().min(2)];
     let (board, page) = (board as u32, page as u32);
     let offset = random.below(PAGE as u32);
     if random.permille(shelf_chance) {
-        let pages = group
-            .iter()
-            .map(|(_, page)| *page as u8)
-            .chain([page as u8]);
-        return near_shelf(random, layout, board, pages.collect());
+        let mut named: Vec<u8> = group.iter().map(|(_, page)| *page as u8).collect();
+        named.push(page as u8);
+        if random.permille(500) {
+            let held = pages(bank, layout).filter(Page::held);
+            named.extend(held.map(|page| page.page as u8));
+        }
+        return near_shelf(random, layout, board, named);
     }
     match kind {
         GOT_COPY => Call::Read {
@@ -182,6 +229,18 @@ fn awaited(random: &mut Random, bank: &[u8], layout: Layout, board: usize) -> Ca
             value: random.below(256),
         },
     }
+}
+
+/// A short fuse for a board that may have to give, as owner or as holder.
+fn fuse_of_giver(random: &mut Random, bank: &[u8], layout: Layout) -> Option<Call> {
+    let mut givers: Vec<usize> = pages(bank, layout)
+        .filter_map(|page| page.giver())
+        .collect();
+    givers.dedup();
+    let place = random.below(givers.len() as u32) as usize;
+    let board = *givers.get(place)? as u32;
+    let stores = random.between(1, 4);
+    Some(Call::Fuse { board, stores })
 }
 
 /// A shelf call of these pages, in any order; sometimes one is left out or another comes in.

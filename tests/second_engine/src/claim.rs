@@ -148,8 +148,8 @@ impl Judge {
     fn recovery(&mut self, bank: &[u8], answer: &Answer, watch: &Watch) -> Result<(), String> {
         let layout = Layout::of(bank);
         if answer.code == 0 {
-            for owner in &watch.givers {
-                self.grants[*owner] = get32(bank, layout.number(*owner)) as u64;
+            for giver in &watch.givers {
+                self.grants[*giver] = get32(bank, layout.number(*giver)) as u64;
             }
         }
         for board in 0..layout.boards {

@@ -2,11 +2,14 @@
 //! Printed at the end of a run.
 
 use crate::calls::{Answer, Call};
+use crate::cases::Cases;
 use crate::claim::Last;
 use crate::engine::on_copy;
+use crate::fetches::{self, Fetch};
+use crate::given::{Before, Given};
 use crate::layout::*;
 use crate::line::Line;
-use crate::shelves::{Shelf, Shelves, REACHED};
+use crate::shelves::{self, Shelf};
 use crate::trial::Trial;
 use crate::watch::{phase_name, phases, PHASES};
 
@@ -74,6 +77,8 @@ pub struct Asked {
     shelf: Option<Shelf>,
     /// The board has several gots due, and the line asks for a single access.
     single_at_group: bool,
+    fetch: Option<Fetch>,
+    call: Option<(Call, Before)>,
 }
 
 impl Asked {
@@ -86,6 +91,8 @@ impl Asked {
             zero_fuse: ZeroFuse::asked(trial, line),
             shelf: Shelf::asked(bank, &call),
             single_at_group: at_group(bank, &call),
+            fetch: Fetch::asked(bank, &call),
+            call: Some((call.clone(), Before::of(trial, bank, &call))),
         }
     }
 }
@@ -101,7 +108,7 @@ fn at_group(bank: &[u8], call: &Call) -> bool {
 }
 
 pub struct Counters {
-    pub scripts: u64,
+    scripts: u64,
     pub premises_broken: u64,
     calls: u64,
     codes: [u64; 11],
@@ -114,9 +121,11 @@ pub struct Counters {
     zero_fuses: [[u64; 2]; ZERO_FUSES.len()],
     /// Records with a count above 65,535: made, and used in a replay.
     wide_records: [u64; 2],
-    shelves: Shelves,
+    shelves: Cases<Shelf>,
     /// Reads and writes that got code 5 because of several gots that go together.
     single_at_group: u64,
+    fetches: Cases<Fetch>,
+    given: Given,
 }
 
 fn last_index(last: Last) -> usize {
@@ -142,9 +151,16 @@ impl Counters {
             gone_live: [0; 9],
             zero_fuses: Default::default(),
             wide_records: [0; 2],
-            shelves: Shelves::new(),
+            shelves: shelves::reached(),
             single_at_group: 0,
+            fetches: fetches::cases(),
+            given: Given::default(),
         }
+    }
+
+    pub fn begin_script(&mut self) {
+        self.scripts += 1;
+        self.given.begin_script();
     }
 
     /// Counts a line that the trial has just taken.
@@ -170,6 +186,13 @@ impl Counters {
             self.shelves.count(&shelf, answer);
         }
         self.single_at_group += (asked.single_at_group && answer.code == 5) as u64;
+        if let Some(fetch) = &asked.fetch {
+            self.fetches.count(fetch, answer);
+        }
+        if let Some((call, before)) = &asked.call {
+            let fetch = asked.fetch.as_ref();
+            self.given.take(trial, call, answer, before, fetch);
+        }
     }
 
     /// Counts those of a whole script.
@@ -208,8 +231,10 @@ impl Counters {
                 .filter(|count| **count == 0)
                 .count()
             + zero_fuses.iter().filter(|count| **count == 0).count()
-            + self.shelves.never_met(REACHED)
+            + self.shelves.missing().count()
             + (self.single_at_group == 0) as usize
+            + self.fetches.missing().count()
+            + self.given.never_met()
     }
 
     pub fn print(&self) {
@@ -242,11 +267,13 @@ impl Counters {
         }
         let [made, used] = self.wide_records;
         println!("records with a count above 65,535, made and used in a replay: {made} {used}");
-        self.shelves.print(REACHED);
+        self.shelves.print();
         println!(
             "reads and writes with code 5 at several gots that go together: {}",
             self.single_at_group
         );
+        self.fetches.print();
+        self.given.print();
         println!("never met: {}", self.never_met());
     }
 }

@@ -1,6 +1,7 @@
 //! The wrong engines: each has one fault, and each must be caught.
 //! The first five are the faults a bench sale would hide, the next six must not satisfy any contract, the next five
-//! get a fuse of 0 wrong, the next two a wide since, the next six a conversion, and the rest a shelf call.
+//! get a fuse of 0 wrong, the next two a wide since, the next six a conversion, the next eighteen a shelf call, and the
+//! rest a page that a holder gives while its owner isn't up.
 
 #[derive(Clone, Copy, PartialEq, Eq, Debug)]
 pub enum Fault {
@@ -47,6 +48,17 @@ pub enum Fault {
     SixAsAsked,
     ShelfValue,
     TenBeforeTwo,
+    HighestHolder,
+    HolderUnstored,
+    HolderUnshown,
+    OwnerCharged,
+    HolderServesWrite,
+    OwnerAlone,
+    SixNamesHolder,
+    SixOfGivenPage,
+    ReplayingGives,
+    OwnersBytes,
+    CopyUnlisted,
 }
 
 /// What must catch a fault.
@@ -97,7 +109,7 @@ const fn kind(
     }
 }
 
-pub const FAULTS: [FaultKind; 42] = [
+pub const FAULTS: [FaultKind; 53] = [
     kind(
         Fault::KeepCopy,
         "keep-copy",
@@ -246,13 +258,13 @@ pub const FAULTS: [FaultKind; 42] = [
         Fault::CopiesOneByOne,
         "copies-one-by-one",
         Catcher::Claim,
-        "a shelf call that takes each copy right after its owner's store",
+        "a shelf call that takes each copy right after its giver's store",
     ),
     kind(
         Fault::ShowTogether,
         "show-together",
         Catcher::Beside,
-        "a shelf call whose owners all record before the first stores",
+        "a shelf call whose givers all record before the first stores",
     ),
     kind(
         Fault::FetchAsAsked,
@@ -336,7 +348,7 @@ pub const FAULTS: [FaultKind; 42] = [
         Fault::SixAsAsked,
         "six-as-asked",
         Catcher::Beside,
-        "a shelf call whose code 6 names the first asked page's owner that isn't up",
+        "a shelf call whose code 6 names the owner of the first asked page that nobody can give",
     ),
     kind(
         Fault::ShelfValue,
@@ -349,6 +361,72 @@ pub const FAULTS: [FaultKind; 42] = [
         "ten-before-two",
         Catcher::Beside,
         "tests code 10 before code 2",
+    ),
+    kind(
+        Fault::HighestHolder,
+        "highest-holder",
+        Catcher::Beside,
+        "the highest holder gives",
+    ),
+    kind(
+        Fault::HolderUnstored,
+        "holder-unstored",
+        Catcher::Claim,
+        "a holder that gives records shown and doesn't flush",
+    ),
+    kind(
+        Fault::HolderUnshown,
+        "holder-unshown",
+        Catcher::Claim,
+        "a holder that gives flushes and doesn't record shown",
+    ),
+    kind(
+        Fault::OwnerCharged,
+        "owner-charged",
+        Catcher::Claim,
+        "code 7 counts a need of the owner although it isn't up and a holder gives",
+    ),
+    kind(
+        Fault::HolderServesWrite,
+        "holder-serves-write",
+        Catcher::Beside,
+        "a holder gives the page to a writer while the owner isn't up",
+    ),
+    kind(
+        Fault::OwnerAlone,
+        "owner-alone",
+        Catcher::Claim,
+        "code 6 although a holder could give",
+    ),
+    kind(
+        Fault::SixNamesHolder,
+        "six-names-holder",
+        Catcher::Beside,
+        "a write's code 6 that names the lowest holder",
+    ),
+    kind(
+        Fault::SixOfGivenPage,
+        "six-of-given-page",
+        Catcher::Beside,
+        "a shelf call whose code 6 names an owner that isn't up although a holder could give that page",
+    ),
+    kind(
+        Fault::ReplayingGives,
+        "replaying-gives",
+        Catcher::Claim,
+        "an owner that is replaying gives as if it were up",
+    ),
+    kind(
+        Fault::OwnersBytes,
+        "owners-bytes",
+        Catcher::Claim,
+        "the copy has the bytes of the owner's frame although a holder gives",
+    ),
+    kind(
+        Fault::CopyUnlisted,
+        "copy-unlisted",
+        Catcher::Claim,
+        "a copy that a holder gave is not in the copy-set",
     ),
 ];
 

@@ -47,7 +47,7 @@ fn try_seed(seed: u64, fault: Fault, counters: &mut Counters) -> Result<(), Fail
     let mut generator = Generator::with_shelves(seed, lines);
     let mut trial = Trial::new(fault);
     let mut script = Vec::with_capacity(lines as usize);
-    counters.scripts += 1;
+    counters.begin_script();
     for _ in 0..lines {
         let line = generator.next(&trial);
         let asked = Asked::of(&trial, line.read().as_ref());
@@ -89,7 +89,7 @@ fn try_no_bank(seed: u64, fault: Fault, counters: &mut Counters) {
     let mut generator = Generator::with_shelves(seed, 0);
     let mut source = Trial::new(fault);
     let mut trial = Trial::new(fault);
-    counters.scripts += 1;
+    counters.begin_script();
     let refused = Line::Make {
         boards: 9,
         pages: 1,

@@ -18,17 +18,18 @@ pub const LONG_SCRIPT: u32 = 70_000;
 const LONG_READING: u32 = 65_540;
 
 /// A run of lines that was begun and isn't over.
-enum Run {
+pub enum Run {
     Same(Line, u32),
     Repeats(usize, u32),
 }
 
-/// Chooses the lines of a script; without shelf calls unless these are asked for.
+/// Chooses the lines of a script; for the line runner without shelf calls, and without lines about absent owners that are
+/// chosen on purpose.
 pub struct Generator {
     pub random: Random,
     pub profile: Profile,
     /// The last one comes first.
-    runs: Vec<Run>,
+    pub runs: Vec<Run>,
     long_reading_due: bool,
 }
 
@@ -49,10 +50,12 @@ impl Generator {
         }
     }
 
-    /// With shelf calls too, which the line runner has no line for.
+    /// With shelf calls too, which the line runner has no line for, and with owners that are absent on purpose.
     pub fn with_shelves(seed: u64, lines: u32) -> Generator {
         let mut generator = Generator::new(seed, lines);
-        generator.profile.shelves = Random::new(!seed).pick(&[50, 200, 200, 500]);
+        let mut random = Random::new(!seed);
+        generator.profile.shelves = random.pick(&[50, 200, 200, 500]);
+        generator.profile.absent = random.pick(&[0, 10, 30, 100]);
         generator
     }
 
@@ -121,6 +124,11 @@ impl Generator {
                 return self.fused(bank, layout, access).into();
             }
             return self.fuse(bank, layout, any as usize).into();
+        }
+        if self.profile.absent > 0 && self.random.permille(self.profile.absent) {
+            if let Some(line) = self.about_absent(bank, layout) {
+                return line;
+            }
         }
         if let Some(board) = self
             .board_in(bank, layout, REPLAYING)
@@ -229,21 +237,23 @@ impl Generator {
 
     /// Sets the fuse of a board that the access makes store, so that it blows in one of these stores; then comes the
     /// access. The access alone if it makes none store.
-    fn fused(&mut self, bank: &[u8], layout: Layout, call: Call) -> Call {
+    pub fn fused(&mut self, bank: &[u8], layout: Layout, call: Call) -> Call {
         let Some(access) = call.access() else {
             return call;
         };
-        let owner = |page: usize| bank[layout.owner(page)] as usize;
-        let stores = |page: &usize| {
-            let fetched = access.names(*page) && owner(*page) != access.board;
-            fetched && bank[layout.state(owner(*page))] == UP
+        let fetched = |page: &usize| {
+            access.names(*page) && bank[layout.owner(*page)] as usize != access.board
         };
-        let pages: Vec<usize> = (0..layout.pages).filter(stores).collect();
-        if pages.is_empty() {
+        let pages = (0..layout.pages).filter(fetched);
+        let givers: Vec<usize> = on_copy(bank, |engine| {
+            let givers = pages.clone().filter_map(|page| engine.giver(&access, page));
+            givers.collect()
+        });
+        if givers.is_empty() {
             return call;
         }
-        let board = owner(self.random.pick(&pages));
-        let given = pages.iter().filter(|page| owner(**page) == board).count();
+        let board = self.random.pick(&givers);
+        let given = givers.iter().filter(|giver| **giver == board).count();
         let most = bank[layout.volatile(board)] as u32 + given as u32;
         self.runs.push(Run::Same(call.into(), 1));
         Call::Fuse {
@@ -294,13 +304,25 @@ impl Generator {
                 return self.fuse(bank, layout, board).into()
             }
             3 if self.random.permille(self.profile.cuts * 4) => return self.cut(board as u32),
-            4..=6 if self.has_shelves() && trial.judge.history.to_repeat(board).is_none() => {
-                let access = self.access_at_got(bank, layout, board);
-                return self.fused(bank, layout, access).into();
+            4..=8 if self.has_shelves() && trial.judge.history.to_repeat(board).is_none() => {
+                return self.end_replay(bank, layout, board);
             }
             _ => (),
         }
         self.replaying_access(trial, bank, layout, board).into()
+    }
+
+    /// The access that ends a replay with its last gots, with a fuse set; or a page of theirs is left without its owner.
+    fn end_replay(&mut self, bank: &[u8], layout: Layout, board: usize) -> Line {
+        let access = self.access_at_got(bank, layout, board);
+        let page = access.access().map_or(0, |access| access.cells[0].page);
+        if self.random.permille(5 * self.profile.absent) {
+            if let Some(line) = self.end_without_owner(bank, layout, page) {
+                return line;
+            }
+        }
+        let wider = self.with_given_pages(bank, layout, access);
+        self.fused(bank, layout, wider).into()
     }
 
     /// Mostly what the premise asks or the due got needs; else a stray access or a break.
@@ -370,7 +392,7 @@ impl Generator {
     }
 
     /// A list with these pages in it, in any order, sometimes with others too.
-    fn cells_with(&mut self, pages: Vec<u8>) -> Vec<u8> {
+    pub fn cells_with(&mut self, pages: Vec<u8>) -> Vec<u8> {
         let offset = |random: &mut Random| random.below(PAGE as u32) as u8;
         let mut cells: Vec<[u8; 2]> = pages
             .into_iter()

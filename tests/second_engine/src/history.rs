@@ -59,6 +59,11 @@ impl History {
             .map(|place| &self.entries[*place])
     }
 
+    /// What one memory has at a place, after all entries.
+    pub fn held(&self, page: usize, offset: usize) -> u8 {
+        self.memory[page][offset]
+    }
+
     /// Takes one call's answer and second buffer; an error says how one memory or a repeat is contradicted.
     pub fn take(
         &mut self,

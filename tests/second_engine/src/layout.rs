@@ -222,6 +222,12 @@ impl<const FORM: Form> Layout<FORM> {
         }
     }
 
+    /// How many more records a board's log has room for.
+    pub fn room_left(self, bank: &[u8], board: usize) -> usize {
+        let stored = bank[self.stored(self.selected(bank, board))] as usize;
+        SLOTS.saturating_sub(stored + bank[self.volatile(board)] as usize)
+    }
+
     /// The slots at or past a count, of all logs: one run of bytes for each log.
     pub fn past_counts(self, bank: &[u8]) -> Vec<Range<usize>> {
         let past = |first: usize, count: usize| {

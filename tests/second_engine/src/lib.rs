@@ -1,8 +1,10 @@
 //! The second engine as a library, for programs that run it beside the proved one.
 
+pub mod absent;
 pub mod access;
 pub mod asked;
 pub mod calls;
+pub mod cases;
 pub mod check;
 pub mod claim;
 pub mod convert;
@@ -11,8 +13,10 @@ pub mod damage;
 pub mod engine;
 pub mod fault;
 pub mod faults;
+pub mod fetches;
 pub mod fuzz;
 pub mod gen;
+pub mod given;
 pub mod history;
 pub mod layout;
 pub mod line;
@@ -26,6 +30,7 @@ pub mod random;
 pub mod replay;
 pub mod runner;
 pub mod script_line;
+pub mod served;
 pub mod shelves;
 pub mod trial;
 pub mod watch;

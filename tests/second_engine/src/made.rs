@@ -11,7 +11,7 @@ use crate::trial::Trial;
 
 /// The smallest and largest sizes often, the others sometimes.
 pub fn size<const FORM: Form>(random: &mut Random) -> Layout<FORM> {
-    let boards = random.pick(&[1, 2, 2, 2, 3, 3, 4, 5, 8]);
+    let boards = random.pick(&[1, 2, 2, 3, 3, 4, 4, 5, 8]);
     let pages = random.pick(&[1, 1, 2, 2, 3, 4, 7, 16]);
     Layout { boards, pages }
 }
@@ -108,18 +108,31 @@ impl<const FORM: Form> Making<'_, FORM> {
         for board in 0..self.layout.boards {
             let state = match mostly_up {
                 true => self.random.pick(&[UP, UP, UP, UP, UP, UP, DOWN, REPLAYING]),
-                false => self.random.pick(&[UP, DOWN, REPLAYING, REPLAYING]),
+                false => self.random.pick(&[UP, UP, DOWN, REPLAYING, REPLAYING]),
             };
             self.bank[self.layout.state(board)] = state;
         }
     }
 
-    /// Copy-sets name up boards that aren't the owner.
+    /// A board that isn't up, if there is one and the chance wills it; else any.
+    fn owner(&mut self, absent: u32) -> usize {
+        let boards = self.layout.boards;
+        let start = self.random.below(boards as u32) as usize;
+        let not_up = |board: &usize| self.bank[self.layout.state(*board)] != UP;
+        let mut others = (start..start + boards).map(|board| board % boards);
+        match self.random.permille(absent) {
+            true => others.find(not_up).unwrap_or(start),
+            false => start,
+        }
+    }
+
+    /// Copy-sets name up boards that aren't the owner; often the owner isn't up.
     fn directory(&mut self) {
+        let absent = self.random.pick(&[0, 300, 800]);
         for page in 0..self.layout.pages {
-            let owner = self.random.below(self.layout.boards as u32) as usize;
+            let owner = self.owner(absent);
             let mut copies = 0;
-            let chance = self.random.pick(&[0, 300, 600, 1000]);
+            let chance = self.random.pick(&[0, 300, 500, 1000]);
             for board in 0..self.layout.boards {
                 let may_hold = board != owner && self.bank[self.layout.state(board)] == UP;
                 if may_hold && self.random.permille(chance) {
@@ -153,7 +166,9 @@ impl<const FORM: Form> Making<'_, FORM> {
             volatile = self.count(SLOTS as u8 - stored);
         }
         if state == REPLAYING {
-            place = self.random.below(stored as u32) as u8;
+            // Often so near the end that a replay ends with the gots that are due.
+            let nearest = stored - stored.min(self.random.pick(&[3, 3, SLOTS as u8]));
+            place = self.random.between(nearest as u32, stored as u32 - 1) as u8;
             let next = layout.area_slot(selected, place as usize);
             if self.random.permille(700) {
                 since = layout.get_count(&self.bank, next + Layout::<FORM>::SLOT_COUNT);
@@ -325,5 +340,29 @@ impl<const FORM: Form> Making<'_, FORM> {
             1 => self.random.below(u32::MAX),
             _ => self.random.below(50),
         }
+    }
+}
+
+#[cfg(test)]
+mod tests {
+    use super::*;
+    use crate::absent::{pages, Page};
+
+    /// Of a thousand banks made by hand, how many are so.
+    fn many<const FORM: Form>(fits: impl Fn(&[u8], Layout<FORM>) -> bool) -> usize {
+        let mut random = Random::new(1);
+        let banks = (0..1_000).map(|_| bank::<FORM>(&mut random));
+        banks
+            .filter(|bank| fits(bank, Layout::named_by(bank)))
+            .count()
+    }
+
+    #[test]
+    fn holders_often_have_to_give() {
+        let held = |bank: &[u8], layout: Layout| pages(bank, layout).any(|page| page.held());
+        let lacking = |page: &Page| page.held() && !page.readers().is_empty();
+        let read = |bank: &[u8], layout: Layout| pages(bank, layout).any(|page| lacking(&page));
+        assert!(many(held) > 340);
+        assert!(many(read) > 150);
     }
 }

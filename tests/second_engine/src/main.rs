@@ -1,9 +1,11 @@
 //! The second engine: the bank, line runner and claim of documents 01 and 02, worked on plain bytes.
 //! Commands: run, dump, gen, claim, fuzz, pairs, faults.
 
+mod absent;
 mod access;
 mod asked;
 mod calls;
+mod cases;
 mod check;
 mod claim;
 mod convert;
@@ -12,8 +14,10 @@ mod damage;
 mod engine;
 mod fault;
 mod faults;
+mod fetches;
 mod fuzz;
 mod gen;
+mod given;
 mod history;
 mod layout;
 mod line;
@@ -27,11 +31,14 @@ mod random;
 mod replay;
 mod runner;
 mod script_line;
+mod served;
 mod shelves;
 mod trial;
 mod watch;
 #[cfg(test)]
 mod worked;
+#[cfg(test)]
+mod worked_givers;
 
 use fault::Fault;
 use std::io::{self, stdin, stdout};

@@ -12,6 +12,8 @@ pub struct Profile {
     pub writes: u32,
     /// Shelf calls among all accesses; none in scripts for the line runner.
     pub shelves: u32,
+    /// Lines about pages whose owner isn't up; none chosen on purpose in scripts for the line runner.
+    pub absent: u32,
     pub checkpoints: u32,
     /// Power losses that are asked for.
     pub cuts: u32,
@@ -50,6 +52,7 @@ impl Profile {
             busy_offsets: random.pick(&[1, 2, 16]),
             writes: random.pick(&[150, 300, 500, 500, 700]),
             shelves: 0,
+            absent: 0,
             checkpoints: random.pick(&[0, 2, 10, 30, 60]),
             cuts: random.pick(&[0, 5, 15, 30, 60]),
             fuses: [5, 25, 80][hasty],

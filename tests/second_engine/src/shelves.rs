@@ -2,7 +2,9 @@
 //! A call is looked at before it is made, and counted by its answer.
 
 use crate::calls::{Answer, Call, MOST_CELLS};
+use crate::cases::{Cases, Row};
 use crate::engine::on_copy;
+use crate::fetches::left;
 use crate::layout::*;
 
 /// A shelf call, and what its bank is like before.
@@ -19,8 +21,8 @@ pub struct Shelf {
 /// What a call with numbers in range finds.
 struct Before {
     state: u8,
-    /// The lacking pages with their owners, and whether these are up.
-    lacking: Vec<(usize, usize, bool)>,
+    /// The lacking pages, and who gives each.
+    lacking: Vec<(usize, Option<usize>)>,
     /// How many more records each board has room for.
     left: [usize; MAX_BOARDS],
     /// The due gots that go together.
@@ -29,9 +31,9 @@ struct Before {
 }
 
 impl Before {
-    fn owners(&self) -> usize {
-        let of = |board: &usize| self.lacking.iter().any(|(_, owner, _)| owner == board);
-        (0..MAX_BOARDS).filter(of).count()
+    fn givers(&self) -> usize {
+        let gives = |board: &usize| self.lacking.iter().any(|(_, giver)| *giver == Some(*board));
+        (0..MAX_BOARDS).filter(gives).count()
     }
 
     fn all_copies(&self) -> bool {
@@ -43,7 +45,7 @@ impl Before {
     }
 
     fn lacks(&self, page: usize) -> bool {
-        self.lacking.iter().any(|(lacking, _, _)| *lacking == page)
+        self.lacking.iter().any(|(lacking, _)| *lacking == page)
     }
 
     fn lacks_group(&self) -> bool {
@@ -105,60 +107,49 @@ impl Shelf {
 
 fn before(bank: &[u8], layout: Layout, call: &Call) -> Before {
     let board = call.board() as usize;
-    let up = |board: usize| bank[layout.state(board)] == UP;
-    let left = |board: usize| {
-        let stored = bank[layout.stored(layout.selected(bank, board))] as usize;
-        SLOTS - stored - bank[layout.volatile(board)] as usize
-    };
     let (lacking, group) = on_copy(bank, |engine| {
-        let lacking = call.access().map(|access| engine.lacking(&access));
-        (lacking.unwrap_or_default(), engine.group_due(board))
+        let lacking = call.access().map_or(Vec::new(), |access| {
+            let pages = engine.lacking(&access).into_iter();
+            pages
+                .map(|page| (page, engine.giver(&access, page)))
+                .collect()
+        });
+        (lacking, engine.group_due(board))
     });
     let place = bank[layout.place(board)] as usize;
     let stored = bank[layout.stored(layout.selected(bank, board))] as usize;
-    let owner = |page: usize| bank[layout.owner(page)] as usize;
     let of_slot = |slot: usize| (kind_at(bank, slot), bank[slot + SLOT_PAGE] as usize);
     Before {
         state: bank[layout.state(board)],
         group_is_end: place + group.len() == stored,
-        lacking: lacking
-            .into_iter()
-            .map(|page| (page, owner(page), up(owner(page))))
-            .collect(),
-        left: std::array::from_fn(|board| {
-            if board < layout.boards {
-                left(board)
-            } else {
-                0
-            }
-        }),
+        lacking,
+        left: left(bank, layout),
         group: group.into_iter().map(of_slot).collect(),
     }
 }
 
-type Row = (&'static str, fn(&Shelf, &Answer) -> bool);
-
 /// The cases that banks can be in that were reached, then those that only banks made by hand can be in.
-pub const ROWS: [Row; 41] = [
+static ROWS: [Row<Shelf>; 41] = [
     ("up, lacks no page, done", |s, a| {
         s.done(a, UP, |b| b.lacking.is_empty())
     }),
     ("up, lacks one page, done", |s, a| {
         s.done(a, UP, |b| b.lacking.len() == 1)
     }),
-    ("up, lacks several pages of one owner, done", |s, a| {
-        s.done(a, UP, |b| b.lacking.len() > 1 && b.owners() == 1)
-    }),
-    ("up, lacks pages of several owners, done", |s, a| {
-        s.done(a, UP, |b| b.owners() > 1)
+    (
+        "up, lacks several pages that one board gives, done",
+        |s, a| s.done(a, UP, |b| b.lacking.len() > 1 && b.givers() == 1),
+    ),
+    ("up, lacks pages that several boards give, done", |s, a| {
+        s.done(a, UP, |b| b.givers() > 1)
     }),
     (
-        "up, lacks pages of several owners, two of one of them, done",
-        |s, a| s.done(a, UP, |b| b.owners() > 1 && b.lacking.len() > b.owners()),
+        "up, lacks pages that several boards give, one of them two, done",
+        |s, a| s.done(a, UP, |b| b.givers() > 1 && b.lacking.len() > b.givers()),
     ),
     ("up, lacks a page that it names twice, done", |s, a| {
         s.done(a, UP, |b| {
-            b.lacking.iter().any(|(page, _, _)| s.names_twice(*page))
+            b.lacking.iter().any(|(page, _)| s.names_twice(*page))
         })
     }),
     ("up, 1 cell, done", |s, a| {
@@ -167,14 +158,14 @@ pub const ROWS: [Row; 41] = [
     ("up, 32 cells, done", |s, a| {
         s.count() == MOST_CELLS && s.done(a, UP, |_| true)
     }),
-    ("up, no owner of a lacking page is up, code 6", |s, a| {
-        s.met(a, 6, UP, |b| b.lacking.iter().all(|(_, _, up)| !up))
+    ("up, nobody gives a lacking page, code 6", |s, a| {
+        s.met(a, 6, UP, |b| b.givers() == 0)
     }),
     (
-        "up, the lowest lacking page's owner is up, not all are, code 6",
+        "up, somebody gives the lowest lacking page, not all, code 6",
         |s, a| {
             s.met(a, 6, UP, |b| {
-                b.lacking.first().is_some_and(|(_, _, up)| *up)
+                b.lacking.first().is_some_and(|(_, giver)| giver.is_some())
             })
         },
     ),
@@ -188,20 +179,20 @@ pub const ROWS: [Row; 41] = [
             a.who as usize == s.board && b.left[s.board] > 0
         })
     }),
-    ("up, an owner has no room, code 7", |s, a| {
+    ("up, a giver has no room, code 7", |s, a| {
         s.met(a, 7, UP, |b| {
             a.who as usize != s.board && b.left[a.who as usize] == 0
         })
     }),
     (
-        "up, an owner has room, not for all that it gives, code 7",
+        "up, a giver has room, not for all that it gives, code 7",
         |s, a| {
             s.met(a, 7, UP, |b| {
                 a.who as usize != s.board && b.left[a.who as usize] > 0
             })
         },
     ),
-    ("up, an owner's fuse blows, code 8", |s, a| {
+    ("up, a giver's fuse blows, code 8", |s, a| {
         s.met(a, 8, UP, |_| true)
     }),
     ("replaying, lacks no page, done", |s, a| {
@@ -234,7 +225,7 @@ pub const ROWS: [Row; 41] = [
         |s, a| a.who as usize == s.board && s.met(a, 8, REPLAYING, |b| !b.group.is_empty()),
     ),
     (
-        "replaying, ends with a group, an owner's fuse blows, code 8",
+        "replaying, ends with a group, a giver's fuse blows, code 8",
         |s, a| a.who as usize != s.board && s.met(a, 8, REPLAYING, |b| !b.group.is_empty()),
     ),
     (
@@ -321,48 +312,16 @@ pub const ROWS: [Row; 41] = [
 ];
 
 /// How many of them banks can be in that were reached.
-pub const REACHED: usize = 39;
+const REACHED: usize = 39;
 
-/// How many shelf calls there were, and how often each case came.
-pub struct Shelves {
-    calls: u64,
-    rows: [u64; ROWS.len()],
+const WORDS: (&str, &str) = ("shelf calls", "by what they met");
+
+/// The cases that banks can be in that were reached.
+pub fn reached() -> Cases<Shelf> {
+    Cases::new(WORDS, &ROWS[..REACHED])
 }
 
-impl Shelves {
-    pub fn new() -> Shelves {
-        Shelves {
-            calls: 0,
-            rows: [0; ROWS.len()],
-        }
-    }
-
-    pub fn count(&mut self, shelf: &Shelf, answer: &Answer) {
-        self.calls += 1;
-        for (count, (_, fits)) in self.rows.iter_mut().zip(ROWS) {
-            *count += fits(shelf, answer) as u64;
-        }
-    }
-
-    /// The cases that never came.
-    pub fn missing(&self) -> impl Iterator<Item = &'static str> + '_ {
-        let rows = ROWS.iter().zip(self.rows);
-        rows.filter(|(_, count)| *count == 0)
-            .map(|((name, _), _)| *name)
-    }
-
-    /// How many of the first so many cases never came.
-    pub fn never_met(&self, rows: usize) -> usize {
-        self.rows[..rows]
-            .iter()
-            .filter(|count| **count == 0)
-            .count()
-    }
-
-    pub fn print(&self, rows: usize) {
-        println!("shelf calls {}, by what they met:", self.calls);
-        for ((name, _), count) in ROWS.iter().zip(self.rows).take(rows) {
-            println!("  {name}: {count}");
-        }
-    }
+/// All cases.
+pub fn all() -> Cases<Shelf> {
+    Cases::new(WORDS, &ROWS)
 }

@@ -7,6 +7,7 @@ use crate::fault::Fault;
 use crate::layout::{Layout, UP};
 use crate::line::{read_script_line, Line, Lines};
 use crate::runner::Session;
+use crate::served::all_served;
 use std::io::{self, Read, Write};
 
 pub struct Trial {
@@ -65,10 +66,21 @@ impl Trial {
         let bank = bank.as_deref().unwrap_or(&[]);
         let verdict = self.judge.after(bank, answered, before, watch);
         if let Verdict::Held = verdict {
-            let buffer = buffer_fits(answer, out, single);
-            return buffer.map_or_else(Verdict::ClaimBroken, |_| Verdict::Held);
+            let fits = buffer_fits(answer, out, single).and_then(|_| self.all_served());
+            return fits.map_or_else(Verdict::ClaimBroken, |_| Verdict::Held);
         }
         verdict
+    }
+
+    /// What a board reads is one memory's byte as long as the premise holds.
+    fn all_served(&self) -> Result<(), String> {
+        let Judge {
+            history,
+            premise_holds,
+            ..
+        } = &self.judge;
+        let byte = |page: usize, offset: usize| premise_holds.then(|| history.held(page, offset));
+        all_served(&self.session, byte)
     }
 
     /// What single reads of a shelf call's cells by an up board give, on a copy of the bank; none if not all are done.

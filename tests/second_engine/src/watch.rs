@@ -11,20 +11,28 @@ pub enum During {
     BeforeLive,
 }
 
-/// When an owner stores for a reader: for a page fetched alone, or for which of several.
+/// Who gives a page to a reader.
+#[derive(Clone, Copy, PartialEq, Eq)]
+pub enum Giver {
+    Owner,
+    /// The lowest holder, while the owner isn't up.
+    Holder,
+}
+
+/// When a giver stores for a reader: for a page fetched alone, or for which of several.
 #[derive(Clone, Copy, PartialEq, Eq)]
 pub enum Turn {
     Alone,
     First,
     Later,
-    /// For a later page, of an owner that has given one in this call before.
+    /// For a later page, of a board that has given one in this call before.
     Again,
 }
 
 /// Which flush is being made.
 #[derive(Clone, Copy, PartialEq, Eq)]
 pub enum Flush {
-    OwnerShowsReader(Turn),
+    ShowsReader(Giver, Turn),
     OwnerShowsWriter,
     Writer,
 }
@@ -32,18 +40,22 @@ pub enum Flush {
 impl Flush {
     fn index(self) -> usize {
         match self {
-            Flush::OwnerShowsReader(turn) => turn as usize,
-            Flush::OwnerShowsWriter => 4,
-            Flush::Writer => 5,
+            Flush::ShowsReader(giver, turn) => 4 * giver as usize + turn as usize,
+            Flush::OwnerShowsWriter => 8,
+            Flush::Writer => 9,
         }
     }
 }
 
-const FLUSH_NAMES: [&str; 6] = [
+const FLUSH_NAMES: [&str; 10] = [
     "owner's flush for a reader of one page",
     "owner's flush for the first of several pages",
     "owner's flush for a later page, its first in the call",
     "owner's flush for a later page, not its first in the call",
+    "holder's flush for a reader of one page",
+    "holder's flush for the first of several pages",
+    "holder's flush for a later page, its first in the call",
+    "holder's flush for a later page, not its first in the call",
     "owner's flush for a writer",
     "writer's flush",
 ];
@@ -89,14 +101,16 @@ impl Phase {
 }
 
 /// The phases that can come. A log that was emptied in the call holds no earlier record: that of a writer behind its
-/// end of replay, and that of an owner that has flushed before.
+/// end of replay, and that of a giver that has flushed before.
 pub fn phases() -> impl Iterator<Item = usize> {
     let earlier = |flush: Flush, after_end: usize| after_end * FLUSHES + flush.index() * 2;
-    let again = Flush::OwnerShowsReader(Turn::Again);
+    let again = |giver: Giver| Flush::ShowsReader(giver, Turn::Again);
     let impossible = [
         earlier(Flush::Writer, 1),
-        earlier(again, 0),
-        earlier(again, 1),
+        earlier(again(Giver::Owner), 0),
+        earlier(again(Giver::Owner), 1),
+        earlier(again(Giver::Holder), 0),
+        earlier(again(Giver::Holder), 1),
     ];
     (0..PHASES).filter(move |phase| !impossible.contains(phase))
 }
@@ -142,7 +156,7 @@ pub struct Watch {
     pub phase: Phase,
     /// The table index of the phase in which a fuse blew in this call.
     pub blown: Option<usize>,
-    /// The owners that another board has fetched from in this call, one for each page.
+    /// The boards that another board has fetched from in this call, one for each page.
     pub givers: Vec<usize>,
     /// The board whose replay ended in this call.
     pub replay_ended: Option<usize>,

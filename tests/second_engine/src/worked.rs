@@ -32,7 +32,7 @@ fn answered(trial: &mut Trial, line: &str) -> String {
 }
 
 /// Lines, each followed by an arrow and its answer; without an arrow it is done, with value and stores 0.
-fn worked(script: &str) -> Vec<u8> {
+pub fn worked(script: &str) -> Vec<u8> {
     let mut trial = Trial::new(Fault::None);
     for step in script
         .lines()
@@ -46,7 +46,7 @@ fn worked(script: &str) -> Vec<u8> {
 }
 
 /// The stored and the volatile records of a board: mark, page and count.
-fn log(bank: &[u8], board: usize) -> String {
+pub fn log(bank: &[u8], board: usize) -> String {
     let layout = Layout::of(bank);
     let area = layout.selected(bank, board);
     let stored = (0..bank[layout.stored(area)] as usize).map(|slot| layout.area_slot(area, slot));

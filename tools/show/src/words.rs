@@ -39,7 +39,12 @@ fn refusal(line: &Option<Line>, code: u8, who: u32) -> String {
         },
         4 => format!("a counter of board {who} is full"),
         5 => format!("board {who} replays, and its log goes on with another access"),
-        6 => format!("the page's owner, board {who}, isn't up"),
+        6 => match line {
+            Some(Line::Call(Call::Read { .. })) => {
+                format!("the page's owner, board {who}, isn't up, and no board holds a copy")
+            }
+            _ => format!("the page's owner, board {who}, isn't up"),
+        },
         7 => format!("the log of board {who} has no room"),
         8 => format!("the fuse of board {who} blew"),
         _ => match line {

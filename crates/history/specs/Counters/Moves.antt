@@ -109,7 +109,7 @@ move-advances s _ n (storesSelector b o u v) h =
 move-advances {d} s _ n (givesCopy a o p x c i g u m r) h =
     run-trans (run-same s (takes-pending d (s .bank) x))
     (run-trans (step-advances _ s (λ e. giveCopy-advances o d p (s .bank) u)) (run-same _ (pending-taken d _ x)))
-move-advances {d} s _ n (passesOwnership a o p c i g v m) h =
+move-advances {d} s _ n (passesOwnership a o p c i g own v m) h =
     step-advances _ s
     (λ e.
     passOwnership-advances o d p (s .bank)

@@ -13,7 +13,7 @@ use Rattle.model.specs.Definitions.Bank.{Log, Board, Bank, fresh, onBoar
 use Rattle.model.specs.Definitions.Codec.{encode}
 use Rattle.model.specs.Definitions.Check.{wellFormed}
 use Rattle.model.specs.Definitions.Steps.{poweredOff, Read, Write, ReadCells}
-use Rattle.model.specs.Definitions.Calls.{Result, Call, Accessing, Checkpointing, Fusing, Restarting, callBank, Reply, replyOf, bufferAfter}
+use Rattle.model.specs.Definitions.Calls.{Result, Call, Accessing, Fusing, Restarting, callBank, Reply, replyOf, bufferAfter}
 use Rattle.model.specs.History.Tests.{sameBytes}
 use Rattle.model.specs.Cases.Table.{agrees}
 
@@ -32,7 +32,7 @@ glancesOn (l ∷ ls) k =
     agrees (l .prints) (y .outcome) && (sameBytes (bufferAfter y (l .before)) (l .after) && glancesOn ls (t .run .bank))
 
 -- a call that is lent no second buffer
-abbrev plain : Call → ℕ → ℕ → ℕ → ℕ → Glance
+abbrev pub plain : Call → ℕ → ℕ → ℕ → ℕ → Glance
 plain c code value who stores = record { asks = c; before = []; prints = (code, value, who, stores); after = [] }
 
 -- 77, 78 and so on
@@ -40,12 +40,12 @@ abbrev lent : ℕ → List ℕ
 lent n = tabulate n (λ i. 77 + i)
 
 -- board 0 asks for cells with a buffer of this length, which a code that isn't 0 leaves unchanged
-abbrev leaves : (cells : List ℕ) (outLength code who stores : ℕ) → Glance
+abbrev pub leaves : (cells : List ℕ) (outLength code who stores : ℕ) → Glance
 leaves cells outLength code who stores =
     record { asks = Accessing 0 (ReadCells cells outLength); before = lent outLength; prints = (code, 0, who, stores); after = lent outLength }
 
 -- board 0 asks for cells, and the buffer becomes these bytes
-abbrev gives : (cells : List ℕ) (stores : ℕ) (bytes : List ℕ) → Glance
+abbrev pub gives : (cells : List ℕ) (stores : ℕ) (bytes : List ℕ) → Glance
 gives cells stores bytes =
     record { asks = Accessing 0 (ReadCells cells (length bytes)); before = lent (length bytes); prints = (0, 0, 0, stores); after = bytes }
 

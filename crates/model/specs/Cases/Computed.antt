@@ -20,7 +20,9 @@ use Rattle.model.specs.Cases.Cells.{glancesOn, twoPages, giverLost, firs
 use Rattle.model.specs.Cases.Cells.{differsWith, groupsDiffer, glances}
 use Rattle.model.specs.Cases.Worked.{callsOf, fuseAtReplayEnd, everyEntry, fuseInFlush, fuseAtSelector, givenAfterReplay, takerCut, refusedInReplay}
 use Rattle.model.specs.Cases.Worked.{cellsRepeated, histories, otherByte, otherByteRepeated, otherOrder, readForCells, otherOrderLost, twoGivers}
-use Rattle.model.specs.Cases.Worked.{giverCut, twoDue}
+use Rattle.model.specs.Cases.Holders.{holderGives, ownerReplays, lowestGives, bothGiven, otherMissing, giverCharged, holders, holderGave}
+use Rattle.model.specs.Cases.Holders.{passedOn}
+use Rattle.model.specs.Cases.Worked.{giverCut, twoDue, holderRepeats}
 use Rattle.model.specs.Cases.Running.{leavesOn, passesOn, passesFresh, premisesOn, claimsOn, holdsOn, grantsIn}
 use Rattle.model.specs.Definitions.Check.{sizesAllowed}
 
@@ -32,7 +34,8 @@ unfolding noHistory ofBoard discard doneEvent eventOf entryCount repeats withNum
     restartOfUpBoard replayDiffers ownerNotUp alternating alternatingWrites fuseBlows lastOffset zeroFuse scripts lengths oldBank newBank bothLengths
     converts reads callsOf fuseAtReplayEnd everyEntry fuseInFlush fuseAtSelector givenAfterReplay takerCut refusedInReplay cellsRepeated histories otherByte
     otherByteRepeated otherOrder readForCells otherOrderLost twoGivers giverCut twoDue glancesOn twoPages giverLost firstGiverLost endLost replayEnds
-    wrongLists withStored glancesFrom needsAdded differsWith groupsDiffer glances
+    wrongLists withStored glancesFrom needsAdded differsWith groupsDiffer glances holderGives ownerReplays lowestGives bothGiven otherMissing giverCharged
+    holders holderGave passedOn holderRepeats
 tables = tt
 
 pub lengths-hold : lengths ≡ true
@@ -46,6 +49,10 @@ conversions-hold = refl
 pub glances-hold : glances ≡ true
 unfolding evaluate tables
 glances-hold = refl
+
+pub holders-hold : holders ≡ true
+unfolding evaluate tables
+holders-hold = refl
 
 pub scripts-sized : every (λ c. sizesAllowed (c .boards) (c .pages)) scripts ≡ true
 unfolding evaluate tables
@@ -63,10 +70,14 @@ pub twoDue-holds : passesFresh twoDue ≡ true
 unfolding evaluate tables
 twoDue-holds = refl
 
--- two boards and up to three pages are in range, and three of each
-pub sized : (sizesAllowed 2 1 ≡ true) × (sizesAllowed 2 3 ≡ true) × (sizesAllowed 3 3 ≡ true)
+pub holderGave-holds : passesFresh holderGave ≡ true
 unfolding evaluate tables
-sized = (refl, refl, refl)
+holderGave-holds = refl
+
+-- two boards and up to three pages are in range, and three boards
+pub sized : (sizesAllowed 2 1 ≡ true) × (sizesAllowed 2 3 ≡ true) × (sizesAllowed 3 3 ≡ true) × (sizesAllowed 3 1 ≡ true)
+unfolding evaluate tables
+sized = (refl, refl, refl, refl)
 
 pub otherByte-breaks : (premisesOn otherByte (fresh 2 1) noHistory ≡ false) × (claimsOn otherByte (fresh 2 1) noHistory (λ b. 0) ≡ false)
 unfolding evaluate tables
@@ -91,6 +102,11 @@ pub grants-noted :
     × ((grantsIn givenAfterReplay (fresh 2 2) (λ b. 0) 1 ≡ 1) × (claimsOn (Fusing 0 0 ∷ []) (fresh 2 1) noHistory (λ b. 1) ≡ false))
 unfolding evaluate tables
 grants-noted = (refl, (refl, refl))
+
+-- who gave is noted, owner or not
+pub holders-granted : (grantsIn passedOn (fresh 3 1) (λ b. 0) 0 ≡ 1) × (grantsIn passedOn (fresh 3 1) (λ b. 0) 1 ≡ 2)
+unfolding evaluate tables
+holders-granted = (refl, refl)
 
 -- of two givers each has its own number; where one of them loses power nothing is given
 pub cells-granted :

@@ -1,4 +1,5 @@
 -- A theorem that says `unfolding evaluate` computes with every definition of the documents. This list is the only use of the name. Assumes nothing.
+use lib.Count.{trailingZeros}
 use Rattle.words.specs.LittleEndian.{bytesOf, numberOf}
 use Rattle.model.specs.Definitions.Parts.{part, splice, byteAt, zeros, encodeAll, decodeAll, update, eachFrom, each, tabulateFrom, tabulate, every}
 use Rattle.model.specs.Definitions.Parts.{everyFrom, everyBelow, firstFrom, firstBelow, allFrom, allBelow, sumFrom, sumBelow, member, withMember}
@@ -17,17 +18,17 @@ use Rattle.model.specs.Definitions.Check.{recordValid, recordsValid, blo
 use Rattle.model.specs.Definitions.Steps.{start, step, poweredOff, forgotten, powerOff, withFuse, fuseBoard, burnt, store, storeAll, appended, recorded}
 use Rattle.model.specs.Definitions.Steps.{note, movedRecord, storedRecord, recordStores, flush, storedFrame, storedHead, storedSelector, spareStores}
 use Rattle.model.specs.Definitions.Steps.{checkpointStores, restedWorking, checkpoint, cellsAsked, cellsRead, cellsWritten, anyCell, anyWrite, names}
-use Rattle.model.specs.Definitions.Steps.{takes, lacks, lacksPage, lackingPages, cellByte, readFrom, givenOf}
-use Rattle.model.specs.Definitions.Steps.{withByte, withBytes, valueOf, accessed, access, withFrame, frameOf, giver, show, giveCopy, dropped, dropAt}
-use Rattle.model.specs.Definitions.Steps.{dropCopies, passOwnership, showAll, giveCopies, readFetch, writeFetch, fetch}
+use Rattle.model.specs.Definitions.Steps.{takes, lacks, lacksPage, lackingPages, cellByte, readFrom, givenOf, withByte, withBytes, valueOf, accessed}
+use Rattle.model.specs.Definitions.Steps.{access, withFrame, frameOf, lowestHolder, ownerUp, giver, show, giveCopy, dropped, dropAt, dropCopies}
+use Rattle.model.specs.Definitions.Steps.{passOwnership, showAll, giveCopies, readFetch, writeFetch, fetch}
 use Rattle.model.specs.Definitions.Replay.{loaded, recordsLeft, used, useUp, usedUp, gotsDue, due, sameGot, lacking, needsGot, needsGots, differs}
 use Rattle.model.specs.Definitions.Replay.{rightGot, tookGot, tookGots, tookDue, replayOver, settledFrame, settled, settle, endReplay, endIfOver}
 use Rattle.model.specs.Definitions.Replay.{replayed, countSum, recoveryPoint}
 use Rattle.model.specs.Definitions.Answers.{code, value, who}
 use Rattle.model.specs.Definitions.Calls.{firstOf, unless, finished, pageWritten, copiesOut, fetchNeed, dropNeed, lackingOf, pagesLacking, pageNeed}
-use Rattle.model.specs.Definitions.Calls.{need, short, shortBoard, isSome, numberIn, pageMissing, liveRefusals, prepared, performed, live, liveAfterEnd}
-use Rattle.model.specs.Definitions.Calls.{replaying, cellInRange, accessInRange, wrongCells, countersFull, refusalsWithin, accessWithin, checkpointBank}
-use Rattle.model.specs.Definitions.Calls.{fuseBank, restartBank, callBank, refused, replyOf, callWithin, call, make, bufferAfter}
+use Rattle.model.specs.Definitions.Calls.{need, short, shortBoard, isSome, numberIn, nobodyGives, pageMissing, liveRefusals, prepared, performed, live}
+use Rattle.model.specs.Definitions.Calls.{liveAfterEnd, replaying, cellInRange, accessInRange, wrongCells, countersFull, refusalsWithin, accessWithin}
+use Rattle.model.specs.Definitions.Calls.{checkpointBank, fuseBank, restartBank, callBank, refused, replyOf, callWithin, call, make, bufferAfter}
 use Rattle.model.specs.Definitions.Older.{unused, clearedBoard, cleared, fitsTarget, convert}
 
 unfoldable pub evaluate : Unit {0}
@@ -41,10 +42,11 @@ unfolding bytesOf numberOf part splice byteAt zeros encodeAll decodeAll update e
     blocksFit logsValid wellFormedIn start step poweredOff forgotten powerOff withFuse fuseBoard burnt store storeAll appended recorded note movedRecord
     storedRecord recordStores flush storedFrame storedHead storedSelector spareStores checkpointStores restedWorking checkpoint cellsAsked cellsRead
     cellsWritten anyCell anyWrite names takes lacks lacksPage lackingPages cellByte readFrom givenOf withByte withBytes valueOf accessed access withFrame
-    frameOf giver show giveCopy dropped dropAt dropCopies passOwnership showAll giveCopies readFetch writeFetch fetch loaded recordsLeft used useUp usedUp
+    frameOf trailingZeros lowestHolder ownerUp giver show giveCopy dropped dropAt dropCopies passOwnership showAll giveCopies readFetch writeFetch
+    fetch loaded recordsLeft used useUp usedUp
     gotsDue due sameGot lacking needsGot needsGots differs rightGot tookGot tookGots tookDue replayOver settledFrame settled settle endReplay endIfOver
     replayed countSum recoveryPoint code value who firstOf unless finished pageWritten copiesOut fetchNeed dropNeed lackingOf pagesLacking pageNeed need
-    short shortBoard isSome numberIn pageMissing liveRefusals prepared performed live liveAfterEnd replaying cellInRange accessInRange wrongCells
+    short shortBoard isSome numberIn nobodyGives pageMissing liveRefusals prepared performed live liveAfterEnd replaying cellInRange accessInRange wrongCells
     countersFull refusalsWithin accessWithin checkpointBank fuseBank restartBank callBank callWithin refused replyOf call make unused clearedBoard cleared
     fitsTarget convert bufferAfter
 evaluate = tt

@@ -15,8 +15,9 @@ use Rattle.model.specs.History.Statement.{noHistory, begin, Premises, Cl
 use Rattle.model.specs.History.Tests.{premisesTest, claimsTest, says-premises, says-claims}
 use Rattle.model.specs.Cases.Table.{passes}
 use Rattle.model.specs.Cases.Worked.{Worked, histories, otherByte, otherByteRepeated, otherOrder, readForCells, otherOrderLost, twoDue}
+use Rattle.model.specs.Cases.Holders.{holderGave}
 use Rattle.model.specs.Cases.Running.{premisesOn, claimsOn, holdsOn}
-use Rattle.model.specs.Cases.Computed.{histories-hold, sized, twoDue-holds, otherByte-breaks, otherByteRepeated-breaks, cells-break}
+use Rattle.model.specs.Cases.Computed.{histories-hold, sized, twoDue-holds, holderGave-holds, otherByte-breaks, otherByteRepeated-breaks, cells-break}
 use Rattle.model.specs.Cases.OnBank.{passes-fresh, premises-fresh, claims-fresh}
 use Rattle.model.specs.Laws.Fresh.{sizes-say}
 
@@ -44,6 +45,11 @@ histories-kept = every-each holdsOn histories kept histories-hold
 pub two-due : passes twoDue ≡ true
 unfolding twoDue
 two-due = passes-fresh twoDue (sizes-say 2 3 (sized .1)) ∙ twoDue-holds
+
+-- a holder's gift leaves these bytes
+pub holder-gave : passes holderGave ≡ true
+unfolding holderGave
+holder-gave = passes-fresh holderGave (sizes-say 3 1 (sized .3)) ∙ holderGave-holds
 
 -- without the premise the claim is false: the premise is needed
 pub premise-needed : (premisesTest otherByte (begin 2 1) ≡ false) × (claimsTest otherByte (begin 2 1) ≡ false)

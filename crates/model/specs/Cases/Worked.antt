@@ -63,6 +63,13 @@ cellsRepeated =
     ∷ Accessing 0 (ReadCells (2 ∷ 0 ∷ 1 ∷ 0 ∷ 0 ∷ 0 ∷ 2 ∷ 0 ∷ []) 4) ∷ Accessing 0 (Write 0 0 9)
     ∷ Accessing 0 (ReadCells (2 ∷ 0 ∷ 1 ∷ 0 ∷ 0 ∷ 0 ∷ 2 ∷ 0 ∷ []) 4) ∷ []
 
+-- A holder gives a copy while the owner is down, loses power itself and repeats; the owner comes back, repeats its write and takes both copies back with
+-- the next one.
+unfoldable pub holderRepeats : List Call
+holderRepeats =
+    Accessing 0 (Write 0 0 5) ∷ Accessing 1 (Read 0 0) ∷ Fusing 0 0 ∷ Accessing 2 (Read 0 0) ∷ Fusing 1 0 ∷ Restarting 1 ∷ Accessing 1 (Read 0 0)
+    ∷ Restarting 0 ∷ Accessing 0 (Write 0 0 5) ∷ Accessing 0 (Write 0 0 6) ∷ Accessing 2 (Read 0 0) ∷ Accessing 1 (Read 0 0) ∷ []
+
 unfoldable pub histories : List Worked
 histories =
     record { boards = 2; pages = 1; calls = callsOf caseA }
@@ -75,6 +82,7 @@ histories =
     ∷ record { boards = 2; pages = 3; calls = takerCut }
     ∷ record { boards = 2; pages = 2; calls = refusedInReplay }
     ∷ record { boards = 3; pages = 3; calls = cellsRepeated }
+    ∷ record { boards = 3; pages = 2; calls = holderRepeats }
     ∷ []
 
 -- ---- those that break it

@@ -1,4 +1,4 @@
--- Document 01's calls, with document 02's F-1 to F-3, for any numbers: first on a bank, then on bytes of any length and content.
+-- Document 01's calls, with document 02's F-1 to F-4, for any numbers: first on a bank, then on bytes of any length and content.
 -- Each refusal is in the table's order, and the list of tests shows that order. Assumes nothing.
 use Prim.Native.Nat.{ℕ, _+_, _%_}
 use mathlib.Core.Bool.{Bool, true, false, _&&_, _||_, not}
@@ -21,7 +21,8 @@ use Rattle.model.specs.Definitions.Answers.{code}
 use Rattle.model.specs.Definitions.WellFormed.{isUp, isDown, isReplaying}
 use Rattle.model.specs.Definitions.Check.{wellFormed, sizesAllowed}
 use Rattle.model.specs.Definitions.Steps.{Run, start, step, fuseBoard, checkpoint, Access, Read, Write, ReadCells, Cell, cellsAsked, cellsRead}
-use Rattle.model.specs.Definitions.Steps.{cellsWritten, anyWrite, takes, lacksPage, lackingPages, valueOf, givenOf, access, giver, dropCopies, fetch}
+use Rattle.model.specs.Definitions.Steps.{cellsWritten, anyWrite, takes, lacksPage, lackingPages, valueOf, givenOf, access, ownerUp, giver, dropCopies}
+use Rattle.model.specs.Definitions.Steps.{fetch}
 use Rattle.model.specs.Definitions.Replay.{restarted, lacking, differs, tookDue, replayOver, endReplay, endIfOver, replayed}
 
 -- ==== a call's result on a bank
@@ -57,7 +58,8 @@ pageWritten a = elim (cellsWritten a) [ [] ↦ 0 | w ∷ ws ↦ w .0 .page ]
 unfoldable pub copiesOut : Access → Bank → Bool
 copiesOut a k = elim (cellsWritten a) [ [] ↦ false | w ∷ ws ↦ not (eqb (entryAt k (w .0 .page) .copies) 0) ]
 
--- "read fetch: reader 1, owner 1; write fetch: writer 1, owner 2, other holders 1": what board c needs when board b fetches page p from o
+-- "read fetch: reader 1, owner 1; write fetch: writer 1, owner 2, other holders 1": what board c needs when board b fetches page p from o;
+-- "its need in code 7 moves to the giver" (F-4)
 unfoldable pub fetchNeed : CopyOrOwn → Bank → ℕ → ℕ → ℕ → ℕ → ℕ
 fetchNeed GotCopy k b o p c = elim (eqb c b) [ true ↦ 1 | false ↦ elim (eqb c o) [ true ↦ 1 | false ↦ 0 ] ]
 fetchNeed GotOwn k b o p c =
@@ -80,7 +82,7 @@ pagesLacking b a k = lackingPages a (boardAt k b .working .frames)
 -- what board c needs in its log for page p, in an access of board b
 unfoldable pub pageNeed : ℕ → Access → Bank → ℕ → ℕ → ℕ
 pageNeed b a k c p =
-    elim (lacksPage a (boardAt k b .working .frames) p) [ true ↦ fetchNeed (takes a) k b (giver k p) p c | false ↦ dropNeed a k p c ]
+    elim (lacksPage a (boardAt k b .working .frames) p) [ true ↦ fetchNeed (takes a) k b (giver (takes a) k p) p c | false ↦ dropNeed a k p c ]
 
 -- "code 7 adds up the needs of all pages" (F-3)
 unfoldable pub need : ℕ → Access → Bank → ℕ → ℕ
@@ -103,15 +105,20 @@ unfoldable pub numberIn : Option ℕ → ℕ
 numberIn none = 0
 numberIn (some n) = n
 
--- "the lowest lacking page whose owner isn't up" (F-3)
+-- whether nobody can give a page, to a reader: "owner not up and copy-set empty"; and to a writer: "A write still needs the owner." (F-4)
+unfoldable pub nobodyGives : CopyOrOwn → Bank → ℕ → Bool
+nobodyGives GotCopy k p = not (ownerUp k p) && eqb (entryAt k p .copies) 0
+nobodyGives GotOwn k p = not (ownerUp k p)
+
+-- "the lowest lacking page" (F-3) that nobody can give
 unfoldable pub pageMissing : ℕ → Access → Bank → Option ℕ
 pageMissing b a k =
-    firstBelow (length (k .directory)) (λ p. lacksPage a (boardAt k b .working .frames) p && not (isUp (boardAt k (giver k p) .state)))
+    firstBelow (length (k .directory)) (λ p. lacksPage a (boardAt k b .working .frames) p && nobodyGives (takes a) k p)
 
--- the refusals of a live access, codes 6 and 7; "Code 6 names the owner of the lowest lacking page whose owner isn't up" (F-3)
+-- the refusals of a live access, codes 6 and 7; "Code 6 names the owner" (F-3)
 unfoldable pub liveRefusals : ℕ → Access → Bank → List (Bool × Answer)
 liveRefusals b a k =
-    (isSome (pageMissing b a k), OwnerNotUp (giver k (numberIn (pageMissing b a k))))
+    (isSome (pageMissing b a k), OwnerNotUp (entryAt k (numberIn (pageMissing b a k)) .owner))
     ∷ (isSome (shortBoard b a k), LogFull (numberIn (shortBoard b a k)))
     ∷ []
 

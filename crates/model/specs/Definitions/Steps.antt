@@ -1,11 +1,12 @@
--- Document 01, "Steps", up to the cut, with document 02's F-1 and F-3: what one board or several do to the bank, one micro-step each, and the stores that a
--- power loss can follow. A call in progress is a `Run`: once a fuse blew, every later step passes it on unchanged. Assumes nothing.
+-- Document 01, "Steps", up to the cut, with document 02's F-1, F-3 and F-4: what one board or several do to the bank, one micro-step each, and the stores
+-- that a power loss can follow. A call in progress is a `Run`: once a fuse blew, every later step passes it on unchanged. Assumes nothing.
 use Prim.Native.Nat.{ℕ, zero, suc, _+_, _-_}
 use mathlib.Core.Bool.{Bool, true, false, _&&_, _||_, not}
 use mathlib.Core.Option.{Option, none, some}
 use mathlib.Core.List.{List, [], _∷_, _++_, map, foldl}
 use lib.ListN.{length, drop, replicate, set, getD}
 use lib.Dec.{eqb}
+use lib.Count.{trailingZeros}
 use Rattle.types.specs.declared.Right.{Right}
 use Rattle.types.specs.declared.Right.the-variants.{None, Copy, Own}
 use Rattle.types.specs.declared.Frame.{Frame}
@@ -16,11 +17,12 @@ use Rattle.types.specs.declared.Kind.the-variants.{Got, Shown, Dropped}
 use Rattle.types.specs.declared.Record.{Record}
 use Rattle.types.specs.declared.State.the-variants.{Down}
 use Rattle.model.specs.Definitions.Parts.{zeros, each, tabulate, allBelow, member, withMember, withoutMember}
-use Rattle.model.specs.Definitions.Layout.{pageSize, slotSize, noFuse}
+use Rattle.model.specs.Definitions.Layout.{mostBoards, pageSize, slotSize, noFuse}
 use Rattle.model.specs.Definitions.Bank.{Entry, Log, Area, Working, Board, Bank, emptyFrame, emptyLog, zeroWorking, boardAt, entryAt, frameAt}
 use Rattle.model.specs.Definitions.Bank.{withWorking, withStable, withSelectedArea, withAreaNumber, withAreaFrames, withAreaLog, withNumber, withSince}
 use Rattle.model.specs.Definitions.Bank.{withFrames, withLog, onBoard, onEntry, onWorking, onSpare, onFrames}
 use Rattle.model.specs.Definitions.Codec.{encodeLog}
+use Rattle.model.specs.Definitions.WellFormed.{isUp}
 
 -- ==== a call in progress
 
@@ -266,11 +268,21 @@ withFrame p f x = onWorking (onFrames (λ fs. set fs p f)) x
 unfoldable pub frameOf : Bank → ℕ → ℕ → Frame
 frameOf k b p = frameAt (boardAt k b .working .frames) p
 
--- who gives a page: its owner
-unfoldable pub giver : Bank → ℕ → ℕ
-giver k p = entryAt k p .owner
+-- "the lowest-numbered board in the copy-set" (document 02, F-4): "trailing zeros give the lowest holder"; no board's number where the set is empty
+unfoldable pub lowestHolder : Entry → ℕ
+lowestHolder e = trailingZeros mostBoards (e .copies)
 
--- the giver's part of every fetch: "owner records shown and flushes"
+-- whether a page's owner is up
+unfoldable pub ownerUp : Bank → ℕ → Bool
+ownerUp k p = isUp (boardAt k (entryAt k p .owner) .state)
+
+-- who gives a page to a reader: "served by the owner if up, otherwise by the lowest-numbered board in the copy-set"; and to a writer: "A write still needs
+-- the owner." (F-4)
+unfoldable pub giver : CopyOrOwn → Bank → ℕ → ℕ
+giver GotCopy k p = elim (ownerUp k p) [ true ↦ entryAt k p .owner | false ↦ lowestHolder (entryAt k p) ]
+giver GotOwn k p = entryAt k p .owner
+
+-- the giver's part of every fetch: "owner records shown and flushes"; "That giver records shown and flushes as an owner does." (F-4)
 unfoldable pub show : ℕ → ℕ → Run → Run
 show o p r = flush o (step (note o (Shown p) (zeros pageSize)) r)
 
@@ -305,20 +317,20 @@ passOwnership o w p k =
 
 -- "All givers record and store first, page by page." (F-3)
 unfoldable pub showAll : List ℕ → Run → Run
-showAll ps r = foldl (λ s p. show (giver (s .bank) p) p s) r ps
+showAll ps r = foldl (λ s p. show (giver GotCopy (s .bank) p) p s) r ps
 
 -- "Only then are the copies taken, together. The got records follow each other, the later ones with count 0." (F-3)
 unfoldable pub giveCopies : ℕ → List ℕ → Bank → Bank
-giveCopies b ps k = foldl (λ j p. giveCopy (giver j p) b p j) k ps
+giveCopies b ps k = foldl (λ j p. giveCopy (giver GotCopy j p) b p j) k ps
 
--- "Read fetch: owner records shown and flushes; reader records got copy, gains the copy and its bit.", of each page in turn
+-- "Read fetch: owner records shown and flushes; reader records got copy, gains the copy and its bit.", each page from its giver
 unfoldable pub readFetch : ℕ → List ℕ → Run → Run
 readFetch b ps r = step (giveCopies b ps) (showAll ps r)
 
 -- "Write fetch: owner records shown and flushes; writer records got own and flushes; then together .."
 unfoldable pub writeFetch : ℕ → ℕ → Run → Run
 writeFetch w p r =
-    let o : ℕ = giver (r .bank) p in
+    let o : ℕ = giver GotOwn (r .bank) p in
     step (passOwnership o w p) (flush w (step (λ k. note w (Got GotOwn p) (frameOf k o p .bytes) k) (show o p r)))
 
 -- the fetch that brings copies of pages, or ownership; a write names one page

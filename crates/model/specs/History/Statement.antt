@@ -19,7 +19,7 @@ use Rattle.model.specs.Definitions.Layout.{pageSize}
 use Rattle.model.specs.Definitions.Bank.{Bank, boardAt, onBoard, fresh}
 use Rattle.model.specs.Definitions.Codec.{encode, decode}
 use Rattle.model.specs.Definitions.WellFormed.{isReplaying}
-use Rattle.model.specs.Definitions.Steps.{start, Access, Read, Write, ReadCells, Cell, cellsRead, cellsWritten, giver}
+use Rattle.model.specs.Definitions.Steps.{start, Access, Read, Write, ReadCells, Cell, cellsRead, cellsWritten, takes, giver}
 use Rattle.model.specs.Definitions.Replay.{tookDue, replayOver, endReplay, recoveryPoint}
 use Rattle.model.specs.Definitions.Answers.{code}
 use Rattle.model.specs.Definitions.Calls.{Call, Accessing, Checkpointing, Fusing, Restarting, call, pagesLacking}
@@ -174,10 +174,10 @@ liveBank b a k =
           ]
     ]
 
--- who gave a page away, one for each page fetched: "A board gives a page away when another board's fetch from it is done."
+-- who gave a page away, one for each page fetched: "A board gives a page away when another board's fetch from it is done.", owner or not (F-4)
 unfoldable pub giversIn : ℕ → Access → Option Bank → List ℕ
 giversIn b a none = []
-giversIn b a (some k) = map (giver k) (pagesLacking b a k)
+giversIn b a (some k) = map (giver (takes a) k) (pagesLacking b a k)
 
 unfoldable pub gaveIn : Event → Bank → List ℕ
 gaveIn (Accessed b a bytes) k = giversIn b a (liveBank b a k)

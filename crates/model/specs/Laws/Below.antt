@@ -69,7 +69,7 @@ module _ (f : ℕ → Bool) where
       (λ t. each-cons (record { from = omega arith; below = omega arith; passes = t }) rest)
       (λ t. rest)
 
-  allFrom-rising : (i n : ℕ) → Rising i (allFrom i n f)
+  pub allFrom-rising : (i n : ℕ) → Rising i (allFrom i n f)
   unfolding allFrom Rising
   allFrom-rising i zero = tt
   allFrom-rising i (suc n) =

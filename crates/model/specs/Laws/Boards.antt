@@ -258,40 +258,40 @@ tookOwn p bytes x = withFrame p (record { right = Own; bytes = bytes }) x
 
 module _ (o w p : ℕ) (k : Bank) where
   -- all but the taker: the old owner and the holders lose their right
-  abbrev pub gives : ℕ → Bool
-  gives c = not (eqb c w) && (eqb c o || member c (entryAt k p .copies))
+  abbrev pub loses : ℕ → Bool
+  loses c = not (eqb c w) && (eqb c o || member c (entryAt k p .copies))
 
   abbrev taken : Board → Board
   taken = tookOwn p (frameOf k o p .bytes)
 
-  pub passOwnership-parts : passOwnership o w p k ≡ onEntry p (ownedBy w) (onBoard w (tookOwn p (frameOf k o p .bytes)) (dropAt gives p k))
+  pub passOwnership-parts : passOwnership o w p k ≡ onEntry p (ownedBy w) (onBoard w (tookOwn p (frameOf k o p .bytes)) (dropAt loses p k))
   unfolding passOwnership ownedBy tookOwn
   passOwnership-parts = refl
 
   pub boards-passOwnership : length (passOwnership o w p k .boards) ≡ length (k .boards)
   unfolding onEntry
-  boards-passOwnership = rw passOwnership-parts (boards-onBoard w taken (dropAt gives p k) ∙ boards-dropAt gives p k)
+  boards-passOwnership = rw passOwnership-parts (boards-onBoard w taken (dropAt loses p k) ∙ boards-dropAt loses p k)
 
   pub directory-passOwnership : length (passOwnership o w p k .directory) ≡ length (k .directory)
   unfolding onBoard dropAt
-  directory-passOwnership = rw passOwnership-parts (directory-onEntry p (ownedBy w) (onBoard w taken (dropAt gives p k)))
+  directory-passOwnership = rw passOwnership-parts (directory-onEntry p (ownedBy w) (onBoard w taken (dropAt loses p k)))
 
   pub boardAt-passOwnership-same : w < length (k .boards) → boardAt (passOwnership o w p k) w ≡ tookOwn p (frameOf k o p .bytes) (boardAt k w)
   unfolding droppedIf
   boardAt-passOwnership-same h =
-      let l : w < length (dropAt gives p k .boards) = rw (boards-dropAt gives p k) h in
-      let e : boardAt (dropAt gives p k) w ≡ boardAt k w = cc (boardAt-dropAt gives p k w h, eq-eqb w w refl) in
-      rw (passOwnership-parts, boardAt-onEntry) (boardAt-same w taken (dropAt gives p k) l ∙ ap taken e)
+      let l : w < length (dropAt loses p k .boards) = rw (boards-dropAt loses p k) h in
+      let e : boardAt (dropAt loses p k) w ≡ boardAt k w = cc (boardAt-dropAt loses p k w h, eq-eqb w w refl) in
+      rw (passOwnership-parts, boardAt-onEntry) (boardAt-same w taken (dropAt loses p k) l ∙ ap taken e)
 
   pub boardAt-passOwnership-other : (c : ℕ) → c < length (k .boards) → c ≢ w
       → boardAt (passOwnership o w p k) c ≡ droppedIf (eqb c o || member c (entryAt k p .copies)) p (boardAt k c)
   boardAt-passOwnership-other c h n =
-      let e : gives c ≡ (eqb c o || member c (entryAt k p .copies)) = cc (ne-eqb c w n) in
-      rw (passOwnership-parts, boardAt-onEntry, ← e) (boardAt-other w taken (dropAt gives p k) c n ∙ boardAt-dropAt gives p k c h)
+      let e : loses c ≡ (eqb c o || member c (entryAt k p .copies)) = cc (ne-eqb c w n) in
+      rw (passOwnership-parts, boardAt-onEntry, ← e) (boardAt-other w taken (dropAt loses p k) c n ∙ boardAt-dropAt loses p k c h)
 
   pub entryAt-passOwnership-same : p < length (k .directory) → entryAt (passOwnership o w p k) p ≡ record { owner = w; copies = 0 }
   unfolding onBoard dropAt ownedBy
-  entryAt-passOwnership-same h = rw passOwnership-parts (entryAt-same p (ownedBy w) (onBoard w taken (dropAt gives p k)) h)
+  entryAt-passOwnership-same h = rw passOwnership-parts (entryAt-same p (ownedBy w) (onBoard w taken (dropAt loses p k)) h)
 
 -- ---- a repeated access leaves its board's state
 

@@ -5,13 +5,13 @@ use mathlib.Core.Logic.{_≢_, _⊎_, inl, inr}
 use Prim.Native.Nat.{ℕ, suc, _<_}
 use native.Mathlib.Omega.{arith}
 use mathlib.Core.Bool.{Bool, true, false}
-use mathlib.Core.Option.{none, some}
+use mathlib.Core.Option.{none}
 use mathlib.Core.List.{List, [], _∷_, map}
 use lib.ListN.{length, set, getD}
 use lib.Dec.{eqb}
-use borrow.Author.Tests.{eqb-true, not-false}
+use borrow.Author.Tests.{eqb-true, eq-eqb}
 use Rattle.words.specs.Bytes.{Each, each-nil, each-cons}
-use Rattle.types.specs.declared.Right.the-variants.{None, Copy, Own}
+use Rattle.types.specs.declared.Right.the-variants.{None, Copy}
 use Rattle.types.specs.declared.Frame.{Frame}
 use Rattle.types.specs.declared.CopyOrOwn.{CopyOrOwn}
 use Rattle.types.specs.declared.CopyOrOwn.the-variants.{GotCopy, GotOwn}
@@ -19,32 +19,34 @@ use Rattle.types.specs.declared.State.the-variants.{Up}
 use Rattle.types.specs.declared.Answer.{Answer}
 use Rattle.types.specs.declared.Answer.the-variants.{Done, Malformed, OutOfRange, WrongState, CountersFull, ReplayDiffers, OwnerNotUp, LogFull, PowerLost}
 use Rattle.types.specs.declared.Answer.the-variants.{WrongCells}
-use Rattle.model.specs.Definitions.Bank.{Board, Bank, boardAt, entryAt, frameAt, onBoard, onWorking, onFrames}
+use Rattle.model.specs.Definitions.Bank.{Board, Bank, boardAt, frameAt, onBoard, onWorking, onFrames}
 use Rattle.model.specs.Definitions.Codec.{encode, decode}
-use Rattle.model.specs.Definitions.WellFormed.{rightIn, isReplaying, WellFormed}
+use Rattle.model.specs.Definitions.WellFormed.{isReplaying, WellFormed}
 use Rattle.model.specs.Definitions.Check.{wellFormed}
 use Rattle.model.specs.Definitions.Steps.{Run, start, step, Access, Read, Write, ReadCells, Cell, cellsAsked, cellsRead, cellsWritten, names, takes}
-use Rattle.model.specs.Definitions.Steps.{lacks, lackingPages, cellByte, withBytes, readFrom, valueOf, givenOf, accessed, access, recorded, withFrame}
+use Rattle.model.specs.Definitions.Steps.{lacks, cellByte, withBytes, readFrom, valueOf, givenOf, accessed, access, recorded, withFrame}
 use Rattle.model.specs.Definitions.Steps.{frameOf, giver, giveCopy, showAll, giveCopies, readFetch, fetch}
 use Rattle.model.specs.Definitions.Replay.{rightGot}
 use Rattle.model.specs.Definitions.Answers.{code, value}
 use Rattle.model.specs.Definitions.Calls.{Result, firstOf, unless, finished, copiesOut, lackingOf, pagesLacking, liveRefusals, prepared, performed, live}
-use Rattle.model.specs.Definitions.Calls.{replaying, accessRefusals, accessWithin, accessBank, refusalsWithin, Call, Accessing, callBank, Reply, refused}
+use Rattle.model.specs.Definitions.Calls.{replaying, accessRefusals, accessWithin, accessBank, refusalsWithin, Call, Accessing, callBank, refused}
 use Rattle.model.specs.Definitions.Calls.{replyOf, call}
-use Rattle.model.specs.Contracts.{CanFetch, CanAccess, Ready, Entered}
+use Rattle.model.specs.Contracts.{CanFetch, CanAccess, Ready}
 use Rattle.model.specs.Moves.{Gives}
 use Rattle.model.specs.Laws.Logic.{cases, byBool, byEq, byOption, clash}
-use Rattle.model.specs.Laws.Lists.{each-head, each-tail, each-imp}
-use Rattle.model.specs.Laws.Below.{Rising, listed, lackingPages-lack, lackingPages-rise, has-right, read-named}
-use Rattle.model.specs.Laws.Boards.{rightIn-owner, frameAt-same, tookCopy, boardAt-same, boardAt-other, boardAt-giveCopy-same, boardAt-giveCopy-other}
+use Rattle.model.specs.Laws.Lists.{each-head, each-tail, each-imp, map-each}
+use Rattle.model.specs.Laws.Below.{Rising, rising-each, listed, lackingPages-lack, lackingPages-rise, has-right, read-named}
+use Rattle.model.specs.Laws.Boards.{frameAt-same, tookCopy, boardAt-same, boardAt-other, boardAt-giveCopy-same, boardAt-giveCopy-other}
+use Rattle.model.specs.Laws.States.{SameStates, states-onBoard}
 use Rattle.model.specs.Laws.Runs.{SameSizes, finished-run, step-none, step-done, step-going}
 use Rattle.model.specs.Laws.Keeps.Clauses.{fits, up-below}
-use Rattle.model.specs.Laws.Keeps.Rights.{or-cases}
+use Rattle.model.specs.Laws.Keeps.Rights.{or-cases, or-none}
 use Rattle.model.specs.Laws.Keeps.Fetches.{Taken}
-use Rattle.model.specs.Laws.Keeps.Copies.{giver-same, Shared, showAll-shared, CanTake, shown-take, giver-giveCopy, taken-take, reader-since}
+use Rattle.model.specs.Laws.Keeps.Copies.{giver-kept, Shared, shared-giver, showAll-shared, CanTake, shown-take, taken-take, reader-since}
 use Rattle.model.specs.Laws.Keeps.Copies.{giveCopies-taken}
 use Rattle.model.specs.Laws.Keeps.Copies.{rest-taken}
-use Rattle.model.specs.Laws.Keeps.Live.{first-in, copy-none, lacking-some, can-fetch, lacking-other, frames-count, fetched-taken, prepared-ready}
+use Rattle.model.specs.Laws.Keeps.Live.{first-in, lacking-some, can-fetch, lacking-other, frames-count, fetched-taken, prepared-ready}
+use Rattle.model.specs.Laws.Keeps.Givers.{copy-none, giver-other, giver-giveCopy}
 use Rattle.model.specs.Laws.Keeps.Entered.{entered, entered-live}
 use Rattle.model.specs.Laws.Moves.{moves-follow}
 use Rattle.model.specs.Laws.Moves.Calls.{copy-out, bytes-seen, prepared-keeps, prepared-sizes, call-moves, call-keeps}
@@ -52,33 +54,32 @@ use Rattle.model.specs.Laws.WellFormedTest.{wellFormed-sound}
 use Rattle.model.specs.History.OnBytes.{call-encode}
 use Rattle.model.specs.History.CellsStatement.{singleReads, answersOf, CellsAsReads}
 use Rattle.model.specs.Laws.Codes.Order.{never}
-use Rattle.model.specs.History.Statement.{bytesSeen, Observed, runOf}
+use Rattle.model.specs.History.Statement.{bytesSeen, runOf}
 
 -- ==== what a board sees
 
 -- the bytes of page p that board b reads in bank k: its own, or those of the page's giver
 unfoldable pub pageSeen : ℕ → Bank → ℕ → List ℕ
-pageSeen b k p = elim (lacks GotCopy (frameOf k b p .right)) [ true ↦ frameOf k (giver k p) p .bytes | false ↦ frameOf k b p .bytes ]
+pageSeen b k p = elim (lacks GotCopy (frameOf k b p .right)) [ true ↦ frameOf k (giver GotCopy k p) p .bytes | false ↦ frameOf k b p .bytes ]
 
 abbrev pub byteSeen : ℕ → Bank → Cell → ℕ
 byteSeen b k c = getD (pageSeen b k (c .page)) (c .offset) 0
 
--- Bank j after board b took copies, or none: the same givers, nobody else's frames changed, and of b's only those of copies taken from who gives.
+-- Bank j after board b took copies, or none: nobody else's frames changed, and of b's only those of copies taken from who gives; who gives the others stays.
 pub record Sees (b : ℕ) (k j : Bank) : Type 0 where
-  pub givers : (q : ℕ) → giver j q ≡ giver k q
   pub others : (c : ℕ) → c ≢ b → boardAt j c .working .frames ≡ boardAt k c .working .frames
-  pub own : (q : ℕ) → (frameOf j b q ≡ frameOf k b q)
-      ⊎ ((frameOf k b q .right ≡ None) × (frameOf j b q .right ≡ Copy) × (frameOf j b q .bytes ≡ frameOf k (giver k q) q .bytes))
+  pub own : (q : ℕ) → ((frameOf j b q ≡ frameOf k b q) × (giver GotCopy j q ≡ giver GotCopy k q))
+      ⊎ ((frameOf k b q .right ≡ None) × (frameOf j b q .right ≡ Copy) × (frameOf j b q .bytes ≡ frameOf k (giver GotCopy k q) q .bytes))
 
 -- the giver of a page to which board b has no right is another board
 abbrev FromOthers : ℕ → Bank → ℕ → Type 0
-FromOthers b k q = frameOf k b q .right ≡ None → giver k q ≢ b
+FromOthers b k q = frameOf k b q .right ≡ None → giver GotCopy k q ≢ b
 
 sees-refl : (b : ℕ) (k : Bank) → Sees b k k
-sees-refl b k = record { givers = λ q. refl; others = λ c n. refl; own = λ q. inl refl }
+sees-refl b k = record { others = λ c n. refl; own = λ q. inl (refl, refl) }
 
 seen-copy : (b : ℕ) (k j : Bank) (q : ℕ) → frameOf k b q .right ≡ None → frameOf j b q .right ≡ Copy
-    → frameOf j b q .bytes ≡ frameOf k (giver k q) q .bytes → pageSeen b j q ≡ pageSeen b k q
+    → frameOf j b q .bytes ≡ frameOf k (giver GotCopy k q) q .bytes → pageSeen b j q ≡ pageSeen b k q
 unfolding pageSeen lacks
 seen-copy b k j q n c e =
     let x : lacks GotCopy (frameOf k b q .right) ≡ true = ap (lacks GotCopy) n in
@@ -93,11 +94,12 @@ sees-page b k j s q f =
       | inl e ↦
           byBool (lacks GotCopy (frameOf k b q .right))
           (λ t.
-          let n : giver k q ≢ b = f (copy-none _ t) in
-          let g : frameAt (boardAt j (giver j q) .working .frames) q ≡ frameAt (boardAt k (giver k q) .working .frames) q =
-          rw (s .givers q, s .others (giver k q) n) in
+          let n : giver GotCopy k q ≢ b = f (copy-none _ t) in
+          let g : frameAt (boardAt j (giver GotCopy j q) .working .frames) q ≡ frameAt (boardAt k (giver GotCopy k q) .working .frames) q =
+          rw (e .1, s .others (giver GotCopy k q) n) in
+          let same : frameOf j b q ≡ frameOf k b q = e .0 in
           cc)
-          (λ t. cc)
+          (λ t. let same : frameOf j b q ≡ frameOf k b q = e .0 in cc)
       | inr e ↦ seen-copy b k j q (e .0) (e .1) (e .2)
     ]
 
@@ -108,35 +110,39 @@ unfolding listed
 each-listed q [] e t = clash t refl
 each-listed q (p ∷ ps) e t = or-cases (eqb p q) (listed q ps) t (λ s. rw (← eqb-true p q s) (each-head e)) (λ s. each-listed q ps (each-tail e) s)
 
--- copies given leave all other boards, and the owners of pages
+-- copies given leave all other boards, and who gives other pages
 copies-others : (b : ℕ) (ps : List ℕ) (k : Bank) (c : ℕ) → c ≢ b → boardAt (giveCopies b ps k) c ≡ boardAt k c
 unfolding giveCopies
 copies-others b [] k c n = refl
 copies-others b (p ∷ ps) k c n =
-    copies-others b ps (giveCopy (giver k p) b p k) c n ∙ boardAt-giveCopy-other (giver k p) b p k c n
+    copies-others b ps (giveCopy (giver GotCopy k p) b p k) c n ∙ boardAt-giveCopy-other (giver GotCopy k p) b p k c n
 
-copies-givers : (b : ℕ) (ps : List ℕ) (k : Bank) (q : ℕ) → giver (giveCopies b ps k) q ≡ giver k q
-unfolding giveCopies
-copies-givers b [] k q = refl
-copies-givers b (p ∷ ps) k q = copies-givers b ps (giveCopy (giver k p) b p k) q ∙ giver-giveCopy (giver k p) b p k q
+copies-givers : (b : ℕ) (ps : List ℕ) (k : Bank) (q : ℕ) → listed q ps ≡ false → giver GotCopy (giveCopies b ps k) q ≡ giver GotCopy k q
+unfolding giveCopies listed
+copies-givers b [] k q t = refl
+copies-givers b (p ∷ ps) k q t =
+    let n : (eqb p q ≡ false) × (listed q ps ≡ false) = or-none (eqb p q) (listed q ps) t in
+    copies-givers b ps (giveCopy (giver GotCopy k p) b p k) q (n .1)
+    ∙ giver-giveCopy GotCopy (giver GotCopy k p) b p k q (λ e. clash (eq-eqb p q (sym e)) (n .0))
 
 -- each copy has the bytes of who gave it
 copies-bytes : (b n : ℕ) (ps : List ℕ) (k : Bank) → CanTake b ps k → Rising n ps → (q : ℕ) → listed q ps ≡ true
-    → frameOf (giveCopies b ps k) b q .bytes ≡ frameOf k (giver k q) q .bytes
+    → frameOf (giveCopies b ps k) b q .bytes ≡ frameOf k (giver GotCopy k q) q .bytes
 unfolding giveCopies Rising listed frameOf tookCopy withFrame onWorking onFrames recorded
 copies-bytes b n [] k c r q t = clash t refl
 copies-bytes b n (p ∷ ps) k c r q t =
-    let o : ℕ = giver k p in
+    let o : ℕ = giver GotCopy k p in
     let j : Bank = giveCopy o b p k in
     let can : CanTake b ps j = taken-take b p ps k c (r .1) in
     let rest : Taken GotCopy ps (boardAt j b) (boardAt (giveCopies b ps j) b) =
     rest-taken b (suc p) ps j can (r .1) (reader-since b p ps k c (r .1)) in
     byBool (listed q ps)
     (λ v.
-    let g : Gives (giver k q) b q k = each-listed q ps (each-tail (c .gives)) v in
+    let g : Gives (giver GotCopy k q) b q k = each-listed q ps (each-tail (c .gives)) v in
+    let above : p < q = each-listed q ps (rising-each (suc p) ps (r .1)) v in
+    let from : giver GotCopy j q ≡ giver GotCopy k q = giver-giveCopy GotCopy o b p k q (λ i. absurd (omega (arith, above))) in
     copies-bytes b (suc p) ps j can (r .1) q v
-    ∙ ap₂ (λ (d : ℕ) (x : Board). frameAt (x .working .frames) q .bytes) (giver-giveCopy o b p k q)
-    (ap (boardAt j) (giver-giveCopy o b p k q) ∙ boardAt-giveCopy-other o b p k (giver k q) (g .other)))
+    ∙ ap (λ (x : Board). frameAt (x .working .frames) q .bytes) (ap (boardAt j) from ∙ boardAt-giveCopy-other o b p k (giver GotCopy k q) (g .other)))
     (λ v.
     let here : p ≡ q = or-cases (eqb p q) (listed q ps) t (λ e. eqb-true p q e) (λ e. clash e v) in
     let fs : List Frame = boardAt k b .working .frames in
@@ -158,10 +164,9 @@ fetch-sees b p ps s w c lack r n =
     let t : Shared b (s .bank) (u .bank) = showAll-shared b qs s c e in
     let can : CanTake b qs (u .bank) = shown-take b qs s w c lack e in
     let y : Taken GotCopy qs (boardAt (u .bank) b) (boardAt (giveCopies b qs (u .bank)) b) = giveCopies-taken b p ps (u .bank) can r in
-    let same : (q : ℕ) → giver (u .bank) q ≡ giver (s .bank) q = giver-same (s .bank) (u .bank) (t .directory) in
+    let same : (q : ℕ) → giver GotCopy (u .bank) q ≡ giver GotCopy (s .bank) q = shared-giver t GotCopy in
     rw (step-done (giveCopies b qs) u n)
     (record {
-      givers = λ q. copies-givers b qs (u .bank) q ∙ same q;
       others = λ d m. ap (λ (x : Board). x .working .frames) (copies-others b qs (u .bank) d m) ∙ t .frames d;
       own = λ q.
           byBool (listed q qs)
@@ -171,9 +176,10 @@ fetch-sees b p ps s w c lack r n =
             y .right q v,
             copies-bytes b 0 qs (u .bank) can r q v
                 ∙ (ap (λ (d : ℕ). frameAt (boardAt (u .bank) d .working .frames) q .bytes) (same q)
-                ∙ ap (λ (gs : List Frame). frameAt gs q .bytes) (t .frames (giver (s .bank) q))),
+                ∙ ap (λ (gs : List Frame). frameAt gs q .bytes) (t .frames (giver GotCopy (s .bank) q))),
           ))
-          (λ v. inl (y .kept q v ∙ ap (λ (x : Board). frameAt (x .working .frames) q) (t .reader)));
+          (λ v.
+          inl (y .kept q v ∙ ap (λ (x : Board). frameAt (x .working .frames) q) (t .reader), copies-givers b qs (u .bank) q v ∙ same q));
     })
 
 -- a board reads its own bytes of a page to which it has a right
@@ -222,8 +228,9 @@ module _ (b : ℕ) (a : Access) (k : Bank) (w : WellFormed k) (can : CanAccess b
   named-others : (q : ℕ) → names a q ≡ true → FromOthers b k q
   unfolding frameOf lacks
   named-others q n e =
-      lacking-other b a k w can q
-      (record { below = rw (frames-count b a k w can) (can .pages q n); named = n; right = rw (copy, e) })
+      rw copy at
+      (lacking-other b a k w can q
+      (record { below = rw (frames-count b a k w can) (can .pages q n); named = n; right = rw (copy, e) }))
 
   module _ (passed : firstOf (liveRefusals b a k) ≡ none) where
     sees-as : (g : CopyOrOwn) (ps : List ℕ) → g ≡ GotCopy → pagesLacking b a k ≡ ps → lackingOf b a k ≡ true → fetch g b ps (start k) .lost ≡ none
@@ -295,24 +302,20 @@ pub record ReadDone (b : ℕ) (a : Access) (k : Bank) (v : ℕ) : Type 0 where
   pub sees : Sees b k (accessBank b a k .run .bank)
   pub up : boardAt (accessBank b a k .run .bank) b .state ≡ Up
 
--- the frames of all boards stay, and the directory
-sees-on : (b : ℕ) (k j i : Bank) → Sees b k j → i .directory ≡ j .directory → ((c : ℕ) → boardAt i c .working .frames ≡ boardAt j c .working .frames)
-    → Sees b k i
+-- the frames and states of all boards stay, and the directory
+sees-on : (b : ℕ) (k j i : Bank) → Sees b k j → i .directory ≡ j .directory → SameStates j i
+    → ((c : ℕ) → boardAt i c .working .frames ≡ boardAt j c .working .frames) → Sees b k i
 unfolding frameOf
-sees-on b k j i s d f =
-    record {
-      givers = λ q. giver-same j i d q ∙ s .givers q;
-      others = λ c n. f c ∙ s .others c n;
-      own = λ q. rw (f b) (s .own q);
-    }
+sees-on b k j i s d t f =
+    record { others = λ c n. f c ∙ s .others c n; own = λ q. rw (f b, giver-kept j i d t GotCopy q) (s .own q) }
 
 directory-access : (b : ℕ) (a : Access) (k : Bank) → access b a k .directory ≡ k .directory
 unfolding access onBoard
 directory-access b a k = refl
 
-state-access : (b : ℕ) (a : Access) (k : Bank) → b < length (k .boards) → boardAt (access b a k) b .state ≡ boardAt k b .state
+states-access : (b : ℕ) (a : Access) (k : Bank) → SameStates k (access b a k)
 unfolding access onWorking
-state-access b a k l = rw (boardAt-same b (onWorking (accessed a)) k l)
+states-access b a k = states-onBoard b (onWorking (accessed a)) k refl
 
 access-frames : (b : ℕ) (a : Access) (k : Bank) → takes a ≡ GotCopy → b < length (k .boards) → (c : ℕ)
     → boardAt (access b a k) c .working .frames ≡ boardAt k c .working .frames
@@ -357,8 +360,9 @@ module _ (b : ℕ) (a : Access) (k : Bank) (w : WellFormed k) (up : boardAt k b 
         sees =
             rw after
             (sees-on b k (r .bank) (access b a (r .bank)) (prepared-sees b a k w can copy (two .0) n) (directory-access b a (r .bank))
+            (states-access b a (r .bank))
             (access-frames b a (r .bank) copy l));
-        up = rw after (state-access b a (r .bank) l ∙ prepared-up b a k w can copy (two .0) n);
+        up = rw after (states-access b a (r .bank) b ∙ prepared-up b a k w can copy (two .0) n);
       }
 
 -- ==== single reads
@@ -375,22 +379,14 @@ answers-encode (c ∷ cs) k w =
     rw (call-encode c k w) (ap (λ (xs : List Answer). callBank c k .answer ∷ xs) (answers-encode cs (callBank c k .run .bank) (call-keeps c k w)))
 
 up-others : (b : ℕ) (k : Bank) → WellFormed k → boardAt k b .state ≡ Up → (q : ℕ) → q < length (k .directory) → FromOthers b k q
-unfolding frameOf giver entryAt
-up-others b k w up q l e o =
-    let t : frameAt (boardAt k b .working .frames) q .right ≡ rightIn (entryAt k q) b =
-    fits w b (up-below k b up) .agreed .rights up q l in
-    let z : Own ≡ None = sym (t ∙ rightIn-owner (entryAt k q) b o) ∙ e in
-    never (cc)
+unfolding lacks
+up-others b k w up q l e = giver-other w q l GotCopy b up (ap (lacks GotCopy) e)
 
-map-each : {A B : Type 0} {f g : A → B} (xs : List A) → Each (λ x. f x ≡ g x) xs → map f xs ≡ map g xs
-map-each [] e = refl
-map-each (x ∷ xs) e = cc (each-head e, map-each xs (each-tail e))
-
-read-copy : (p o : ℕ) → takes (Read p o) ≡ GotCopy
+pub read-copy : (p o : ℕ) → takes (Read p o) ≡ GotCopy
 unfolding takes
 read-copy p o = refl
 
-single-seen : (b : ℕ) (k : Bank) (p o v : ℕ) (given : List ℕ) → bytesSeen (Read p o) v given ≡ map (byteSeen b k) (cellsRead (Read p o))
+pub single-seen : (b : ℕ) (k : Bank) (p o v : ℕ) (given : List ℕ) → bytesSeen (Read p o) v given ≡ map (byteSeen b k) (cellsRead (Read p o))
     → v ≡ byteSeen b k (record { page = p; offset = o })
 unfolding bytesSeen cellsRead
 single-seen b k p o v given e = cc
@@ -417,7 +413,7 @@ reads-values b (c ∷ cs) k (v ∷ vs) w up l e =
 
 -- ==== the claim
 
-done-form : (x : Answer) → code x ≡ 0 → x ≡ Done (value x)
+pub done-form : (x : Answer) → code x ≡ 0 → x ≡ Done (value x)
 unfolding code value
 done-form (Done v) e = refl
 done-form Malformed e = never (omega arith)

@@ -31,7 +31,7 @@ use Rattle.model.specs.Laws.Logic.{cases, clash}
 use Rattle.model.specs.Laws.WellFormedTest.{wellFormed-sound, wellFormed-iff}
 use Rattle.model.specs.Laws.Tests.{Says}
 use Rattle.model.specs.Laws.Codes.Statement.{Row, First, NoRow, WhoIn, codeIn, OfAccess, boardNamed, NumbersOut, AskedOut, StateOut, CountersOut}
-use Rattle.model.specs.Laws.Codes.Statement.{ReplayOut, OwnerOut, RoomOut, Live, LowestNotUp, LowestShort, LosesPower, refusalRows, table, SizesOut}
+use Rattle.model.specs.Laws.Codes.Statement.{ReplayOut, OwnerOut, RoomOut, Live, LowestMissing, LowestShort, LosesPower, refusalRows, table, SizesOut}
 use Rattle.model.specs.Laws.Codes.Statement.{LengthOut}
 use Rattle.model.specs.Laws.Codes.Order.{never, fails, refuted, says-not-and, says-not-pos, says-not-le, Judged, byRow, IsDone, judged-nil, judged-past}
 use Rattle.model.specs.Laws.Codes.Order.{noCode, differ, apart, judged-append, judged-code, judged-done, judged-who, judged-value}
@@ -245,7 +245,7 @@ module _ (c : Call) (s : List ℕ) where
   unfolding table refusalRows WhoIn codeIn
   who-5 e = codes-who 5 (omega arith) e
 
-  pub who-6 : code (answerTo c s) ≡ 6 → OfAccess (λ b a. Live (λ j. LowestNotUp b a j (who (answerTo c s))) (decode s) b a) c
+  pub who-6 : code (answerTo c s) ≡ 6 → OfAccess (λ b a. Live (λ j. LowestMissing b a j (who (answerTo c s))) (decode s) b a) c
   unfolding table refusalRows WhoIn codeIn
   who-6 e = codes-who 6 (omega arith) e
 

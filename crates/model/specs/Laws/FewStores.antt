@@ -34,9 +34,9 @@ use Rattle.model.specs.Laws.Runs.{store-cases, step-going, follows-step,
 use Rattle.model.specs.Laws.Runs.{length-recordStores, length-checkpointStores, finished-run}
 use Rattle.model.specs.Laws.Boards.{boardAt-same}
 use Rattle.model.specs.Contracts.{RoomFor, CanAccess, CanFetch, Entered, mostStores}
-use Rattle.model.specs.Laws.Keeps.Live.{frames-count, lacking-own, can-fetch, isReplaying-replaying}
+use Rattle.model.specs.Laws.Keeps.Live.{frames-count, lacking-own, can-fetch}
 use Rattle.model.specs.Laws.Keeps.Entered.{entered-live, below-taken, taken-inReplay, live-can, entered, fitting}
-use Rattle.model.specs.Laws.Keeps.Clauses.{up-below}
+use Rattle.model.specs.Laws.Keeps.Clauses.{up-below, isReplaying-replaying}
 use Rattle.model.specs.Laws.WellFormedTest.{wellFormed-sound}
 use Rattle.model.specs.Laws.Keeps.Fetches.{room-owner, room-taker, writer-same}
 use Rattle.model.specs.Laws.Keeps.Copies.{room-giver, shown-can}
@@ -88,9 +88,9 @@ showAll-few : (b : ℕ) (ps : List ℕ) (r : Run) → CanFetch GotCopy b ps (r .
 unfolding showAll
 showAll-few b [] r can = omega arith
 showAll-few b (p ∷ ps) r can =
-    let o : ℕ = giver (r .bank) p in
+    let o : ℕ = giver GotCopy (r .bank) p in
     let s : Run = show o p r in
-    let few : s .stores ≤ r .stores + slotCount = show-few o p r (room-giver b p ps (r .bank) can) (up-below (r .bank) o (each-head (can .owners))) in
+    let few : s .stores ≤ r .stores + slotCount = show-few o p r (room-giver b p ps (r .bank) can) (up-below (r .bank) o (each-head (can .givers))) in
     byOption (s .lost)
     (λ n. omega (arith, few, showAll-few b ps s (shown-can b p ps r can n)))
     (λ c e. rw (follows-showAll ps s .lost c e) (omega arith))
@@ -98,14 +98,14 @@ showAll-few b (p ∷ ps) r can =
 writeFetch-few : (b p : ℕ) (r : Run) → WellFormed (r .bank) → CanFetch GotOwn b (p ∷ []) (r .bank) → writeFetch b p r .stores ≤ r .stores + 2 * slotCount
 unfolding writeFetch
 writeFetch-few b p r w c =
-    let o : ℕ = giver (r .bank) p in
+    let o : ℕ = giver GotOwn (r .bank) p in
     let gave : Run = show o p r in
     let bytes : Bank → List ℕ = λ k. frameOf k o p .bytes in
     let m : RoomFor 1 (boardAt (r .bank) o) = omega (arith, room-owner b p r w c) in
     let l : b < length (gave .bank .boards) = rw (follows-show o p r .sizes .boards) (up-below (r .bank) b (c .taker)) in
     omega (
       arith,
-      show-few o p r m (up-below (r .bank) o (each-head (c .owners))),
+      show-few o p r m (up-below (r .bank) o (each-head (c .givers))),
       noted-few b (Got GotOwn p) bytes gave (λ n. rw (writer-same b p r w c n) (room-taker b p r w c)) l,
       step-stores (passOwnership o b p) (flush b (step (λ k. note b (Got GotOwn p) (bytes k) k) gave)),
     )

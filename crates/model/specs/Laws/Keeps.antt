@@ -5,6 +5,7 @@ pub mod Stores
 pub mod Checkpoint
 pub mod Accesses
 pub mod Rights
+pub mod Givers
 pub mod Fetches
 pub mod Copies
 pub mod Replay

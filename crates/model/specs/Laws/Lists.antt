@@ -267,3 +267,8 @@ firstBelow-some n m f h =
 pub map-same : {A B : Type 0} {f g : A → B} (xs : List A) → ((x : A) → f x ≡ g x) → map f xs ≡ map g xs
 map-same [] h = refl
 map-same (x ∷ xs) h = cc (h x, map-same xs h)
+
+-- .. as far as the elements of a list go
+pub map-each : {A B : Type 0} {f g : A → B} (xs : List A) → Each (λ x. f x ≡ g x) xs → map f xs ≡ map g xs
+map-each [] e = refl
+map-each (x ∷ xs) e = cc (each-head e, map-each xs (each-tail e))

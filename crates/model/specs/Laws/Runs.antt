@@ -218,13 +218,13 @@ pub follows-showAll : (ps : List ℕ) (r : Run) → Follows r (showAll ps r)
 unfolding showAll
 follows-showAll [] r = follows-refl r
 follows-showAll (p ∷ ps) r =
-    let o : ℕ = giver (r .bank) p in
+    let o : ℕ = giver GotCopy (r .bank) p in
     follows-trans (follows-show o p r) (follows-showAll ps (show o p r))
 
 pub sizes-giveCopies : (b : ℕ) (ps : List ℕ) (k : Bank) → SameSizes k (giveCopies b ps k)
 unfolding giveCopies
 sizes-giveCopies b [] k = sizes-same k
-sizes-giveCopies b (p ∷ ps) k = let o : ℕ = giver k p in sizes-trans (sizes-giveCopy o b p k) (sizes-giveCopies b ps (giveCopy o b p k))
+sizes-giveCopies b (p ∷ ps) k = let o : ℕ = giver GotCopy k p in sizes-trans (sizes-giveCopy o b p k) (sizes-giveCopies b ps (giveCopy o b p k))
 
 pub follows-readFetch : (b : ℕ) (ps : List ℕ) (r : Run) → Follows r (readFetch b ps r)
 unfolding readFetch
@@ -234,7 +234,7 @@ follows-readFetch b ps r =
 pub follows-writeFetch : (w p : ℕ) (r : Run) → Follows r (writeFetch w p r)
 unfolding writeFetch
 follows-writeFetch w p r =
-    let o : ℕ = giver (r .bank) p in
+    let o : ℕ = giver GotOwn (r .bank) p in
     let bytes : Bank → List ℕ = λ k. frameOf k o p .bytes in
     let got : Run = flush w (step (λ k. note w (Got GotOwn p) (bytes k) k) (show o p r)) in
     follows-trans (follows-show o p r)

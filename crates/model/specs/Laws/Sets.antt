@@ -1,11 +1,16 @@
--- Laws of a set of boards as a number (Definitions.Parts): who is a member after one joins or leaves, and bounds. Assumes nothing.
+-- Laws of a set of boards as a number (Definitions.Parts): who is a member after one joins or leaves, bounds, and that the count of trailing zeros is the
+-- lowest member. Assumes nothing.
 use mathlib.Core.Path.{_≡_, refl, ap}
 use mathlib.Core.Logic.{_≢_}
 use Prim.Native.Nat.{ℕ, zero, suc, _+_, _*_, _/_, _%_, _^_, _≤_, _<_}
 use native.Mathlib.Nat.{pow-suc, not-suc-le-zero, le-of-suc-le-suc}
 use native.Mathlib.Omega.{arith}
+use native.Mathlib.Decide.{decLt}
 use mathlib.Core.Bool.{true, false}
+use lib.Count.{trailingZeros}
+use borrow.Author.Tests.{eq-eqb, ne-eqb}
 use Rattle.model.specs.Definitions.Parts.{member, withMember, withoutMember}
+use Rattle.model.specs.Laws.Logic.{byEq, clash}
 
 -- a number made of a half and a lowest digit
 low : (x y : ℕ) → (2 * x + y % 2) % 2 ≡ y % 2
@@ -64,6 +69,9 @@ member-past (suc n) (suc b) set h l =
     let e : 2 ^ suc n ≡ 2 ^ n * 2 = pow-suc 2 n in
     member-past n b (set / 2) (omega arith) (le-of-suc-le-suc l)
 
+pub member-below : (n b set : ℕ) → set < 2 ^ n → member b set ≡ true → b < n
+member-below n b set h m = elim (decLt b n) [ yes l ↦ l | no l ↦ clash m (member-past n b set h (omega arith)) ]
+
 pub with-below : (n b set : ℕ) → set < 2 ^ n → b < n → withMember b set < 2 ^ n
 unfolding withMember
 with-below zero b set h l = absurd (not-suc-le-zero l)
@@ -79,3 +87,54 @@ pub without-le : (b set : ℕ) → withoutMember b set ≤ set
 unfolding withoutMember
 without-le zero set = omega arith
 without-le (suc b) set = let r : withoutMember b (set / 2) ≤ set / 2 = without-le b (set / 2) in omega arith
+
+-- ---- the lowest member
+
+even-trailing : (k set : ℕ) → set % 2 ≡ 0 → trailingZeros (suc k) set ≡ suc (trailingZeros k (set / 2))
+unfolding trailingZeros
+even-trailing k set e = rw e
+
+odd-trailing : (k set : ℕ) → set % 2 ≡ 1 → trailingZeros (suc k) set ≡ 0
+unfolding trailingZeros
+odd-trailing k set e = rw e
+
+-- where it is below the width, it is a member
+pub lowest-member : (k set : ℕ) → trailingZeros k set < k → member (trailingZeros k set) set ≡ true
+unfolding member
+lowest-member zero set h = absurd (not-suc-le-zero h)
+lowest-member (suc k) set h =
+    byEq (set % 2) 0
+    (λ e.
+    let f : trailingZeros (suc k) set ≡ suc (trailingZeros k (set / 2)) = even-trailing k set e in
+    rw f (lowest-member k (set / 2) (omega arith)))
+    (λ n.
+    let e : set % 2 ≡ 1 = omega arith in
+    rw (odd-trailing k set e) (eq-eqb (set % 2) 1 e))
+
+-- none below it is one
+pub lowest-others : (k set j : ℕ) → j < trailingZeros k set → member j set ≡ false
+unfolding member trailingZeros
+lowest-others zero set j h = absurd (not-suc-le-zero h)
+lowest-others (suc k) set zero h =
+    byEq (set % 2) 1
+    (λ e. let f : trailingZeros (suc k) set ≡ 0 = odd-trailing k set e in absurd (omega arith))
+    (λ n. ne-eqb (set % 2) 1 n)
+lowest-others (suc k) set (suc j) h =
+    byEq (set % 2) 0
+    (λ e.
+    let f : trailingZeros (suc k) set ≡ suc (trailingZeros k (set / 2)) = even-trailing k set e in
+    lowest-others k (set / 2) j (omega arith))
+    (λ n.
+    let e : set % 2 ≡ 1 = omega arith in
+    let f : trailingZeros (suc k) set ≡ 0 = odd-trailing k set e in
+    absurd (omega arith))
+
+-- a set that is not empty has a lowest member
+pub lowest-in : (k set : ℕ) → set < 2 ^ k → set ≢ 0 → trailingZeros k set < k
+unfolding trailingZeros
+lowest-in zero set h n = absurd (n (omega arith))
+lowest-in (suc k) set h n =
+    let e : 2 ^ suc k ≡ 2 ^ k * 2 = pow-suc 2 k in
+    byEq (set % 2) 0
+    (λ z. let m : trailingZeros k (set / 2) < k = lowest-in k (set / 2) (omega arith) (λ y. n (omega arith)) in rw z (omega arith))
+    (λ z. let o : set % 2 ≡ 1 = omega arith in rw o (omega arith))

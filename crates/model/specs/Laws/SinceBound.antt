@@ -182,17 +182,17 @@ module _ (bound : ℕ → ℕ) where
   within-showAll : (ps : List ℕ) (r : Run) → Within (r .bank) → Within (showAll ps r .bank)
   unfolding showAll
   within-showAll [] r h = h
-  within-showAll (p ∷ ps) r h = let o : ℕ = giver (r .bank) p in within-showAll ps (show o p r) (within-show o p r h)
+  within-showAll (p ∷ ps) r h = let o : ℕ = giver GotCopy (r .bank) p in within-showAll ps (show o p r) (within-show o p r h)
 
   within-giveCopies : (b : ℕ) (ps : List ℕ) (k : Bank) → Within k → Within (giveCopies b ps k)
   unfolding giveCopies
   within-giveCopies b [] k h = h
-  within-giveCopies b (p ∷ ps) k h = let o : ℕ = giver k p in within-giveCopies b ps (giveCopy o b p k) (within-giveCopy o b p k h)
+  within-giveCopies b (p ∷ ps) k h = let o : ℕ = giver GotCopy k p in within-giveCopies b ps (giveCopy o b p k) (within-giveCopy o b p k h)
 
   within-writeFetch : (b p : ℕ) (r : Run) → Within (r .bank) → Within (writeFetch b p r .bank)
   unfolding writeFetch
   within-writeFetch b p r h =
-      let o : ℕ = giver (r .bank) p in
+      let o : ℕ = giver GotOwn (r .bank) p in
       let s : Run = show o p r in
       let w : Within (s .bank) = within-show o p r h in
       let t : Run = step (λ k. note b (Got GotOwn p) (frameOf k o p .bytes) k) s in

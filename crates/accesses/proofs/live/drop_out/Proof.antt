@@ -1,9 +1,8 @@
 -- `accesses::live::drop_out` meets its contract: the ones of the copy-set are counted. Assumes nothing.
 use Rattle.accesses.specs.Prepared.{out-none, out-some, copies-none, copies-some}
-use Rattle.exchange.specs.Directory.{entry-at, entry-told}
+use Rattle.exchange.specs.Directory.{entry-at, copies-told}
 use Rattle.exchange.specs.Banks.{of-holds}
 use Rattle.model.specs.Definitions.Codec.{decode}
-use Rattle.model.specs.Definitions.Bank.{Entry}
 use native.Mathlib.Omega.{arith}
 use lib.Count.{ones}
 use mathlib.Core.Path.{ap, _∙_}
@@ -27,8 +26,7 @@ returns : tie.Need-returns
 returns c =
     let start = c .before .before .before .before .before .before .before .before .before in
     let e = c .before .before .before .before .before .count-copies .ensures
-    ∙ ap ones (c .before .before .before .before .before .before .read-copies .ensures
-    ∙ ap (λ (e : Entry). e .copies) (entry-told (start .pre .0) _ (start .pre .1))) in
+    ∙ ap ones (c .before .before .before .before .before .before .read-copies .ensures ∙ copies-told (start .pre .0) _ (start .pre .1)) in
     rw (← out-some (start .args .page) (decode (start .args .bank .now)) (copies-some _ _ e (c .before .before .before .before .if1 .taken)))
     (c .before .before .drop-copies .ensures)
 
@@ -39,7 +37,7 @@ returns-2 : tie.Need-returns-2
 returns-2 c =
     let start = c .before .before .before .before .before in
     let e = c .before .count-copies .ensures
-    ∙ ap ones (c .before .before .read-copies .ensures ∙ ap (λ (e : Entry). e .copies) (entry-told (start .pre .0) _ (start .pre .1))) in
+    ∙ ap ones (c .before .before .read-copies .ensures ∙ copies-told (start .pre .0) _ (start .pre .1)) in
     rw (← out-none (start .args .page) (decode (start .args .bank .now)) (copies-none _ _ e (omega arith))) (of-holds (start .pre .0))
 
 pub drop-out-spec : {M : Type 1} → statement M

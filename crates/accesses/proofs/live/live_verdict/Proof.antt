@@ -4,7 +4,7 @@ use Prim.Native.Nat.{ℕ}
 use native.Mathlib.Omega.{arith}
 use borrow.Author.Tests.{not-true}
 use Rattle.model.specs.Definitions.Codec.{decode}
-use Rattle.exchange.specs.Directory.{entry-at, giver-told}
+use Rattle.exchange.specs.Directory.{entry-at, owner-told}
 use Rattle.accesses.specs.Asks.{Lacking}
 use Rattle.accesses.specs.Results.{refusal}
 use Rattle.accesses.specs.Prepared.{refuses-owner, refuses-short, refuses-none, passes-idle}
@@ -33,7 +33,7 @@ returns-2 c =
     let inside = c .before .if3 .taken in
     λ a l.
     refuses-owner l (start .pre .0 .bank .count) _ (c .before .before .missing-page .ensures .0) _
-    (c .read-owner .ensures ∙ giver-told (start .pre .0 .bank) _ inside) inside
+    (c .read-owner .ensures ∙ owner-told (start .pre .0 .bank) _ inside) inside
 
 short-board-requires : tie.Need-short-board-requires
 short-board-requires c κs = search needs

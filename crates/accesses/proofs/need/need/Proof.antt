@@ -22,7 +22,7 @@ abbrev μ-loop : tie.MeasureT-loop
 μ-loop bank pages ask lacking board need₀ page₀ need page = pages - page
 
 page-need-requires : tie.Need-page-need-requires Inv-loop μ-loop
-page-need-requires c κs = let start = c .before .before in (start .pre .0, start .pre .1 (c .if1 .taken))
+page-need-requires c κs = let pre = c .before .before .pre in (pre .0, pre .1, pre .2 (c .if1 .taken))
 
 returns : tie.Need-returns Inv-loop μ-loop
 returns c =
@@ -30,8 +30,8 @@ returns c =
     let written = c .before .if1 .taken in (
       λ a l.
           c .page-need .ensures .0 a l
-          ∙ (need-written l (start .args .board) written (start .pre .1 written) ∙ need-of _ _ a _ _ (start .pre .0 .count)),
-      omega (arith, c .page-need .ensures .1, start .pre .1 written),
+          ∙ (need-written l (start .args .board) written (start .pre .2 written) ∙ need-of _ _ a _ _ (start .pre .0 .count)),
+      omega (arith, c .page-need .ensures .1, start .pre .2 written),
     )
 
 returns-2 : tie.Need-returns-2 Inv-loop μ-loop

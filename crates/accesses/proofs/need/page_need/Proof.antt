@@ -1,8 +1,7 @@
 -- `accesses::need::page_need` meets its contract: a fetch, an own write, another page's, or none. Assumes nothing.
-use mathlib.Core.Path.{sym, ap, _∙_}
+use mathlib.Core.Path.{sym, _∙_}
 use native.Mathlib.Omega.{arith}
-use Rattle.model.specs.Definitions.Bank.{Entry}
-use Rattle.exchange.specs.Directory.{entry-at, entry-told, giver-told}
+use Rattle.exchange.specs.Directory.{entry-at, copies-told, of-owner}
 use Rattle.accesses.specs.Needs.{need-fetch, need-own-write, need-other-page, need-nothing}
 use borrow.Author.Needs.{needs}
 use Rattle.accesses.proofs.need.page_need.Statement.{statement}
@@ -11,14 +10,11 @@ use Rattle.accesses.proofs.need.page_need.Tie as tie
 has-requires : tie.Need-has-requires
 has-requires c κs = search needs
 
-read-owner-requires : tie.Need-read-owner-requires
-read-owner-requires c κs = let start = c .before .before .before in entry-at (start .pre .0) _ (start .pre .1)
-
-cast-owner : tie.Need-cast-owner
-cast-owner c = search needs
+giver-requires : tie.Need-giver-requires
+giver-requires c κs = let pre = c .before .before .before .pre in (of-owner (pre .0) (pre .1) _ (pre .2), pre .2)
 
 read-copies-requires : tie.Need-read-copies-requires
-read-copies-requires c κs = let start = c .before .before .before .before in entry-at (start .pre .0) _ (start .pre .1)
+read-copies-requires c κs = let pre = c .before .before .before .before .pre in entry-at (pre .0) _ (pre .2)
 
 fetch-need-requires : tie.Need-fetch-need-requires
 fetch-need-requires c κs = search needs
@@ -29,14 +25,13 @@ returns c =
     let in-set = sym (c .before .before .before .before .has .ensures) ∙ c .before .before .before .if1 .taken in (
       λ a l.
           c .fetch-need .ensures .0 _ _
-          (c .before .read-copies .ensures ∙ ap (λ (e : Entry). e .copies) (entry-told (start .pre .0) _ (start .pre .1)))
-          ∙ need-fetch l (start .args .board) (start .args .page) in-set _
-          (c .before .before .read-owner .ensures ∙ giver-told (start .pre .0) _ (start .pre .1)),
+          (c .before .read-copies .ensures ∙ copies-told (start .pre .0) _ (start .pre .2))
+          ∙ need-fetch l (start .args .board) (start .args .page) in-set _ (c .before .before .giver .ensures),
       c .fetch-need .ensures .1,
     )
 
 read-copies-requires-2 : tie.Need-read-copies-requires-2
-read-copies-requires-2 c κs = let start = c .before .before .before .before .before .before in entry-at (start .pre .0) _ (start .pre .1)
+read-copies-requires-2 c κs = let pre = c .before .before .before .before .before .before .pre in entry-at (pre .0) _ (pre .2)
 
 holder-need-requires : tie.Need-holder-need-requires
 holder-need-requires c κs = search needs
@@ -48,7 +43,7 @@ returns-2 c =
       λ a l.
           c .holder-need .ensures .0
           ∙ need-own-write l (start .args .board) (start .args .page) out (c .before .before .before .before .if2 .taken) (c .before .before .if3 .taken) _
-          (c .before .read-copies2 .ensures ∙ ap (λ (e : Entry). e .copies) (entry-told (start .pre .0) _ (start .pre .1))),
+          (c .before .read-copies2 .ensures ∙ copies-told (start .pre .0) _ (start .pre .2)),
       c .holder-need .ensures .1,
     )
 
@@ -69,8 +64,7 @@ page-need-spec =
     tie.close
     (tie.spec
     has-requires
-    read-owner-requires
-    cast-owner
+    giver-requires
     read-copies-requires
     fetch-need-requires
     returns

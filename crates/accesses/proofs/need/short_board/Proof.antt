@@ -37,7 +37,7 @@ loop-holds c = (omega arith, λ a l. search-begins _ _)
 need-requires : tie.Need-need-requires Inv-loop μ-loop
 need-requires c κs =
     let start = c .before .before .before in
-    (of-board (start .pre .0 .bank) _ (omega (arith, start .pre .0 .count)), start .pre .1)
+    (of-board (start .pre .0 .bank) _ (omega (arith, start .pre .0 .count)), start .pre .0 .formed, start .pre .1)
 
 short-of-requires : tie.Need-short-of-requires Inv-loop μ-loop
 short-of-requires c κs =

@@ -1,14 +1,14 @@
 -- `accesses::replaying::owned_pages` meets its contract: the loop goes from the highest page down, and a page's bit comes in at the bottom. Assumes nothing.
 use Rattle.accesses.specs.Ends.{setFrom, set-none, set-in, set-out, set-fits}
-use Rattle.exchange.specs.Directory.{entry-at, entry-told}
+use Rattle.exchange.specs.Directory.{entry-at, owner-told}
 use Rattle.model.specs.Definitions.Codec.{decode}
-use Rattle.model.specs.Definitions.Bank.{Entry, entryAt}
+use Rattle.model.specs.Definitions.Bank.{entryAt}
 use borrow.Author.Needs.{needs}
 use borrow.Author.Tests.{eq-eqb, ne-eqb}
 use lib.Dec.{eqb}
 use native.Mathlib.Omega.{arith}
 use Prim.Native.Nat.{_-_, _≤_}
-use mathlib.Core.Path.{_≡_, sym, ap, _∙_}
+use mathlib.Core.Path.{_≡_, sym, _∙_}
 use Rattle.accesses.proofs.replaying.owned_pages.Statement.{statement}
 use Rattle.accesses.proofs.replaying.owned_pages.Tie as tie
 
@@ -20,7 +20,7 @@ abbrev μ-loop : tie.MeasureT-loop
 
 owner-read : (c : tie.After-read-owner Inv-loop μ-loop)
     → c .read-owner .result ≡ entryAt (decode (c .before .before .before .before .args .bank .now)) (c .before .before .loop .page - 1) .owner
-owner-read c = let start = c .before .before .before .before in c .read-owner .ensures ∙ ap (λ (e : Entry). e .owner) (entry-told (start .pre) _ (omega arith))
+owner-read c = c .read-owner .ensures ∙ owner-told (c .before .before .before .before .pre) _ (omega arith)
 
 loop-holds : tie.Need-loop-holds Inv-loop μ-loop
 loop-holds c = (omega arith, set-none _ _)

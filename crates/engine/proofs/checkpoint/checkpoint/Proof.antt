@@ -5,8 +5,7 @@ use Rattle.model.specs.Definitions.WellFormed.{isUp}
 use Rattle.model.specs.Definitions.Steps.{start}
 use Rattle.model.specs.Definitions.Calls.{Checkpointing}
 use Rattle.model.specs.Laws.Codes.Statement.{boardNamed}
-use Rattle.model.specs.Laws.Keeps.Clauses.{up-not-replaying}
-use Rattle.model.specs.Laws.Keeps.Live.{isUp-up}
+use Rattle.model.specs.Laws.Keeps.Clauses.{up-not-replaying, isUp-up}
 use Rattle.validity.specs.Search.{failed, passed}
 use Rattle.checks.specs.Findings.{OnBoard, on-bank, on-formed, on-small, board-says}
 use Rattle.engine.specs.Replies.{refused-replied, found-replied, ended-replied, checkpoint-refused, checkpoint-done}

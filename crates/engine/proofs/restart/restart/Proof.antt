@@ -4,7 +4,7 @@ use mathlib.Core.Bool.{true}
 use Rattle.model.specs.Definitions.WellFormed.{isDown}
 use Rattle.model.specs.Definitions.Calls.{Restarting}
 use Rattle.model.specs.Laws.Codes.Statement.{boardNamed}
-use Rattle.model.specs.Laws.Keeps.Live.{isDown-down}
+use Rattle.model.specs.Laws.Keeps.Clauses.{isDown-down}
 use Rattle.validity.specs.Search.{failed, passed}
 use Rattle.exchange.specs.Banks.{holds-decode}
 use Rattle.checks.specs.Findings.{OnBoard, on-bank, on-formed, on-small, board-says}

@@ -1,9 +1,9 @@
 -- `exchange::copies::drop_copies` meets its contract: the holders' blocks, then the entry. Assumes nothing.
-use mathlib.Core.Path.{_∙_, ap}
+use mathlib.Core.Path.{_∙_}
 use native.Mathlib.Omega.{arith}
-use Rattle.model.specs.Definitions.Bank.{Entry}
 use Rattle.model.specs.Definitions.Steps.{dropAt}
-use Rattle.exchange.specs.Banks.{of-holds, entry-in, entry-read}
+use Rattle.exchange.specs.Banks.{of-holds, entry-in}
+use Rattle.exchange.specs.Directory.{copies-told}
 use Rattle.exchange.specs.Exchanges.{copies-dropped}
 use borrow.Author.Needs.{needs}
 use Rattle.exchange.proofs.copies.drop_copies.Statement.{statement}
@@ -17,10 +17,8 @@ read-copies-requires c κs = let pre = c .before .before .before .before .pre in
 
 drop-all-requires : tie.Need-drop-all-requires
 drop-all-requires c κs =
-    let start = c .before .before .before .before .before .before in
-    let pre = start .pre in
-    let entry = entry-read (of-holds (pre .0)) (start .args .page) (omega (arith, pre .0 .count)) in
-    let copies = c .before .read-copies .ensures ∙ ap (λ (e : Entry). e .copies) entry in
+    let pre = c .before .before .before .before .before .before .pre in
+    let copies = c .before .read-copies .ensures ∙ copies-told (pre .0) _ (pre .1) in
     (pre .0, rw copies (pre .2 .copies), pre .1, λ b h t. pre .3 b h (rw copies at t))
 
 write-entry-requires : tie.Need-write-entry-requires

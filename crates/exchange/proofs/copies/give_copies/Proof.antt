@@ -5,8 +5,8 @@ use Prim.Native.Nat.{_-_, _<_}
 use native.Mathlib.Omega.{arith}
 use lib.ListN.{length}
 use Rattle.model.specs.Definitions.Codec.{decode}
-use Rattle.exchange.specs.Directory.{entry-at, giver-told}
-use Rattle.exchange.specs.ReadFetches.{Giving, giving-first, giving-skip, give-owner, give-space, giving-on, giving-last}
+use Rattle.steps.specs.Asked.{got}
+use Rattle.exchange.specs.ReadFetches.{Giving, giving-first, giving-skip, give-owner, give-from, give-space, giving-on, giving-last}
 use borrow.Author.Needs.{needs}
 use Rattle.exchange.proofs.copies.give_copies.Statement.{statement}
 use Rattle.exchange.proofs.copies.give_copies.Tie as tie
@@ -23,20 +23,20 @@ loop-holds c = (refl, giving-first _ (c .before .pre .0) (c .before .pre .1))
 has-requires : tie.Need-has-requires Inv-loop μ-loop
 has-requires c κs = let in-bank = c .before .loop .inv .1 .bank in omega (arith, in-bank .count, in-bank .bank .sizes .pages)
 
-read-owner-requires : tie.Need-read-owner-requires Inv-loop μ-loop
-read-owner-requires c κs = entry-at (c .before .before .before .before .loop .inv .1 .bank) _ (omega arith)
-
-cast-owner : tie.Need-cast-owner Inv-loop μ-loop
-cast-owner c = search needs
+giver-requires : tie.Need-giver-requires Inv-loop μ-loop
+giver-requires c κs =
+    let giving = c .before .before .before .before .loop .inv .1 in
+    let inside : c .before .before .before .before .loop .page < c .before .before .before .before .before .before .args .pages = omega arith in
+    (give-owner giving inside (sym (c .before .before .has .ensures) ∙ c .before .if1 .taken), inside)
 
 give-copy-requires : tie.Need-give-copy-requires Inv-loop μ-loop
+unfolding got
 give-copy-requires c κs =
     let giving = c .before .before .before .before .before .before .loop .inv .1 in
     let inside : c .before .before .before .before .before .before .loop .page < c .before .before .before .before .before .before .before .before .args .pages
     = omega arith in
     let among = sym (c .before .before .before .before .has .ensures) ∙ c .before .before .before .if1 .taken in
-    let own = c .before .read-owner .ensures ∙ giver-told (giving .bank) _ inside in
-    (giving .bank, give-owner giving inside among _ own, give-space giving inside among _ own, inside)
+    (giving .bank, give-from giving inside among _ (c .before .giver .ensures), give-space giving inside among, inside)
 
 add-page : tie.Need-add-page Inv-loop μ-loop
 add-page c = search needs
@@ -45,6 +45,7 @@ loop-less : tie.Need-loop-less Inv-loop μ-loop
 loop-less c = omega arith
 
 loop-again : tie.Need-loop-again Inv-loop μ-loop
+unfolding got
 loop-again c =
     let loop = c .before .before .before .loop in
     let inside : loop .page < c .before .before .before .before .before .args .pages = omega arith in
@@ -52,7 +53,7 @@ loop-again c =
     (λ w.
     let among = sym (c .before .has .ensures) ∙ w .0 .taken in
     rw (w .7)
-    (w .4 .kept .0 ∙ loop .inv .0, giving-on (loop .inv .1) inside among _ (w .2 .ensures ∙ giver-told (loop .inv .1 .bank) _ inside) (w .4 .ensures)))
+    (w .4 .kept .0 ∙ loop .inv .0, giving-on (loop .inv .1) inside among _ (w .2 .ensures) (w .4 .ensures)))
     (λ w. rw (w .1) (loop .inv .0, giving-skip (loop .inv .1) inside (sym (c .before .has .ensures) ∙ w .0 .left)))
     (c .if1 .came)
 
@@ -70,8 +71,7 @@ give-copies-spec =
     μ-loop
     loop-holds
     has-requires
-    read-owner-requires
-    cast-owner
+    giver-requires
     give-copy-requires
     add-page
     loop-less

@@ -40,7 +40,7 @@ returns c =
     let start = c .before .before .before .before .before .before .before .before .before .before .before .before .before .before .before .before in
     let args = start .args in
     let wrote = c .before .before in
-    copy-given (decode (args .bank .now)) (args .owner) (args .board) (args .page) _ _ _ _ (omega (arith, start .pre .0 .count))
+    copy-given (decode (args .bank .now)) (args .giver) (args .board) (args .page) _ _ _ _ (omega (arith, start .pre .0 .count))
     (c .before .before .before .before .before .before .before .before .before .before .before .before .before .page-frame .ensures .0)
     (c .before .before .before .before .before .before .before .before .before .before .before .copy-to .ensures)
     (c .before .before .before .before .before .before .before .read-owner .ensures) (c .before .before .before .before .before .read-copies .ensures)

@@ -1,29 +1,25 @@
 -- `exchange::fetch::fetch` meets its contract: a write's set has one page. Assumes nothing.
-use mathlib.Core.Path.{_∙_}
 use native.Mathlib.Omega.{arith}
 use Rattle.model.specs.Definitions.Steps.{fetch}
 use Rattle.steps.specs.Asked.{got}
-use Rattle.exchange.specs.Directory.{entry-at, giver-told}
+use Rattle.exchange.specs.Directory.{of-owner}
 use Rattle.exchange.specs.Fetching.{one-page}
 use borrow.Author.Needs.{needs}
 use Rattle.exchange.proofs.fetch.fetch.Statement.{statement}
 use Rattle.exchange.proofs.fetch.fetch.Tie as tie
 
-read-owner-requires : tie.Need-read-owner-requires
-read-owner-requires c κs =
+giver-requires : tie.Need-giver-requires
+giver-requires c κs =
     let pre = c .before .before .before .pre in
-    entry-at (pre .0) _ (one-page (pre .0) (pre .2) (pre .3 (c .before .if1 .taken)))
-
-cast-owner : tie.Need-cast-owner
-cast-owner c = search needs
+    let page = one-page (pre .0) (pre .2) (pre .3 (c .before .if1 .taken)) in
+    (of-owner (pre .0) (pre .1) _ page, page)
 
 write-fetch-requires : tie.Need-write-fetch-requires
 unfolding got
 write-fetch-requires c κs =
     let pre = c .before .before .before .before .before .pre in
     let writes = c .before .before .before .if1 .taken in
-    let one = pre .3 writes in
-    (pre .0, pre .1, rw (writes, one) at (pre .2), c .before .read-owner .ensures ∙ giver-told (pre .0) _ (one-page (pre .0) (pre .2) one))
+    (pre .0, pre .1, rw (writes, pre .3 writes) at (pre .2), c .before .giver .ensures)
 
 same-length : tie.Need-same-length
 same-length c = search needs
@@ -56,8 +52,7 @@ pub fetch-spec : {M : Type 1} → statement M
 fetch-spec =
     tie.close
     (tie.spec
-    read-owner-requires
-    cast-owner
+    giver-requires
     write-fetch-requires
     same-length
     returns

@@ -1,4 +1,4 @@
--- `exchange::fetch::read_fetch` meets its contract: the owners' part, then the copies. Assumes nothing.
+-- `exchange::fetch::read_fetch` meets its contract: the givers' part, then the copies. Assumes nothing.
 use mathlib.Core.Path.{_≡_, refl, ap}
 use Rattle.exchange.specs.declared.progress.Loss.the-variants.{Nobody}
 use Rattle.exchange.specs.Progress.{lossOf}

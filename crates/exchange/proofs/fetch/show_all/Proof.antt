@@ -6,8 +6,9 @@ use native.Mathlib.Omega.{arith}
 use lib.ListN.{length}
 use Rattle.model.specs.Definitions.Codec.{decode}
 use Rattle.exchange.specs.Progress.{lostBy, lossOf}
-use Rattle.exchange.specs.Directory.{entry-at, giver-told, of-board}
-use Rattle.exchange.specs.ReadFetches.{Showing, showing-first, showing-skip, show-owner, show-can, showing-lost, showing-on, showing-last}
+use Rattle.steps.specs.Asked.{got}
+use Rattle.exchange.specs.Directory.{of-board, of-owner}
+use Rattle.exchange.specs.ReadFetches.{Showing, showing-first, showing-skip, show-giver, show-can, showing-lost, showing-on, showing-last}
 use borrow.Author.Needs.{needs}
 use Rattle.exchange.proofs.fetch.show_all.Statement.{statement}
 use Rattle.exchange.proofs.fetch.show_all.Tie as tie
@@ -24,28 +25,35 @@ loop-holds c = (refl, showing-first _ (c .before .pre .0) (c .before .pre .1) (c
 has-requires : tie.Need-has-requires Inv-loop μ-loop
 has-requires c κs = let in-bank = c .before .loop .inv .1 .bank in omega (arith, in-bank .count, in-bank .bank .sizes .pages)
 
-read-owner-requires : tie.Need-read-owner-requires Inv-loop μ-loop
-read-owner-requires c κs = entry-at (c .before .before .before .before .loop .inv .1 .bank) _ (omega arith)
-
-cast-owner : tie.Need-cast-owner Inv-loop μ-loop
-cast-owner c = search needs
+giver-requires : tie.Need-giver-requires Inv-loop μ-loop
+giver-requires c κs =
+    let showing = c .before .before .before .before .loop .inv .1 in
+    let inside : c .before .before .before .before .loop .page < c .before .before .before .before .before .before .args .pages = omega arith in
+    (of-owner (showing .bank) (showing .formed) _ inside, inside)
 
 show-requires : tie.Need-show-requires Inv-loop μ-loop
+unfolding got
 show-requires c κs =
     let showing = c .before .before .before .before .before .before .loop .inv .1 in
     let inside : c .before .before .before .before .before .before .loop .page < c .before .before .before .before .before .before .before .before .args .pages
     = omega arith in
     let among = sym (c .before .before .before .before .has .ensures) ∙ c .before .before .before .if1 .taken in
-    let own = c .before .read-owner .ensures ∙ giver-told (showing .bank) _ inside in
-    (of-board (showing .bank) _ (show-owner showing inside among _ own), showing .formed, inside, show-can showing inside among _ own)
+    let from = c .before .giver .ensures in
+    (of-board (showing .bank) _ (show-giver showing inside among _ from), showing .formed, inside, show-can showing inside among _ from)
 
 add-stores : tie.Need-add-stores Inv-loop μ-loop
 add-stores c =
     let showing = c .before .before .before .before .before .before .before .before .before .before .loop .inv .1 in
     omega (arith, showing .few, c .before .before .before .show .ensures .1, showing .bank .count, showing .bank .bank .sizes .pages)
 
-cast-t16 : tie.Need-cast-t16 Inv-loop μ-loop
-cast-t16 c = search needs
+cast-t15 : tie.Need-cast-t15 Inv-loop μ-loop
+unfolding got
+cast-t15 c =
+    let given = c .before .before .before .before .before .before in
+    let has = given .before .before .before in
+    let showing = has .before .before .loop .inv .1 in
+    let among = sym (has .has .ensures) ∙ given .before .before .if1 .taken in
+    omega (arith, show-giver showing (omega arith) among _ (given .giver .ensures), showing .bank .bank .sizes .boards)
 
 same-length : tie.Need-same-length Inv-loop μ-loop
 same-length c =
@@ -53,16 +61,15 @@ same-length c =
     shown .show .kept .0 ∙ shown .before .before .before .before .before .before .before .loop .inv .0
 
 returns : tie.Need-returns Inv-loop μ-loop
-unfolding lostBy lossOf
+unfolding lostBy lossOf got
 returns c =
     let shown = c .before .before .before .before in
-    let read = shown .before .before in
-    let has = read .before .before .before in
+    let given = shown .before .before in
+    let has = given .before .before .before in
     let loop = has .before .before .loop in
     let inside : loop .page < has .before .before .before .before .args .pages = omega arith in
-    let among = sym (has .has .ensures) ∙ read .before .before .if1 .taken in
-    let own = read .read-owner .ensures ∙ giver-told (loop .inv .1 .bank) _ inside in (
-      showing-lost (loop .inv .1) inside among _ own _ (λ n. rw (c .if2 .taken) at (shown .show .ensures .0 n)) _ refl,
+    let among = sym (has .has .ensures) ∙ given .before .before .if1 .taken in (
+      showing-lost (loop .inv .1) inside among _ (given .giver .ensures) _ (λ n. rw (c .if2 .taken) at (shown .show .ensures .0 n)) _ refl,
       omega (arith, loop .inv .1 .few, shown .show .ensures .1),
     )
 
@@ -73,17 +80,16 @@ loop-less : tie.Need-loop-less Inv-loop μ-loop
 loop-less c = omega arith
 
 loop-again : tie.Need-loop-again Inv-loop μ-loop
-unfolding lostBy
+unfolding lostBy got
 loop-again c =
     let loop = c .before .before .before .loop in
     let inside : loop .page < c .before .before .before .before .before .args .pages = omega arith in
     ⊎-elim
     (λ w.
     let among = sym (c .before .has .ensures) ∙ w .0 .taken in
-    let own = w .2 .ensures ∙ giver-told (loop .inv .1 .bank) _ inside in
     rw (w .9, w .10) (
       w .4 .kept .0 ∙ loop .inv .0,
-      showing-on (loop .inv .1) inside among _ own _ (λ n. rw (w .8 .left) at (w .4 .ensures .0 n)) refl (w .4 .ensures .1),
+      showing-on (loop .inv .1) inside among _ (w .2 .ensures) _ (λ n. rw (w .8 .left) at (w .4 .ensures .0 n)) refl (w .4 .ensures .1),
     ))
     (λ w. rw (w .1, w .2) (loop .inv .0, showing-skip (loop .inv .1) inside (sym (c .before .has .ensures) ∙ w .0 .left)))
     (c .if1 .came)
@@ -103,11 +109,10 @@ show-all-spec =
     μ-loop
     loop-holds
     has-requires
-    read-owner-requires
-    cast-owner
+    giver-requires
     show-requires
     add-stores
-    cast-t16
+    cast-t15
     same-length
     returns
     add-page

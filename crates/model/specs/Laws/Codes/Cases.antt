@@ -9,10 +9,10 @@ use mathlib.Core.List.{[], _∷_}
 use Rattle.types.specs.declared.Answer.{Answer}
 use Rattle.types.specs.declared.Answer.the-variants.{OutOfRange, WrongState, CountersFull, ReplayDiffers, OwnerNotUp, LogFull, PowerLost, WrongCells}
 use Rattle.model.specs.Definitions.Layout.{lastSince}
-use Rattle.model.specs.Definitions.Bank.{Board, Bank, boardAt, onBoard}
+use Rattle.model.specs.Definitions.Bank.{Board, Bank, boardAt, entryAt, onBoard}
 use Rattle.model.specs.Definitions.WellFormed.{isDown, isReplaying}
 use Rattle.model.specs.Definitions.Answers.{code}
-use Rattle.model.specs.Definitions.Steps.{Run, start, Access, valueOf, givenOf, giver}
+use Rattle.model.specs.Definitions.Steps.{Run, start, Access, valueOf, givenOf}
 use Rattle.model.specs.Definitions.Replay.{differs, tookDue, replayOver, endIfOver, replayed}
 use Rattle.model.specs.Definitions.Calls.{Result, unless, finished, shortBoard, isSome, numberIn, pageMissing, liveRefusals, prepared, performed, live}
 use Rattle.model.specs.Definitions.Calls.{liveAfterEnd, replaying, accessInRange, wrongCells, countersFull, refusalsWithin, accessWithin, accessBank}
@@ -42,7 +42,7 @@ module _ (P : Result → Type 0) where
     unfolding live liveRefusals code
     live-cases r refusal on =
         let j : Bank = r .bank in
-        let missing : Answer = OwnerNotUp (giver j (numberIn (pageMissing b a j))) in
+        let missing : Answer = OwnerNotUp (entryAt j (numberIn (pageMissing b a j)) .owner) in
         let full : Answer = LogFull (numberIn (shortBoard b a j)) in
         let go : Result = performed b a (prepared b a r) in
         unless-test P (isSome (pageMissing b a j)) missing ((isSome (shortBoard b a j), full) ∷ []) r go

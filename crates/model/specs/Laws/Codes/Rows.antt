@@ -2,7 +2,7 @@
 -- done or lost power. Assumes nothing.
 use mathlib.Core.Path.{_≡_, refl}
 use mathlib.Core.Logic.{_≢_, _⊎_, inl, inr}
-use Prim.Native.Nat.{ℕ, _<_}
+use Prim.Native.Nat.{ℕ, _≤_, _<_}
 use native.Mathlib.Nat.{lt-of-not-le}
 use mathlib.Core.Bool.{Bool, true, false, _&&_, not}
 use mathlib.Core.Option.{none}
@@ -14,25 +14,26 @@ use Rattle.types.specs.declared.State.{State}
 use Rattle.types.specs.declared.State.the-variants.{Up, Down, Replaying}
 use Rattle.types.specs.declared.Answer.{Answer}
 use Rattle.types.specs.declared.Answer.the-variants.{OutOfRange, WrongState, CountersFull, ReplayDiffers, OwnerNotUp, LogFull, PowerLost, WrongCells}
-use Rattle.model.specs.Definitions.Layout.{noFuse, lastSince}
-use Rattle.model.specs.Definitions.Bank.{Board, Bank, boardAt, onBoard}
+use Rattle.model.specs.Definitions.Layout.{mostBoards, noFuse, lastSince}
+use Rattle.model.specs.Definitions.Bank.{Board, Bank, boardAt, entryAt, onBoard}
 use Rattle.model.specs.Definitions.WellFormed.{WellFormed, PlaceOk, isUp, isDown, isReplaying}
 use Rattle.model.specs.Definitions.Answers.{code, value, who}
-use Rattle.model.specs.Definitions.Steps.{Run, start, step, fuseBoard, checkpoint, Access, valueOf, givenOf, access, giver}
+use Rattle.model.specs.Definitions.Steps.{Run, start, step, fuseBoard, checkpoint, Access, valueOf, givenOf, access}
 use Rattle.model.specs.Definitions.Replay.{loaded, usedUp, differs, tookDue, replayOver, endIfOver, replayed}
 use Rattle.model.specs.Definitions.Calls.{Result, unless, finished, shortBoard, isSome, numberIn, pageMissing, liveRefusals, prepared, performed, live}
 use Rattle.model.specs.Definitions.Calls.{liveAfterEnd, replaying, accessInRange, wrongCells, countersFull, refusalsWithin, accessWithin, accessBank}
 use Rattle.model.specs.Definitions.Calls.{checkpointBank, fuseBank, restartBank, Call, Accessing, Checkpointing, Fusing, Restarting, callBank}
 use Rattle.model.specs.Laws.Logic.{cases, casesOption}
-use Rattle.model.specs.Laws.Boards.{boardAt-same}
+use Rattle.model.specs.Laws.Boards.{boardAt-same, boards-onBoard}
+use Rattle.model.specs.Laws.Runs.{follows-endReplay}
 use Rattle.model.specs.Laws.Codes.Statement.{Row, OfAccess, boardNamed, AccessOut, NumbersOut, CellsOut, AskedOut, StateOut, CountersEnd, CountersOut}
-use Rattle.model.specs.Laws.Codes.Statement.{ReplayOther, ReplayOut, afterReplay, LiveOn, up, replayEnded, Live, SomeNotUp, OwnerOut, LowestNotUp}
+use Rattle.model.specs.Laws.Codes.Statement.{ReplayOther, ReplayOut, afterReplay, LiveOn, up, replayEnded, Live, SomeMissing, OwnerOut, LowestMissing}
 use Rattle.model.specs.Laws.Codes.Statement.{SomeShort, RoomOut, LowestShort, refusalRows}
 use Rattle.model.specs.Laws.Tests.{Says, says-and, says-down, says-replaying}
 use Rattle.model.specs.Laws.Codes.Order.{never, fails, says-absurd, says-iff, says-no, says-not-and, says-not-lt, Judged, judged-nil}
 use Rattle.model.specs.Laws.Codes.Order.{judged-past, judged-test, judged-go}
 use Rattle.model.specs.Laws.Codes.Tests.{access-out, cells-out, counters-end, replay-other, LastDue, last-due}
-use Rattle.model.specs.Laws.Codes.Needs.{some-not-up, lowest-not-up, some-short, lowest-short}
+use Rattle.model.specs.Laws.Codes.Needs.{some-missing, lowest-missing, some-short, lowest-short}
 
 -- what is answered where nothing is refused: done, or "a fuse blew"
 abbrev pub Ran : Answer → Type 0
@@ -53,7 +54,7 @@ performed-ran b a r =
 -- the rows 6 and 7 of an access
 liveRows : ℕ → Access → Bank → List Row
 liveRows b a k =
-    record { code = 6; when = Live (SomeNotUp b a) k b a; who = λ w. Live (λ j. LowestNotUp b a j w) k b a }
+    record { code = 6; when = Live (SomeMissing b a) k b a; who = λ w. Live (λ j. LowestMissing b a j w) k b a }
     ∷ record { code = 7; when = Live (SomeShort b a) k b a; who = λ w. Live (λ j. LowestShort b a j w) k b a }
     ∷ []
 
@@ -61,6 +62,7 @@ liveRows b a k =
 record JudgedOn (b : ℕ) (a : Access) (k j : Bank) : Type 0 where
   live : LiveOn b a k j
   only : (i : Bank) → LiveOn b a k i → i ≡ j
+  boards : length (j .boards) ≤ mostBoards
 
 -- what a test decides of that bank it decides of the access
 says-live : (b : ℕ) (a : Access) (k j : Bank) {t : Bool} (P : Bank → Type 0) → JudgedOn b a k j → Says t (P j) → Says t (Live P k b a)
@@ -71,22 +73,22 @@ live-judged : (b : ℕ) (a : Access) (k : Bank) (r : Run) → JudgedOn b a k (r 
 unfolding live liveRefusals liveRows code who value
 live-judged b a k r on =
     let j : Bank = r .bank in
-    let missing : Answer = OwnerNotUp (giver j (numberIn (pageMissing b a j))) in
+    let missing : Answer = OwnerNotUp (entryAt j (numberIn (pageMissing b a j)) .owner) in
     let full : Answer = LogFull (numberIn (shortBoard b a j)) in
     let go : Result = performed b a (prepared b a r) in
     judged-test (isSome (pageMissing b a j)) missing ((isSome (shortBoard b a j), full) ∷ []) r go
     (record {
-      says = says-live b a k j (SomeNotUp b a) on (some-not-up b a j);
+      says = says-live b a k j (SomeMissing b a) on (some-missing b a j);
       code = refl;
-      who = λ t. (j, on .live, lowest-not-up b a j t);
+      who = λ t. (j, on .live, lowest-missing b a j t);
       value = refl;
     })
     (λ n6.
     judged-test (isSome (shortBoard b a j)) full [] r go
     (record {
-      says = says-live b a k j (SomeShort b a) on (some-short b a j);
+      says = says-live b a k j (SomeShort b a) on (some-short b a j (on .boards));
       code = refl;
-      who = λ t. (j, on .live, lowest-short b a j t);
+      who = λ t. (j, on .live, lowest-short b a j (on .boards) t);
       value = refl;
     })
     (λ n7. judged-go r go (judged-nil (performed-ran b a (prepared b a r)))))
@@ -96,8 +98,8 @@ not-live : (b : ℕ) (a : Access) (k : Bank) (x : Answer) → ((j : Bank) → ¬
 unfolding liveRows
 not-live b a k x n q = judged-past _ (λ u. n (u .0) (u .1)) (judged-past _ (λ u. n (u .0) (u .1)) (judged-nil q))
 
-judgedOn-up : (b : ℕ) (a : Access) (k : Bank) → boardAt k b .state ≡ Up → JudgedOn b a k k
-judgedOn-up b a k e = record { live = up e; only = only }
+judgedOn-up : (b : ℕ) (a : Access) (k : Bank) → length (k .boards) ≤ mostBoards → boardAt k b .state ≡ Up → JudgedOn b a k k
+judgedOn-up b a k n e = record { live = up e; only = only; boards = n }
   where
     only : (i : Bank) → LiveOn b a k i → i ≡ k
     only i (up f) = refl
@@ -105,15 +107,19 @@ judgedOn-up b a k e = record { live = up e; only = only }
 
 -- ==== an access of a replaying board
 
-module _ (b : ℕ) (a : Access) (k : Bank) (s : boardAt k b .state ≡ Replaying) where
+module _ (b : ℕ) (a : Access) (k : Bank) (boards : length (k .boards) ≤ mostBoards) (s : boardAt k b .state ≡ Replaying) where
   -- it is live on nothing but what the end of its replay left
   live-replayed : (i : Bank) → LiveOn b a k i
       → LastDue a (boardAt k b) × (afterReplay b k .lost ≡ none) × (i ≡ afterReplay b k .bank)
   live-replayed i (up f) = never (cc)
   live-replayed i (replayEnded {r} {rs} f d n l) = ((r, rs, d, n), l, refl)
 
+  ended-boards : length (afterReplay b k .bank .boards) ≤ mostBoards
+  unfolding afterReplay start
+  ended-boards = rw (follows-endReplay b (start (onBoard b tookDue k)) .sizes .boards, boards-onBoard b tookDue k) boards
+
   judgedOn-replayed : LastDue a (boardAt k b) → afterReplay b k .lost ≡ none → JudgedOn b a k (afterReplay b k .bank)
-  judgedOn-replayed d l = record { live = replayEnded s (d .2) (d .3) l; only = λ i o. live-replayed i o .2 }
+  judgedOn-replayed d l = record { live = replayEnded s (d .2) (d .3) l; only = λ i o. live-replayed i o .2; boards = ended-boards }
 
   replaying-judged : b < length (k .boards) → boardAt k b .working .place < length (boardAt k b .stable .selected .log .records)
       → ¬ ReplayOther a (boardAt k b) → Judged Ran (liveRows b a k) (replaying b a k .answer)
@@ -191,8 +197,8 @@ access-judged b a k w =
     (λ t.
     let s : x .state ≡ Replaying = says-replaying (x .state) .0 t in
     let h : b < length (k .boards) = in-range b a k n2 in
-    replaying-judged b a k s h (replaying-place k b w h s) (λ o. n5 (s, o)))
-    (λ t. live-judged b a k (start k) (judgedOn-up b a k (is-up (x .state) n3 (fails (says-replaying (x .state)) t))))))))))
+    replaying-judged b a k (w .sizes .boards) s h (replaying-place k b w h s) (λ o. n5 (s, o)))
+    (λ t. live-judged b a k (start k) (judgedOn-up b a k (w .sizes .boards) (is-up (x .state) n3 (fails (says-replaying (x .state)) t))))))))))
 
 -- ==== 2 and 3: the other calls
 

@@ -1,4 +1,4 @@
--- Document 01's table "Codes", with document 02's code 10, in propositions: of each code when it is answered and who stands beside it, in ≤, <, ≡ and
+-- Document 01's table "Codes", with document 02's code 10 and F-4, in propositions: of each code when it is answered and who stands beside it, in ≤, <, ≡ and
 -- "there is", without the tests of Definitions.Calls. Laws.Codes proves that those tests say the same. No proof stands here. Assumes nothing.
 use mathlib.Core.Path.{_≡_}
 use mathlib.Core.Logic.{_≢_, _⊎_}
@@ -192,31 +192,36 @@ pub data LiveOn (b : ℕ) (a : Access) (k : Bank) : Bank → Type 0 where
 abbrev pub Live : (Bank → Type 0) → Bank → ℕ → Access → Type 0
 Live P k b a = (j : Bank) × LiveOn b a k j × P j
 
--- ==== 6: "live fetch, owner not up"
+-- ==== 6: "live fetch, owner not up"; of a read or a page of a shelf call "owner not up and copy-set empty" (document 02, F-4)
 
 -- the owner of a page
 unfoldable pub ownerOf : Bank → ℕ → ℕ
 ownerOf k p = entryAt k p .owner
 
+-- nobody can give the page, to a reader and to a writer: "A write still needs the owner." (F-4)
+unfoldable pub NobodyGives : CopyOrOwn → Bank → ℕ → Type 0
+NobodyGives GotCopy k p = (boardAt k (ownerOf k p) .state ≢ Up) × (entryAt k p .copies ≡ 0)
+NobodyGives GotOwn k p = boardAt k (ownerOf k p) .state ≢ Up
+
 -- a live access that is not local in page p is a fetch of it
 abbrev pub Fetches : ℕ → Access → Bank → ℕ → Type 0
 Fetches b a k p = LacksPage a (boardAt k b .working .frames) p
 
-abbrev pub FromNotUp : ℕ → Access → Bank → ℕ → Type 0
-FromNotUp b a k p = Fetches b a k p × (boardAt k (ownerOf k p) .state ≢ Up)
+abbrev pub FromNobody : ℕ → Access → Bank → ℕ → Type 0
+FromNobody b a k p = Fetches b a k p × NobodyGives (takes a) k p
 
-abbrev pub SomeNotUp : ℕ → Access → Bank → Type 0
-SomeNotUp b a k = (p : ℕ) × (p < length (k .directory)) × FromNotUp b a k p
+abbrev pub SomeMissing : ℕ → Access → Bank → Type 0
+SomeMissing b a k = (p : ℕ) × (p < length (k .directory)) × FromNobody b a k p
 
 unfoldable pub OwnerOut : Call → Bank → Type 0
-OwnerOut c k = OfAccess (λ b a. Live (SomeNotUp b a) k b a) c
+OwnerOut c k = OfAccess (λ b a. Live (SomeMissing b a) k b a) c
 
--- "Code 6 names the owner of the lowest lacking page whose owner isn't up" (document 02, F-3)
-pub record LowestNotUp (b : ℕ) (a : Access) (k : Bank) (w : ℕ) : Type 0 where
+-- "Code 6 names the owner of the lowest lacking page" (F-3) that nobody can give
+pub record LowestMissing (b : ℕ) (a : Access) (k : Bank) (w : ℕ) : Type 0 where
   pub page : ℕ
   pub below : page < length (k .directory)
-  pub notUp : FromNotUp b a k page
-  pub lowest : (q : ℕ) → q < page → ¬ FromNotUp b a k q
+  pub missing : FromNobody b a k page
+  pub lowest : (q : ℕ) → q < page → ¬ FromNobody b a k q
   pub owner : w ≡ ownerOf k page
 
 -- ==== 7: "stored + volatile + needed > 32 on some board"
@@ -234,12 +239,18 @@ OwnWrite b a k p = WritesTo a p × (¬ Fetches b a k p)
 abbrev pub HoldsCopy : Bank → ℕ → ℕ → Type 0
 HoldsCopy k p c = member c (entryAt k p .copies) ≡ true
 
--- "read fetch: reader 1, owner 1; write fetch: writer 1, owner 2, other holders 1; own write: holders 1": a part of board c in page p that needs n slots.
--- A board without a part needs nothing. The writer hasn't the owner's part: who owns a page lacks no right to it.
+-- board c gives page p to a reader: "served by the owner if up, otherwise by the lowest-numbered board in the copy-set" (F-4)
+pub data GivesToReader (k : Bank) (p c : ℕ) : Type 0 where
+  ownerGives : boardAt k (ownerOf k p) .state ≡ Up → c ≡ ownerOf k p → GivesToReader k p c
+  holderGives : boardAt k (ownerOf k p) .state ≢ Up → HoldsCopy k p c → ((d : ℕ) → d < c → ¬ HoldsCopy k p d) → GivesToReader k p c
+
+-- "read fetch: reader 1, owner 1; write fetch: writer 1, owner 2, other holders 1; own write: holders 1": a part of board c in page p that needs n slots;
+-- "its need in code 7 moves to the giver" (F-4). A board without a part needs nothing. The writer hasn't the owner's part: who owns a page lacks no right
+-- to it.
 pub data Needs (b : ℕ) (a : Access) (k : Bank) (c p : ℕ) : ℕ → Type 0 where
   nothing : Needs b a k c p 0
   reader : ReadFetch b a k p → c ≡ b → Needs b a k c p 1
-  readOwner : ReadFetch b a k p → c ≡ ownerOf k p → Needs b a k c p 1
+  readGiver : ReadFetch b a k p → GivesToReader k p c → Needs b a k c p 1
   writer : WriteFetch b a k p → c ≡ b → Needs b a k c p 1
   writeOwner : WriteFetch b a k p → c ≢ b → c ≡ ownerOf k p → Needs b a k c p 2
   otherHolder : WriteFetch b a k p → c ≢ b → HoldsCopy k p c → Needs b a k c p 1
@@ -284,7 +295,7 @@ refusalRows c k =
     ∷ record { code = 3; when = StateOut c k; who = λ w. w ≡ boardNamed c }
     ∷ record { code = 4; when = CountersOut c k; who = λ w. w ≡ boardNamed c }
     ∷ record { code = 5; when = ReplayOut c k; who = λ w. w ≡ boardNamed c }
-    ∷ record { code = 6; when = OwnerOut c k; who = λ w. OfAccess (λ b a. Live (λ j. LowestNotUp b a j w) k b a) c }
+    ∷ record { code = 6; when = OwnerOut c k; who = λ w. OfAccess (λ b a. Live (λ j. LowestMissing b a j w) k b a) c }
     ∷ record { code = 7; when = RoomOut c k; who = λ w. OfAccess (λ b a. Live (λ j. LowestShort b a j w) k b a) c }
     ∷ []
 

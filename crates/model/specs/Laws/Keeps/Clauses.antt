@@ -3,6 +3,7 @@
 use mathlib.Core.Path.{_≡_, refl, sym, ap, _∙_}
 use mathlib.Core.Logic.{_≢_}
 use Prim.Native.Nat.{ℕ, _≤_, _<_}
+use mathlib.Core.Bool.{true, false}
 use mathlib.Core.List.{List}
 use lib.ListN.{length}
 use native.Mathlib.Omega.{arith}
@@ -12,9 +13,10 @@ use Rattle.types.specs.declared.State.the-variants.{Up, Down, Replaying}
 use Rattle.words.specs.Bytes.{Each}
 use Rattle.model.specs.Definitions.Parts.{member}
 use Rattle.model.specs.Definitions.Bank.{Entry, Working, Board, Bank, noBoard, boardAt, entryIn, entryAt, onBoard}
-use Rattle.model.specs.Definitions.WellFormed.{FieldsOk, FuseOk, RoomOk, PlaceOk, Blank, rightIn, BoardOk, EntryOk, SizesOk, WellFormed}
+use Rattle.model.specs.Definitions.WellFormed.{FieldsOk, FuseOk, RoomOk, PlaceOk, Blank, rightIn, BoardOk, EntryOk, SizesOk, isUp, isDown}
+use Rattle.model.specs.Definitions.WellFormed.{isReplaying, WellFormed}
 use Rattle.model.specs.Contracts.{Alone, Fits, WellFormedBut}
-use Rattle.model.specs.Laws.Logic.{byEq}
+use Rattle.model.specs.Laws.Logic.{byEq, clash}
 use Rattle.model.specs.Laws.Lists.{length-update}
 use Rattle.model.specs.Laws.Boards.{boardAt-out, boardAt-same, boardAt-other}
 
@@ -29,6 +31,37 @@ module _ {X : Type 0} {s : State} where
 
   pub down-not-replaying : s ≡ Down → s ≡ Replaying → X
   down-not-replaying p q = let z : _≡_ {A = ℕ} 0 1 = cc in absurd (omega arith)
+
+pub isUp-up : (s : State) → isUp s ≡ true → s ≡ Up
+unfolding isUp
+isUp-up Up h = refl
+isUp-up Down h = clash h refl
+isUp-up Replaying h = clash h refl
+
+pub isDown-down : (s : State) → isDown s ≡ true → s ≡ Down
+unfolding isDown
+isDown-down Up h = clash h refl
+isDown-down Down h = refl
+isDown-down Replaying h = clash h refl
+
+pub isDown-not : (s : State) → isDown s ≡ false → s ≢ Down
+unfolding isDown
+isDown-not Up h e = up-not-down refl e
+isDown-not Down h e = clash refl h
+isDown-not Replaying h e = down-not-replaying e refl
+
+pub isReplaying-replaying : (s : State) → isReplaying s ≡ true → s ≡ Replaying
+unfolding isReplaying
+isReplaying-replaying Up h = clash h refl
+isReplaying-replaying Down h = clash h refl
+isReplaying-replaying Replaying h = refl
+
+-- neither down nor replaying
+pub up-left : (s : State) → s ≢ Down → isReplaying s ≡ false → s ≡ Up
+unfolding isReplaying
+up-left Up n h = refl
+up-left Down n h = absurd (n refl)
+up-left Replaying n h = clash refl h
 
 -- ---- the clauses of one board
 

@@ -23,11 +23,11 @@ use Rattle.model.specs.Laws.Lists.{each-head, each-tail, each-imp, every
 use Rattle.model.specs.Laws.Boards.{boards-onBoard, directory-onBoard, boardAt-same}
 use Rattle.model.specs.Laws.Runs.{Changed}
 use Rattle.model.specs.Laws.Runs.Stores.{Ended, endReplay-changed}
-use Rattle.model.specs.Laws.Keeps.Clauses.{fits, but, onBoard-but}
+use Rattle.model.specs.Laws.Keeps.Clauses.{fits, but, onBoard-but, isDown-not, up-left}
 use Rattle.model.specs.Contracts.{InReplay, WellFormedBut, CanAccess, Entered}
 use Rattle.model.specs.Laws.Keeps.Accesses.{writable}
 use Rattle.model.specs.Laws.Keeps.Rights.{or-cases, or-none}
-use Rattle.model.specs.Laws.Keeps.Live.{NoneOf, firstOf-none, isDown-not, up-left}
+use Rattle.model.specs.Laws.Keeps.Live.{NoneOf, firstOf-none}
 use Rattle.model.specs.Laws.Keeps.Replay.{TookDue, tookDue-took, fits-has, fits-inReplay, tookDue-inReplay, replayed-inReplay}
 
 -- ---- an access of a replaying board

@@ -12,7 +12,7 @@ use borrow.Author.Tests.{eqb-true, eq-eqb, ne-eqb}
 use Rattle.types.specs.declared.Right.the-variants.{Own}
 use Rattle.types.specs.declared.Frame.{Frame}
 use Rattle.types.specs.declared.CopyOrOwn.{CopyOrOwn}
-use Rattle.types.specs.declared.CopyOrOwn.the-variants.{GotCopy, GotOwn}
+use Rattle.types.specs.declared.CopyOrOwn.the-variants.{GotOwn}
 use Rattle.types.specs.declared.Kind.{Kind}
 use Rattle.types.specs.declared.Kind.the-variants.{Got, Shown}
 use Rattle.types.specs.declared.State.the-variants.{Up}
@@ -83,14 +83,14 @@ put-other fs p f q t = frameAt-other fs p q f (λ e. clash (eq-eqb p q (sym e)) 
 
 module _ (w p : ℕ) (r : Run) (wf : WellFormed (r .bank)) (c : CanFetch GotOwn w (p ∷ []) (r .bank)) where
   abbrev pub from : ℕ
-  from = giver (r .bank) p
+  from = giver GotOwn (r .bank) p
 
   -- what is asked of the page, of its owner and of whoever has a part
   pub page-there : p < length (r .bank .directory)
   page-there = each-head (c .pages)
 
   pub owner-up : boardAt (r .bank) from .state ≡ Up
-  owner-up = each-head (c .owners)
+  owner-up = each-head (c .givers)
 
   pub owner-other : from ≢ w
   owner-other = each-head (c .others)

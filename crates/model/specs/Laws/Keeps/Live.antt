@@ -3,40 +3,39 @@ use mathlib.Core.Path.{_≡_, refl, sym, ap, _∙_}
 use mathlib.Core.Logic.{_≢_}
 use Prim.Native.Nat.{ℕ, _+_, _≤_, _<_}
 use native.Mathlib.Omega.{arith}
-use mathlib.Core.Bool.{Bool, true, false, _&&_, not}
+use mathlib.Core.Bool.{Bool, true, false, _&&_}
 use mathlib.Core.Option.{Option, none, some}
 use mathlib.Core.List.{List, [], _∷_}
 use lib.ListN.{length}
 use borrow.Author.Tests.{eqb-true, eq-eqb, ltb-false}
 use lib.Dec.{eqb}
-use Rattle.types.specs.declared.Right.{Right}
-use Rattle.types.specs.declared.Right.the-variants.{None, Copy, Own}
+use Rattle.types.specs.declared.Right.the-variants.{None, Copy}
 use Rattle.types.specs.declared.Frame.{Frame}
 use Rattle.types.specs.declared.CopyOrOwn.{CopyOrOwn}
 use Rattle.types.specs.declared.CopyOrOwn.the-variants.{GotCopy, GotOwn}
-use Rattle.types.specs.declared.State.{State}
-use Rattle.types.specs.declared.State.the-variants.{Up, Down, Replaying}
+use Rattle.types.specs.declared.State.the-variants.{Up}
 use Rattle.types.specs.declared.Answer.{Answer}
 use Rattle.words.specs.Bytes.{Each}
 use Rattle.model.specs.Definitions.Parts.{allBelow, member}
 use Rattle.model.specs.Definitions.Layout.{slotCount}
 use Rattle.model.specs.Definitions.Bank.{Board, Bank, boardAt, entryAt, frameAt}
-use Rattle.model.specs.Definitions.WellFormed.{rightIn, isUp, isDown, isReplaying, WellFormed}
+use Rattle.model.specs.Definitions.WellFormed.{rightIn, WellFormed}
 use Rattle.model.specs.Definitions.Steps.{Run, Access, Read, Write, ReadCells, cellsRead, cellsWritten, anyCell, anyWrite, names, takes}
 use Rattle.model.specs.Definitions.Steps.{lacks, lacksPage, lackingPages, frameOf, giver, dropCopies, fetch}
 use Rattle.model.specs.Definitions.Replay.{lacking}
 use Rattle.model.specs.Definitions.Calls.{firstOf, pageWritten, copiesOut, fetchNeed, dropNeed, lackingOf, pagesLacking, pageNeed, need, short}
-use Rattle.model.specs.Definitions.Calls.{shortBoard, isSome, pageMissing, liveRefusals, prepared}
-use Rattle.model.specs.Laws.Logic.{cases, byBool, clash, and-both, true-not}
+use Rattle.model.specs.Definitions.Calls.{shortBoard, isSome, nobodyGives, pageMissing, liveRefusals, prepared}
+use Rattle.model.specs.Laws.Logic.{cases, byBool, clash, and-both}
 use Rattle.model.specs.Laws.Lists.{firstBelow-none, each-head, each-tail, each-imp}
 use Rattle.model.specs.Laws.Below.{listed, Lacks, or-right, sumOver, sumBelow-part, sumBelow-at, allBelow-one, allBelow-listed, lacks-no-page}
 use Rattle.model.specs.Laws.Below.{no-page-lacks, lacks-passes, passes-names, page-enough, page-same, has-right, lackingPages-lack, lackingPages-rise}
-use Rattle.model.specs.Laws.Boards.{droppedIf, boardAt-dropCopies, rightIn-owner, rightIn-copy}
+use Rattle.model.specs.Laws.Boards.{droppedIf, boardAt-dropCopies, rightIn-copy}
 use Rattle.model.specs.Laws.Runs.{lost-not, step-done}
-use Rattle.model.specs.Laws.Keeps.Clauses.{up-below, up-not-down, down-not-replaying, fits}
+use Rattle.model.specs.Laws.Keeps.Clauses.{up-below, up-not-down, fits}
 use Rattle.model.specs.Contracts.{RoomFor, fetchNeeds, CanFetch, CanAccess, Ready}
 use Rattle.model.specs.Laws.Keeps.Accesses.{takes-enough}
 use Rattle.model.specs.Laws.Keeps.Rights.{entry-at, or-cases}
+use Rattle.model.specs.Laws.Keeps.Givers.{copy-none, giver-other, giver-up}
 use Rattle.model.specs.Laws.Keeps.Fetches.{Taken, writeFetch-taken}
 use Rattle.model.specs.Laws.Keeps.Copies.{readFetch-taken}
 
@@ -61,37 +60,6 @@ first-in P (t ∷ ts) a s e =
     (λ b. let i : t .1 ≡ a = cc in rw i at (each-head s))
     (λ b. first-in P ts a (each-tail s) (cc))
 
-pub isUp-up : (s : State) → isUp s ≡ true → s ≡ Up
-unfolding isUp
-isUp-up Up h = refl
-isUp-up Down h = clash h refl
-isUp-up Replaying h = clash h refl
-
-pub isDown-down : (s : State) → isDown s ≡ true → s ≡ Down
-unfolding isDown
-isDown-down Up h = clash h refl
-isDown-down Down h = refl
-isDown-down Replaying h = clash h refl
-
-pub isDown-not : (s : State) → isDown s ≡ false → s ≢ Down
-unfolding isDown
-isDown-not Up h e = up-not-down refl e
-isDown-not Down h e = clash refl h
-isDown-not Replaying h e = down-not-replaying e refl
-
-pub isReplaying-replaying : (s : State) → isReplaying s ≡ true → s ≡ Replaying
-unfolding isReplaying
-isReplaying-replaying Up h = clash h refl
-isReplaying-replaying Down h = clash h refl
-isReplaying-replaying Replaying h = refl
-
--- neither down nor replaying
-pub up-left : (s : State) → s ≢ Down → isReplaying s ≡ false → s ≡ Up
-unfolding isReplaying
-up-left Up n h = refl
-up-left Down n h = absurd (n refl)
-up-left Replaying n h = clash refl h
-
 -- ---- what comes before it
 
 never-own : {X : Type 0} → _≡_ {A = CopyOrOwn} GotCopy GotOwn → X
@@ -103,22 +71,10 @@ some-page [] e h = clash h refl
 some-page (p ∷ ps) e h = (p, ps, e)
 
 -- the needs of fetched pages, added up
-needs-sum : (g : CopyOrOwn) (k : Bank) (b c : ℕ) (ps : List ℕ) → fetchNeeds g k b ps c ≡ sumOver (λ p. fetchNeed g k b (giver k p) p c) ps
+needs-sum : (g : CopyOrOwn) (k : Bank) (b c : ℕ) (ps : List ℕ) → fetchNeeds g k b ps c ≡ sumOver (λ p. fetchNeed g k b (giver g k p) p c) ps
 unfolding fetchNeeds sumOver
 needs-sum g k b c [] = refl
-needs-sum g k b c (p ∷ ps) = ap (λ (n : ℕ). fetchNeed g k b (giver k p) p c + n) (needs-sum g k b c ps)
-
-lacks-own : (g : CopyOrOwn) → lacks g Own ≡ false
-unfolding lacks
-lacks-own GotCopy = refl
-lacks-own GotOwn = refl
-
--- what a reader lacks
-pub copy-none : (r : Right) → lacks GotCopy r ≡ true → r ≡ None
-unfolding lacks
-copy-none None h = refl
-copy-none Copy h = clash h refl
-copy-none Own h = clash h refl
+needs-sum g k b c (p ∷ ps) = ap (λ (n : ℕ). fetchNeed g k b (giver g k p) p c + n) (needs-sum g k b c ps)
 
 -- what an access that writes takes, and the one page that it names
 pub writes-own : (a : Access) (k : Bank) → copiesOut a k ≡ true → takes a ≡ GotOwn
@@ -194,24 +150,24 @@ module _ (b : ℕ) (a : Access) (k : Bank) (w : WellFormed k) (can : CanAccess b
   unfolding entryAt
   right-of p l = fits w b below .agreed .rights (can .up) p l
 
-  -- who lacks a right is not the owner
-  pub lacking-other : (p : ℕ) → Lacks a fs p → giver k p ≢ b
-  unfolding giver
-  lacking-other p l e =
-      clash (l .right) (ap (lacks (takes a)) (right-of p (rw frames-count at (l .below)) ∙ rightIn-owner (entryAt k p) b e) ∙ lacks-own (takes a))
+  -- who lacks a right doesn't give
+  pub lacking-other : (p : ℕ) → Lacks a fs p → giver (takes a) k p ≢ b
+  unfolding frameOf
+  lacking-other p l = giver-other w p (rw frames-count at (l .below)) (takes a) b (can .up) (l .right)
 
   module _ (passed : firstOf (liveRefusals b a k) ≡ none) where
-    owner-up : (p : ℕ) → Lacks a fs p → boardAt k (giver k p) .state ≡ Up
+    gives-up : (p : ℕ) → Lacks a fs p → boardAt k (giver (takes a) k p) .state ≡ Up
     unfolding liveRefusals pageMissing
-    owner-up p l =
-        let s : State = boardAt k (giver k p) .state in
+    gives-up p l =
+        let i : p < length (k .directory) = rw frames-count at (l .below) in
         let none-missing : pageMissing b a k ≡ none =
         isSome-none (pageMissing b a k) (firstOf-none (isSome (pageMissing b a k)) _ _ passed .here) in
-        byBool (isUp s) (isUp-up s)
-        (λ u.
-        clash (and-both (lacks-passes a fs p l) (true-not u))
-        (firstBelow-none (length (k .directory)) p (λ q. lacksPage a fs q && not (isUp (boardAt k (giver k q) .state))) none-missing
-        (rw frames-count at (l .below))))
+        giver-up w p i (takes a)
+        (byBool (nobodyGives (takes a) k p)
+        (λ t.
+        clash (and-both (lacks-passes a fs p l) t)
+        (firstBelow-none (length (k .directory)) p (λ q. lacksPage a fs q && nobodyGives (takes a) k q) none-missing i))
+        (λ t. t))
 
     room-for : (c : ℕ) → c < length (k .boards) → RoomFor (need b a k c) (boardAt k c)
     unfolding liveRefusals shortBoard short
@@ -225,7 +181,7 @@ module _ (b : ℕ) (a : Access) (k : Bank) (w : WellFormed k) (can : CanAccess b
     unfolding pagesLacking lackingPages need pageNeed
     needs-part c =
         rw (frames-count, needs-sum (takes a) k b c (allBelow (length (k .directory)) (lacksPage a fs)))
-        (sumBelow-part (lacksPage a fs) (λ p. fetchNeed (takes a) k b (giver k p) p c) (pageNeed b a k c) (length (k .directory)) (λ j t. cc))
+        (sumBelow-part (lacksPage a fs) (λ p. fetchNeed (takes a) k b (giver (takes a) k p) p c) (pageNeed b a k c) (length (k .directory)) (λ j t. cc))
 
     pub can-fetch : CanFetch (takes a) b (pagesLacking b a k) k
     unfolding pagesLacking
@@ -234,7 +190,7 @@ module _ (b : ℕ) (a : Access) (k : Bank) (w : WellFormed k) (can : CanAccess b
         record {
           pages = each-imp (lackingPages a fs) (λ p l. rw frames-count at (l .below)) lack;
           taker = can .up;
-          owners = each-imp (lackingPages a fs) owner-up lack;
+          givers = each-imp (lackingPages a fs) gives-up lack;
           others = each-imp (lackingPages a fs) lacking-other lack;
           room = λ c l. omega (arith, needs-part c, room-for c l);
         }

@@ -1,6 +1,6 @@
 -- A copy given, copies dropped and a page passed on keep a bank well formed: directory and rights change together. Assumes nothing.
 use mathlib.Core.Path.{_≡_, refl, sym, _∙_}
-use mathlib.Core.Logic.{_≢_}
+use mathlib.Core.Logic.{_≢_, _⊎_, inl, inr}
 use Prim.Native.Nat.{ℕ, _<_}
 use native.Mathlib.Nat.{one-le-pow}
 use native.Mathlib.Omega.{arith}
@@ -22,7 +22,7 @@ use Rattle.model.specs.Definitions.Bank.{noEntry, entryIn}
 use Rattle.model.specs.Definitions.Codec.{pageOf}
 use Rattle.model.specs.Definitions.WellFormed.{FrameOk, isGot, rightIn, EntryOk, WellFormed}
 use Rattle.model.specs.Definitions.Steps.{recorded, note, withFrame, frameOf, giveCopy, dropped, dropAt, dropCopies, passOwnership}
-use Rattle.model.specs.Laws.Logic.{cases, byEq, byState, clash}
+use Rattle.model.specs.Laws.Logic.{cases, byBool, byEq, byState, clash}
 use Rattle.model.specs.Laws.Lists.{length-update, getD-update-same, getD-update-other, update-set, each-getD, each-set}
 use Rattle.model.specs.Laws.Sets.{member-with-same, member-with-other, with-below, member-none}
 use Rattle.model.specs.Laws.Boards.{boardAt-out, rightIn-owner, rightIn-copy, rightIn-none, rightIn-same, frameAt-same, frameAt-other, tookCopy}
@@ -121,6 +121,33 @@ frameOk-of {k} w o p =
           let e : boardAt k o ≡ noBoard = boardAt-out k o (omega arith) in
           rw e frameOk-empty
     ]
+
+-- without the right own an up board is not the owner
+pub not-owner : {k : Bank} → WellFormed k → (b p : ℕ) → boardAt k b .state ≡ Up → p < length (k .directory) → frameOf k b p .right ≢ Own
+    → entryAt k p .owner ≢ b
+unfolding frameOf
+not-owner {k} w b p u l n o = n (w .boards b (up-below k b u) .rights u p l ∙ rightIn-owner (entryAt k p) b o)
+
+-- without a right it is neither the owner nor a holder
+pub no-right : {k : Bank} → WellFormed k → (b p : ℕ) → boardAt k b .state ≡ Up → p < length (k .directory) → frameOf k b p .right ≡ None
+    → (entryAt k p .owner ≢ b) × (member b (entryAt k p .copies) ≡ false)
+unfolding frameOf
+no-right {k} w b p u l n =
+    let other : entryAt k p .owner ≢ b = not-owner w b p u l (λ e. let z : _≡_ {A = ℕ} 0 1 = cc in omega arith) in
+    let r : None ≡ rightIn (entryAt k p) b = sym n ∙ w .boards b (up-below k b u) .rights u p l in (
+      other,
+      byBool (member b (entryAt k p .copies))
+          (λ t. let c : rightIn (entryAt k p) b ≡ Copy = rightIn-copy (entryAt k p) b other t in let z : _≡_ {A = ℕ} 0 1 = cc in absurd (omega arith))
+          (λ t. t),
+    )
+
+-- a right comes from the directory: the owner, or a holder of a copy
+pub right-from : (e : Entry) (b : ℕ) → rightIn e b ≢ None → (e .owner ≡ b) ⊎ (member b (e .copies) ≡ true)
+unfolding rightIn
+right-from e b h =
+    byBool (eqb (e .owner) b)
+    (λ t. inl (eqb-true (e .owner) b t))
+    (λ t. byBool (member b (e .copies)) (λ m. inr m) (λ m. absurd (h (cc))))
 
 -- ---- a copy given
 

@@ -16,22 +16,25 @@ use Rattle.types.specs.declared.Answer.{Answer}
 use Rattle.types.specs.declared.Answer.the-variants.{Done, OwnerNotUp, LogFull, PowerLost}
 use Rattle.model.specs.Definitions.Parts.{every}
 use Rattle.model.specs.Definitions.Layout.{byteValues}
-use Rattle.model.specs.Definitions.Bank.{Entry, Board, Bank, boardAt, frameAt, onBoard}
+use Rattle.model.specs.Definitions.Bank.{Board, Bank, boardAt, entryAt, frameAt, onBoard}
 use Rattle.model.specs.Definitions.Codec.{pageOf}
-use Rattle.model.specs.Definitions.WellFormed.{isUp, isDown, isReplaying}
+use Rattle.model.specs.Definitions.WellFormed.{isDown, isReplaying}
 use Rattle.model.specs.Definitions.Steps.{Run, start, storeAll, storedRecord, recordStores, flush, spareStores, checkpoint, Access, Read, Write}
 use Rattle.model.specs.Definitions.Steps.{ReadCells, Cell, cellsAsked, cellsRead, cellsWritten, anyWrite, names, takes, lacksPage, lackingPages}
 use Rattle.model.specs.Definitions.Steps.{cellByte, readFrom, valueOf, givenOf, giver, show, showAll, giveCopies, readFetch, writeFetch, fetch}
 use Rattle.model.specs.Definitions.Replay.{lacking, needsGot, needsGots, differs, tookDue, replayOver, endReplay, endIfOver}
 use Rattle.model.specs.Definitions.Calls.{Result, firstOf, unless, finished, pageWritten, copiesOut, fetchNeed, dropNeed, lackingOf, pagesLacking}
-use Rattle.model.specs.Definitions.Calls.{pageNeed, need, short, shortBoard, isSome, numberIn, pageMissing, liveRefusals, prepared, performed, live}
+use Rattle.model.specs.Definitions.Calls.{pageNeed, need, short, shortBoard, isSome, numberIn, nobodyGives, pageMissing, liveRefusals, prepared}
+use Rattle.model.specs.Definitions.Calls.{performed, live}
 use Rattle.model.specs.Definitions.Calls.{liveAfterEnd, replaying, accessInRange, wrongCells, countersFull, refusalsWithin, accessWithin}
 use Rattle.model.specs.Moves.{NoteShown, NoteGot, StoreRecord, StoreFrame, StoreHead, StoreSelector, PassOwnership, DropCopies, Perform, Settle}
 use Rattle.model.specs.Moves.{does}
 use Rattle.model.specs.Likeness.{EachPair, pairs-nil, pairs-cons, FrameAlike, RecordAlike, FramesAlike, BoardAlike, Alike, RunAlike, mappedAccess}
 use Rattle.model.specs.Likeness.{mapped, mappedValue, onValue, ResultAlike}
 use Rattle.model.specs.Laws.Lists.{foldl-both, each-replicate}
+use Rattle.model.specs.Laws.States.{SameStates}
 use Rattle.model.specs.Laws.Runs.{each-spareStores, checkpoint-selector}
+use Rattle.model.specs.Laws.Keeps.Givers.{ownerUp-same, giver-same}
 use Rattle.model.specs.Laws.Likeness.{Preserve, Perhaps, neither, both, perhaps-same, casesBoth, optionsBoth, pairs-length, alike-frameAt}
 use Rattle.model.specs.Laws.Likeness.{alike-boardAt, alike-entryAt, alike-onBoard}
 use Rattle.model.specs.Laws.Likeness.Steps.{alike-step, alike-giveCopy}
@@ -44,9 +47,11 @@ module _ (f : ℕ → ℕ) where
   unfolding start
   alike-start e = record { bank = e; stores = refl; lost = refl }
 
-  sameGiver : (p : ℕ) {k j : Bank} → Alike f k j → giver j p ≡ giver k p
-  unfolding giver
-  sameGiver p e = ap (λ (x : Entry). x .owner) (alike-entryAt f p e)
+  sameStates : {k j : Bank} → Alike f k j → SameStates k j
+  sameStates e c = alike-boardAt f c e .state
+
+  sameGiver : (g : CopyOrOwn) (p : ℕ) {k j : Bank} → Alike f k j → giver g j p ≡ giver g k p
+  sameGiver g p {k} {j} e = giver-same g k j p (alike-entryAt f p e) (sameStates e)
 
   sameOver : {x y : Board} → BoardAlike f x y → replayOver y ≡ replayOver x
   unfolding replayOver
@@ -77,18 +82,18 @@ module _ (f : ℕ → ℕ) (z : f 0 ≡ 0) where
   alike-showAll : (ps : List ℕ) {r s : Run} → RunAlike f r s → RunAlike f (showAll ps r) (showAll ps s)
   unfolding showAll
   alike-showAll [] e = e
-  alike-showAll (p ∷ ps) {r} e = alike-showAll ps (rw (sameGiver f p (e .bank)) (alike-show (giver (r .bank) p) p e))
+  alike-showAll (p ∷ ps) {r} e = alike-showAll ps (rw (sameGiver f GotCopy p (e .bank)) (alike-show (giver GotCopy (r .bank) p) p e))
 
   alike-giveCopies : (b : ℕ) (ps : List ℕ) → Preserve (Alike f) (giveCopies b ps) (giveCopies b ps)
   unfolding giveCopies
   alike-giveCopies b [] k j e = e
-  alike-giveCopies b (p ∷ ps) k j e = alike-giveCopies b ps _ _ (rw (sameGiver f p e) (alike-giveCopy f z (giver k p) b p k j e))
+  alike-giveCopies b (p ∷ ps) k j e = alike-giveCopies b ps _ _ (rw (sameGiver f GotCopy p e) (alike-giveCopy f z (giver GotCopy k p) b p k j e))
 
   alike-writeFetch : (b p : ℕ) {r s : Run} → RunAlike f r s → RunAlike f (writeFetch b p r) (writeFetch b p s)
   unfolding writeFetch does mapped
   alike-writeFetch b p {r} e =
-      let o : ℕ = giver (r .bank) p in
-      rw (sameGiver f p (e .bank))
+      let o : ℕ = giver GotOwn (r .bank) p in
+      rw (sameGiver f GotOwn p (e .bank))
       (moves-alike f z (PassOwnership o b p) (alike-flush b (moves-alike f z (NoteGot b o p) (alike-show o p e))))
 
   alike-fetch : (g : CopyOrOwn) (b : ℕ) (ps : List ℕ) {r s : Run} → RunAlike f r s → RunAlike f (fetch g b ps r) (fetch g b ps s)
@@ -230,6 +235,11 @@ unfolding fetchNeed
 sameFetchNeed f GotCopy b o p c e = refl
 sameFetchNeed f GotOwn b o p c e = cc (alike-entryAt f p e)
 
+sameNobody : (f : ℕ → ℕ) (g : CopyOrOwn) (p : ℕ) {k j : Bank} → Alike f k j → nobodyGives g j p ≡ nobodyGives g k p
+unfolding nobodyGives
+sameNobody f GotCopy p {k} {j} e = rw (ownerUp-same k j p (alike-entryAt f p e) (sameStates f e), alike-entryAt f p e)
+sameNobody f GotOwn p {k} {j} e = rw (ownerUp-same k j p (alike-entryAt f p e) (sameStates f e))
+
 module _ (f : ℕ → ℕ) (z : f 0 ≡ 0) (b : ℕ) (a : Access) {k j : Bank} (e : Alike f k j) where
   sameDropNeed : (p c : ℕ) → dropNeed (mappedAccess f a) j p c ≡ dropNeed a k p c
   unfolding dropNeed
@@ -239,7 +249,7 @@ module _ (f : ℕ → ℕ) (z : f 0 ≡ 0) (b : ℕ) (a : Access) {k j : Bank} (
   unfolding pageNeed
   samePageNeed c p =
       casesBoth (λ m n. n ≡ m) (sameLacksPage f z a p (alike-boardAt f b e .working .frames))
-      (rw (sameTakes f a, sameGiver f p e) (sameFetchNeed f (takes a) b (giver k p) p c e))
+      (rw (sameTakes f a, sameGiver f (takes a) p e) (sameFetchNeed f (takes a) b (giver (takes a) k p) p c e))
       (sameDropNeed p c)
 
   sameNeed : (c : ℕ) → need b (mappedAccess f a) j c ≡ need b a k c
@@ -257,9 +267,9 @@ module _ (f : ℕ → ℕ) (z : f 0 ≡ 0) (b : ℕ) (a : Access) {k j : Bank} (
   unfolding shortBoard
   sameShortBoard = rw (pairs-length (BoardAlike f) (e .boards), fun-ext sameShort)
 
-  sameMissing : (p : ℕ) → (lacksPage (mappedAccess f a) (boardAt j b .working .frames) p && not (isUp (boardAt j (giver j p) .state)))
-      ≡ (lacksPage a (boardAt k b .working .frames) p && not (isUp (boardAt k (giver k p) .state)))
-  sameMissing p = rw (sameLacksPage f z a p (alike-boardAt f b e .working .frames), sameGiver f p e, alike-boardAt f (giver k p) e .state)
+  sameMissing : (p : ℕ) → (lacksPage (mappedAccess f a) (boardAt j b .working .frames) p && nobodyGives (takes (mappedAccess f a)) j p)
+      ≡ (lacksPage a (boardAt k b .working .frames) p && nobodyGives (takes a) k p)
+  sameMissing p = rw (sameLacksPage f z a p (alike-boardAt f b e .working .frames), sameTakes f a, sameNobody f (takes a) p e)
 
   samePageMissing : pageMissing b (mappedAccess f a) j ≡ pageMissing b a k
   unfolding pageMissing
@@ -268,8 +278,8 @@ module _ (f : ℕ → ℕ) (z : f 0 ≡ 0) (b : ℕ) (a : Access) {k j : Bank} (
   rows-live : EachPair (RowAlike (mappedValue f a)) (liveRefusals b a k) (liveRefusals b (mappedAccess f a) j)
   unfolding liveRefusals onValue
   rows-live =
-      let owner : giver j (numberIn (pageMissing b (mappedAccess f a) j)) ≡ giver k (numberIn (pageMissing b a k)) =
-      rw samePageMissing (sameGiver f (numberIn (pageMissing b a k)) e) in
+      let owner : entryAt j (numberIn (pageMissing b (mappedAccess f a) j)) .owner ≡ entryAt k (numberIn (pageMissing b a k)) .owner =
+      rw (samePageMissing, alike-entryAt f (numberIn (pageMissing b a k)) e) in
       pairs-cons (ap isSome samePageMissing, ap OwnerNotUp owner)
       (pairs-cons (ap isSome sameShortBoard, ap (λ (m : Option ℕ). LogFull (numberIn m)) sameShortBoard) pairs-nil)
 

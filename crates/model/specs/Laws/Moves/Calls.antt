@@ -37,18 +37,19 @@ use Rattle.model.specs.Contracts.{CanAccess, CanFetch, Entered}
 use Rattle.model.specs.Moves.{DropCopies, Perform, LosePower, SetFuse, Load, Repeat, TakeLast, Settle, does, Phase, Begun, Fetched, Replays, Settled}
 use Rattle.model.specs.Moves.{Finished, Selects, checkpoints, resumes, closes, ends, anyone, MayPerform, local, taken, dropsCopies, performs, losesPower}
 use Rattle.model.specs.Moves.{setsFuse, loads, repeatsAccess, takesLast, settles, Moves, still, waits, cutOff}
-use Rattle.model.specs.Laws.Logic.{cases, casesOption, clash, and-left, and-right}
+use Rattle.model.specs.Laws.Logic.{cases, casesOption, and-left, and-right}
 use Rattle.model.specs.Laws.Boards.{droppedIf, withoutCopies, boards-onBoard, boardAt-same, boardAt-dropCopies, entryAt-dropCopies-same}
 use Rattle.model.specs.Laws.Boards.{entryAt-passOwnership-same, directory-dropCopies, tookDue-state, replayed-state}
 use Rattle.model.specs.Laws.Runs.{step-done, step-none, step-going, follows-fetch, follows-step, SameSizes, sizes-same, sizes-dropCopies}
 use Rattle.model.specs.Laws.Codes.Statement.{boardNamed}
-use Rattle.model.specs.Laws.Keeps.Clauses.{up-below}
+use Rattle.model.specs.Laws.Keeps.Clauses.{up-below, isUp-up, isDown-down, isDown-not, isReplaying-replaying}
 use Rattle.model.specs.Laws.Lists.{each-imp}
 use Rattle.model.specs.Laws.Below.{Lacks, lacking-none, lackingPages-lack, lackingPages-rise}
 use Rattle.model.specs.Laws.Keeps.Fetches.{page-there, owner-up, room-owner, Taken, gave-none, gave-changed, got-changed}
-use Rattle.model.specs.Laws.Keeps.Live.{firstOf-none, first-in, isUp-up, isDown-down, isDown-not, isReplaying-replaying, can-fetch, can-drop}
-use Rattle.model.specs.Laws.Keeps.Live.{writer-none, copy-none, writes-own, own-writes, named-written, lacking-some, lacking-own, taken-has}
+use Rattle.model.specs.Laws.Keeps.Live.{firstOf-none, first-in, can-fetch, can-drop}
+use Rattle.model.specs.Laws.Keeps.Live.{writer-none, writes-own, own-writes, named-written, lacking-some, lacking-own, taken-has}
 use Rattle.model.specs.Laws.Keeps.Live.{fetched-taken}
+use Rattle.model.specs.Laws.Keeps.Givers.{copy-none}
 use Rattle.model.specs.Laws.Keeps.Entered.{entered-live, entered, fitting, board-taken, below-taken, live-can}
 use Rattle.model.specs.Laws.Moves.{moves-do}
 use Rattle.model.specs.Laws.Moves.Formed.{FormedIn, FormedRun, run-formed, formed-begun, fetched-formed, finished-formed, moves-formed}
@@ -137,7 +138,7 @@ module _ (b : ℕ) (s : Run) (formed : WellFormed (s .bank)) where
 
     fetch-as : {Again : Access → Type 0} {φ : Phase} {r : Run} (g : CopyOrOwn) (qs : List ℕ) → takes a ≡ g → pagesLacking b a (s .bank) ≡ qs
         → lackingOf b a (s .bank) ≡ true → Moves b Again φ r Begun s
-        → Moves b Again φ r (Fetched a (map (giver (s .bank)) qs) qs) (fetch g b qs s)
+        → Moves b Again φ r (Fetched a (map (giver g (s .bank)) qs) qs) (fetch g b qs s)
     unfolding fetch pagesLacking lackingOf frameOf
     fetch-as GotCopy qs e i lack t =
         let (p, rest, found) = lacking-some a fs lack in
@@ -157,10 +158,11 @@ module _ (b : ℕ) (s : Run) (formed : WellFormed (s .bank)) where
         let c : CanFetch GotOwn b (p ∷ []) (s .bank) = rw (e, one) at (can-fetch b a (s .bank) formed can passed) in
         rw j
         (writeFetch-moves b p s formed a e (named-written a p (own-writes a e)) c
-        (show-moves (giver (s .bank) p) p t (λ z. owner-up b p s formed c) (λ z. omega (arith, room-owner b p s formed c)) (λ z. page-there b p s formed c)))
+        (show-moves (giver GotOwn (s .bank) p) p t
+        (λ z. owner-up b p s formed c) (λ z. omega (arith, room-owner b p s formed c)) (λ z. page-there b p s formed c)))
 
     pub fetch-moves : {Again : Access → Type 0} {φ : Phase} {r : Run} → lackingOf b a (s .bank) ≡ true → Moves b Again φ r Begun s
-        → Moves b Again φ r (Fetched a (map (giver (s .bank)) (pagesLacking b a (s .bank))) (pagesLacking b a (s .bank)))
+        → Moves b Again φ r (Fetched a (map (giver (takes a) (s .bank)) (pagesLacking b a (s .bank))) (pagesLacking b a (s .bank)))
         (fetch (takes a) b (pagesLacking b a (s .bank)) s)
     fetch-moves lack t = fetch-as (takes a) (pagesLacking b a (s .bank)) refl refl lack t
 
@@ -171,7 +173,7 @@ module _ (b : ℕ) (s : Run) (formed : WellFormed (s .bank)) where
     out-as GotCopy qs e i lack n = copy-out a (fetch GotCopy b qs s .bank) e
     out-as GotOwn qs e i lack n =
         let p : ℕ = pageWritten a in
-        let from : ℕ = giver (s .bank) p in
+        let from : ℕ = giver GotOwn (s .bank) p in
         let one : lackingPages a fs ≡ p ∷ [] = lacking-own a fs e lack in
         let j : qs ≡ p ∷ [] = sym i ∙ one in
         let c : CanFetch GotOwn b (p ∷ []) (s .bank) = rw (e, one) at (can-fetch b a (s .bank) formed can passed) in
@@ -193,7 +195,7 @@ module _ (b : ℕ) (s : Run) (formed : WellFormed (s .bank)) where
     module _ {c : Call} {k : Bank} (makes : Makes c k b a (s .bank)) where
       -- who gives the pages that are lacking
       lacking-gives : MayPerform a (giversIn b a (some (s .bank)))
-          (Fetched a (map (giver (s .bank)) (pagesLacking b a (s .bank))) (pagesLacking b a (s .bank)))
+          (Fetched a (map (giver (takes a) (s .bank)) (pagesLacking b a (s .bank))) (pagesLacking b a (s .bank)))
       unfolding giversIn
       lacking-gives = taken
 

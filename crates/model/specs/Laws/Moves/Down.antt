@@ -4,7 +4,6 @@ use mathlib.Core.Path.{_≡_, refl, sym, ap, _∙_}
 use mathlib.Core.Logic.{_≢_}
 use Prim.Native.Nat.{ℕ, _<_}
 use native.Mathlib.Omega.{arith}
-use mathlib.Core.Bool.{Bool}
 use mathlib.Core.Option.{none, some}
 use mathlib.Core.List.{List}
 use lib.ListN.{length}
@@ -18,8 +17,7 @@ use Rattle.model.specs.Definitions.Layout.{pageSize, noFuse}
 use Rattle.model.specs.Definitions.Bank.{Board, Bank, boardAt, entryAt, onBoard, onWorking, onSpare}
 use Rattle.model.specs.Definitions.WellFormed.{WellFormed}
 use Rattle.model.specs.Definitions.Steps.{Run, start, step, poweredOff, powerOff, withFuse, burnt, store, recorded, note, movedRecord, storedRecord}
-use Rattle.model.specs.Definitions.Steps.{storedFrame, storedHead, storedSelector, restedWorking, Access, accessed, access, frameOf, withFrame, giveCopy}
-use Rattle.model.specs.Definitions.Steps.{dropped, dropAt, dropCopies, passOwnership}
+use Rattle.model.specs.Definitions.Steps.{storedFrame, storedHead, storedSelector, restedWorking, Access, accessed, access, frameOf}
 use Rattle.model.specs.Definitions.Replay.{settle, loaded, usedUp, tookDue, settled, replayed}
 use Rattle.model.specs.Moves.{TakesCopy, first, behind}
 use Rattle.model.specs.Moves.{Move, does, Phase, Begun, Noted, Fetched, Replays, Settled, Finished, MayStore, anyone, taker, ender, Selects, checkpoints}
@@ -27,57 +25,16 @@ use Rattle.model.specs.Moves.{resumes, closes, MayPerform, local, taken,
 use Rattle.model.specs.Moves.{storesSelector, givesCopy, passesOwnership, dropsCopies, performs, losesPower, setsFuse, loads, repeatsAccess, takesLast}
 use Rattle.model.specs.Moves.{settles, Moves}
 use Rattle.model.specs.History.Statement.{LostPower, Nothing}
-use Rattle.model.specs.Laws.Logic.{cases, byEq}
-use Rattle.model.specs.Laws.Boards.{boardAt-out, storedRecord-cases, byBoard, boards-onBoard, boardAt-same, boardAt-other, boardAt-onEntry}
-use Rattle.model.specs.Laws.Boards.{boardAt-powerOff-same, boardAt-powerOff-other, tookCopy, giveCopy-parts, droppedIf, boards-dropAt, boardAt-dropAt}
-use Rattle.model.specs.Laws.Boards.{holds, dropCopies-parts, tookOwn, gives, passOwnership-parts, tookDue-state, replayed-state}
+use Rattle.model.specs.Laws.Logic.{byEq}
+use Rattle.model.specs.Laws.Boards.{storedRecord-cases, boards-onBoard, boardAt-same, boardAt-other}
+use Rattle.model.specs.Laws.Boards.{boardAt-powerOff-same, boardAt-powerOff-other}
+use Rattle.model.specs.Laws.Boards.{tookDue-state, replayed-state}
+use Rattle.model.specs.Laws.States.{SameStates, states-onBoard, states-giveCopy, states-dropCopies, states-passOwnership}
 use Rattle.model.specs.Laws.Runs.{lost-not, step-cases, store-cases, follows-store}
 use Rattle.model.specs.Laws.Runs.Stores.{burnt-state}
 use Rattle.model.specs.Laws.Keeps.Clauses.{up-below, up-not-down, down-not-replaying}
 use Rattle.model.specs.Laws.Moves.Formed.{FormedIn, FormedRun, formed-begun, selects-stores, induct-formed}
 use Rattle.model.specs.Laws.Codes.Order.{never}
-
--- ==== steps that change no board's state
-
-abbrev pub SameStates : Bank → Bank → Type 0
-SameStates k j = (c : ℕ) → boardAt j c .state ≡ boardAt k c .state
-
--- of boards that are there, and of no others
-states-in : (k j : Bank) → length (j .boards) ≡ length (k .boards)
-    → ((c : ℕ) → c < length (k .boards) → boardAt j c .state ≡ boardAt k c .state) → SameStates k j
-states-in k j e f c =
-    byBoard k c (f c) (λ h. ap (λ (x : Board). x .state) (boardAt-out j c (omega arith) ∙ sym (boardAt-out k c h)))
-
-pub states-onBoard : (b : ℕ) (f : Board → Board) (k : Bank) → f (boardAt k b) .state ≡ boardAt k b .state → SameStates k (onBoard b f k)
-states-onBoard b f k h =
-    states-in k (onBoard b f k) (boards-onBoard b f k)
-    (λ c l.
-    byEq c b
-    (λ e. rw e (ap (λ (x : Board). x .state) (boardAt-same b f k (rw e at l)) ∙ h))
-    (λ n. ap (λ (x : Board). x .state) (boardAt-other b f k c n)))
-
-droppedIf-state : (t : Bool) (p : ℕ) (x : Board) → droppedIf t p x .state ≡ x .state
-unfolding droppedIf dropped withFrame onWorking
-droppedIf-state t p x = cases (λ (y : Board). y .state ≡ x .state) t (λ e. refl) (λ e. refl)
-
-states-dropAt : (loses : ℕ → Bool) (p : ℕ) (k : Bank) → SameStates k (dropAt loses p k)
-states-dropAt loses p k =
-    states-in k (dropAt loses p k) (boards-dropAt loses p k)
-    (λ c l. ap (λ (x : Board). x .state) (boardAt-dropAt loses p k c l) ∙ droppedIf-state (loses c) p (boardAt k c))
-
-pub states-giveCopy : (o b p : ℕ) (k : Bank) → SameStates k (giveCopy o b p k)
-unfolding tookCopy withFrame onWorking
-states-giveCopy o b p k c = rw (giveCopy-parts o b p k, boardAt-onEntry) (states-onBoard b (tookCopy p (frameOf k o p .bytes)) k refl c)
-
-pub states-dropCopies : (p : ℕ) (k : Bank) → SameStates k (dropCopies p k)
-states-dropCopies p k c = rw (dropCopies-parts p k, boardAt-onEntry) (states-dropAt (holds p k) p k c)
-
-pub states-passOwnership : (o w p : ℕ) (k : Bank) → SameStates k (passOwnership o w p k)
-unfolding tookOwn withFrame onWorking
-states-passOwnership o w p k c =
-    let j : Bank = dropAt (gives o w p k) p k in
-    rw (passOwnership-parts o w p k, boardAt-onEntry)
-    (states-onBoard w (tookOwn p (frameOf k o p .bytes)) j refl c ∙ states-dropAt (gives o w p k) p k c)
 
 -- ==== what may have become of a board
 
@@ -247,7 +204,7 @@ move-tracks s _ n (storesSelector b o u v) h t =
     (rw (follows-store b storedSelector s .sizes .boards) (up-below (s .bank) b u))
     (selects-lead o) (kept-change (selects-lead o) b refl (λ z. z))
 move-tracks {d = d} s _ n (givesCopy a o p x c i g u m r) h t = quiet-tracks s t _ (takes-quiet x) (states-giveCopy o d p (s .bank))
-move-tracks {d = d} s _ n (passesOwnership a o p c i g v m) h t = quiet-tracks s t _ (λ c z. z, λ z. z) (states-passOwnership o d p (s .bank))
+move-tracks {d = d} s _ n (passesOwnership a o p c i g own v m) h t = quiet-tracks s t _ (λ c z. z, λ z. z) (states-passOwnership o d p (s .bank))
 move-tracks s _ n (dropsCopies p l m) h t = quiet-tracks s t _ (λ c z. z, λ z. z) (states-dropCopies p (s .bank))
 move-tracks {d = d} s _ n (performs a i can has out) h t =
     quiet-tracks s t _ (begins-quiet i) (states-onBoard d (onWorking (accessed a)) (s .bank) refl)

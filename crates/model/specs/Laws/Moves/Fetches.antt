@@ -16,22 +16,23 @@ use Rattle.types.specs.declared.Kind.the-variants.{Got, Shown}
 use Rattle.types.specs.declared.State.the-variants.{Up}
 use Rattle.model.specs.Definitions.Parts.{zeros, member}
 use Rattle.model.specs.Definitions.Layout.{pageSize}
-use Rattle.model.specs.Definitions.Bank.{Entry, Board, Bank, boardAt, entryAt, frameAt}
+use Rattle.model.specs.Definitions.Bank.{Entry, Board, Bank, boardAt, entryAt, frameAt, onWorking}
 use Rattle.model.specs.Definitions.Steps.{Run, Access, step, names, takes, note, flush, frameOf, giver, show, giveCopy, showAll, giveCopies, readFetch}
-use Rattle.model.specs.Definitions.Steps.{writeFetch}
+use Rattle.model.specs.Definitions.Steps.{recorded, writeFetch}
 use Rattle.model.specs.Contracts.{CanFetch}
 use Rattle.model.specs.Moves.{NoteGot, GiveCopy, PassOwnership, does, Phase, Begun, Noted, Fetched, taker, TakesCopy, first, behind, Gives, notesGot}
 use Rattle.model.specs.Moves.{givesCopy, passesOwnership, Moves, still, cutOff}
 use Rattle.model.specs.Laws.Logic.{byBool, byOption}
-use Rattle.model.specs.Laws.Lists.{each-head, each-tail, each-imp, each-append, map-same}
-use Rattle.model.specs.Laws.Below.{Rising}
+use Rattle.model.specs.Laws.Lists.{each-head, each-tail, each-imp, each-append, map-same, map-each}
+use Rattle.model.specs.Laws.Below.{Rising, rising-each}
 use Rattle.model.specs.Laws.Runs.{step-none, step-done, step-lost, step-cases, follows-none, follows-show, Changed, entryAt-changed}
 use Rattle.model.specs.Laws.Runs.Stores.{FlushedWith, show-changed}
 use Rattle.model.specs.Laws.Keeps.Clauses.{fits, up-below}
 use Rattle.model.specs.Laws.Keeps.Fetches.{page-there, owner-up, owner-other, room-taker, room-owner, writer-same, gave-changed, got-changed, gave-none}
 use Rattle.model.specs.Laws.Keeps.Fetches.{room-got}
-use Rattle.model.specs.Laws.Keeps.Copies.{note-flush-secure, show-secure, room-giver, giver-same, showAll-shared, shown-can, CanTake, shown-take}
-use Rattle.model.specs.Laws.Keeps.Copies.{giver-giveCopy, taken-take}
+use Rattle.model.specs.Laws.Keeps.Givers.{giver-right, giver-giveCopy}
+use Rattle.model.specs.Laws.Keeps.Copies.{note-flush-secure, show-secure, room-giver, shared-giver, showAll-shared, shown-can, CanTake}
+use Rattle.model.specs.Laws.Keeps.Copies.{shown-take, taken-take}
 use Rattle.model.specs.Laws.Moves.{moves-do}
 use Rattle.model.specs.Laws.Moves.Stores.{noted-up, flush-moves, show-moves}
 use Rattle.model.specs.Laws.Moves.Formed.{formed-begun, run-formed, moves-formed}
@@ -44,14 +45,14 @@ pub showAll-moves : {b : ℕ} {Again : Access → Type 0} {φ : Phase} {r : Run}
 unfolding showAll
 showAll-moves [] s c t = t
 showAll-moves {b} (p ∷ ps) s c t =
-    let o : ℕ = giver (s .bank) p in
+    let o : ℕ = giver GotCopy (s .bank) p in
     showAll-moves ps (show o p s)
     (λ e. shown-can b p ps s (c (follows-none (follows-show o p s) e)) e)
-    (show-moves o p t (λ e. each-head (c e .owners)) (λ e. room-giver b p ps (s .bank) (c e)) (λ e. each-head (c e .pages)))
+    (show-moves o p t (λ e. each-head (c e .givers)) (λ e. room-giver b p ps (s .bank) (c e)) (λ e. each-head (c e .pages)))
 
 -- one copy, then the others
 step-copies : (b p : ℕ) (ps : List ℕ) (s : Run)
-    → step (giveCopies b (p ∷ ps)) s ≡ step (giveCopies b ps) (step (giveCopy (giver (s .bank) p) b p) s)
+    → step (giveCopies b (p ∷ ps)) s ≡ step (giveCopies b ps) (step (giveCopy (giver GotCopy (s .bank) p) b p) s)
 unfolding step giveCopies
 step-copies b p ps s = byOption (s .lost) (λ n. cc) (λ c e. cc)
 
@@ -61,26 +62,29 @@ no-copies b s =
     let at : Option ℕ → Run = λ o. record { bank = s .bank; stores = s .stores; lost = o } in
     byOption (s .lost) (λ n. let t : step (giveCopies b []) s ≡ at none = cc in t ∙ ap at (sym n)) (λ c e. cc)
 
--- a copy given leaves the owners of the pages
-givers-step : (b p : ℕ) (ps : List ℕ) (s : Run) → map (giver (step (giveCopy (giver (s .bank) p) b p) s .bank)) ps ≡ map (giver (s .bank)) ps
-givers-step b p ps s =
-    step-cases (λ u. map (giver (u .bank)) ps ≡ map (giver (s .bank)) ps) (giveCopy (giver (s .bank) p) b p) s
+-- a copy given leaves who gives the pages behind it
+givers-step : (b p : ℕ) (ps : List ℕ) (s : Run) → Rising (suc p) ps
+    → map (giver GotCopy (step (giveCopy (giver GotCopy (s .bank) p) b p) s .bank)) ps ≡ map (giver GotCopy (s .bank)) ps
+givers-step b p ps s rise =
+    step-cases (λ u. map (giver GotCopy (u .bank)) ps ≡ map (giver GotCopy (s .bank)) ps) (giveCopy (giver GotCopy (s .bank) p) b p) s
     (λ c e. refl)
-    (λ e. map-same ps (giver-giveCopy (giver (s .bank) p) b p (s .bank)))
+    (λ e.
+    map-each ps
+    (each-imp ps (λ q l. giver-giveCopy GotCopy (giver GotCopy (s .bank) p) b p (s .bank) q (λ i. absurd (omega (arith, l)))) (rising-each (suc p) ps rise)))
 
 copy-take : (b p : ℕ) (ps : List ℕ) (s : Run) → Rising (suc p) ps → (s .lost ≡ none → CanTake b (p ∷ ps) (s .bank))
-    → step (giveCopy (giver (s .bank) p) b p) s .lost ≡ none → CanTake b ps (step (giveCopy (giver (s .bank) p) b p) s .bank)
+    → step (giveCopy (giver GotCopy (s .bank) p) b p) s .lost ≡ none → CanTake b ps (step (giveCopy (giver GotCopy (s .bank) p) b p) s .bank)
 copy-take b p ps s rise can n =
-    let f : Bank → Bank = giveCopy (giver (s .bank) p) b p in
+    let f : Bank → Bank = giveCopy (giver GotCopy (s .bank) p) b p in
     rw (step-done f s n) (taken-take b p ps (s .bank) (can (step-none f s n)) rise)
 
 module _ {b : ℕ} {Again : Access → Type 0} {φ : Phase} {r : Run} (a : Access) (copy : takes a ≡ GotCopy) where
   -- one copy
-  copy-moves : (p : ℕ) (ps : List ℕ) (s : Run) {χ ψ : Phase} → TakesCopy a (giver (s .bank) p) p χ ψ → names a p ≡ true
-      → (s .lost ≡ none → CanTake b (p ∷ ps) (s .bank)) → Moves b Again φ r χ s → Moves b Again φ r ψ (step (giveCopy (giver (s .bank) p) b p) s)
+  copy-moves : (p : ℕ) (ps : List ℕ) (s : Run) {χ ψ : Phase} → TakesCopy a (giver GotCopy (s .bank) p) p χ ψ → names a p ≡ true
+      → (s .lost ≡ none → CanTake b (p ∷ ps) (s .bank)) → Moves b Again φ r χ s → Moves b Again φ r ψ (step (giveCopy (giver GotCopy (s .bank) p) b p) s)
   unfolding does
   copy-moves p ps s x named can t =
-      let o : ℕ = giver (s .bank) p in
+      let o : ℕ = giver GotCopy (s .bank) p in
       moves-do (GiveCopy o b p) t
       (λ e.
       givesCopy a o p x copy named (each-head (can e .gives)) (can e .up) (omega (arith, can e .room)) (each-head (can e .rights)))
@@ -88,36 +92,38 @@ module _ {b : ℕ} {Again : Access → Type 0} {φ : Phase} {r : Run} (a : Acces
   -- the copies behind the first, each of a higher page
   behind-moves : (n : ℕ) (ps os qs : List ℕ) (s : Run) → Each (λ p. names a p ≡ true) ps → Each (λ q. q < n) qs → Rising n ps
       → (s .lost ≡ none → CanTake b ps (s .bank)) → Moves b Again φ r (Fetched a os qs) s
-      → Moves b Again φ r (Fetched a (os ++ map (giver (s .bank)) ps) (qs ++ ps)) (step (giveCopies b ps) s)
+      → Moves b Again φ r (Fetched a (os ++ map (giver GotCopy (s .bank)) ps) (qs ++ ps)) (step (giveCopies b ps) s)
   unfolding Rising
   behind-moves n [] os qs s named low rise can t = rw (no-copies b s, append-nil os, append-nil qs) t
   behind-moves n (p ∷ ps) os qs s named low rise can t =
-      let o : ℕ = giver (s .bank) p in
+      let o : ℕ = giver GotCopy (s .bank) p in
       let u : Run = step (giveCopy o b p) s in
       let lower : Each (λ q. q < suc p) (qs ++ (p ∷ [])) =
       each-append qs (p ∷ []) (each-imp qs (λ q l. omega (arith, rise .0)) low) (each-cons (omega arith) each-nil) in
       let here : Moves b Again φ r (Fetched a (os ++ (o ∷ [])) (qs ++ (p ∷ []))) u =
       copy-moves p ps s (behind (each-imp qs (λ q l. omega (arith, rise .0)) low)) (each-head named) can t in
-      let rest : Moves b Again φ r (Fetched a ((os ++ (o ∷ [])) ++ map (giver (u .bank)) ps) ((qs ++ (p ∷ [])) ++ ps)) (step (giveCopies b ps) u) =
+      let rest : Moves b Again φ r (Fetched a ((os ++ (o ∷ [])) ++ map (giver GotCopy (u .bank)) ps) ((qs ++ (p ∷ [])) ++ ps)) (step (giveCopies b ps) u) =
       behind-moves (suc p) ps (os ++ (o ∷ [])) (qs ++ (p ∷ [])) u (each-tail named) lower (rise .1) (copy-take b p ps s (rise .1) can) here in
-      rw (step-copies b p ps s, ← append-assoc os (o ∷ []) (map (giver (s .bank)) ps), ← append-assoc qs (p ∷ []) ps, ← givers-step b p ps s) rest
+      rw
+      (step-copies b p ps s, ← append-assoc os (o ∷ []) (map (giver GotCopy (s .bank)) ps), ← append-assoc qs (p ∷ []) ps, ← givers-step b p ps s (rise .1))
+      rest
 
   -- all of them
   copies-moves : (p : ℕ) (ps : List ℕ) (s : Run) → Each (λ q. names a q ≡ true) (p ∷ ps) → Rising 0 (p ∷ ps)
       → (s .lost ≡ none → CanTake b (p ∷ ps) (s .bank)) → Moves b Again φ r Begun s
-      → Moves b Again φ r (Fetched a (map (giver (s .bank)) (p ∷ ps)) (p ∷ ps)) (step (giveCopies b (p ∷ ps)) s)
+      → Moves b Again φ r (Fetched a (map (giver GotCopy (s .bank)) (p ∷ ps)) (p ∷ ps)) (step (giveCopies b (p ∷ ps)) s)
   unfolding Rising
   copies-moves p ps s named rise can t =
-      let o : ℕ = giver (s .bank) p in
+      let o : ℕ = giver GotCopy (s .bank) p in
       let u : Run = step (giveCopy o b p) s in
-      rw (step-copies b p ps s, ← givers-step b p ps s)
+      rw (step-copies b p ps s, ← givers-step b p ps s (rise .1))
       (behind-moves (suc p) ps (o ∷ []) (p ∷ []) u (each-tail named) (each-cons (omega arith) each-nil) (rise .1) (copy-take b p ps s (rise .1) can)
       (copy-moves p ps s first (each-head named) can t))
 
   -- "Read fetch: .."
   pub readFetch-moves : (p : ℕ) (ps : List ℕ) (s : Run) → WellFormed (s .bank) → CanFetch GotCopy b (p ∷ ps) (s .bank)
       → Each (λ q. frameOf (s .bank) b q .right ≡ None) (p ∷ ps) → Each (λ q. names a q ≡ true) (p ∷ ps) → Rising 0 (p ∷ ps) → Moves b Again φ r Begun s
-      → Moves b Again φ r (Fetched a (map (giver (s .bank)) (p ∷ ps)) (p ∷ ps)) (readFetch b (p ∷ ps) s)
+      → Moves b Again φ r (Fetched a (map (giver GotCopy (s .bank)) (p ∷ ps)) (p ∷ ps)) (readFetch b (p ∷ ps) s)
   unfolding readFetch
   readFetch-moves p ps s w c lack named rise t =
       let qs : List ℕ = p ∷ ps in
@@ -125,8 +131,8 @@ module _ {b : ℕ} {Again : Access → Type 0} {φ : Phase} {r : Run} (a : Acces
       let shown : Moves b Again φ r Begun u = showAll-moves qs s (λ e. c) t in
       byOption (u .lost)
       (λ n.
-      let same : map (giver (u .bank)) qs ≡ map (giver (s .bank)) qs =
-      map-same qs (giver-same (s .bank) (u .bank) (showAll-shared b qs s c n .directory)) in
+      let same : map (giver GotCopy (u .bank)) qs ≡ map (giver GotCopy (s .bank)) qs =
+      map-same qs (shared-giver (showAll-shared b qs s c n) GotCopy) in
       rw (← same) (copies-moves p ps u named rise (λ e. shown-take b qs s w c lack e) shown))
       (λ d e. rw (step-lost (giveCopies b qs) u e) (cutOff shown e))
 
@@ -143,24 +149,24 @@ owned-not e b n i =
 -- what follows the owner's part
 module _ (b p : ℕ) (s : Run) (formed : WellFormed (s .bank)) where
   abbrev o : ℕ
-  o = giver (s .bank) p
+  o = giver GotOwn (s .bank) p
 
   -- the owner after its part
-  gives-shown : boardAt (s .bank) (giver (s .bank) p) .state ≡ Up → p < length (s .bank .directory) → giver (s .bank) p ≢ b
-      → show (giver (s .bank) p) p s .lost ≡ none → Gives (giver (s .bank) p) b p (show (giver (s .bank) p) p s .bank)
-  unfolding giver
+  gives-shown : boardAt (s .bank) (giver GotOwn (s .bank) p) .state ≡ Up → p < length (s .bank .directory) → giver GotOwn (s .bank) p ≢ b
+      → show (giver GotOwn (s .bank) p) p s .lost ≡ none → Gives (giver GotOwn (s .bank) p) b p (show (giver GotOwn (s .bank) p) p s .bank)
+  unfolding frameOf onWorking recorded
   gives-shown u l n e =
       let d : Changed o (FlushedWith (Shown p) (zeros pageSize)) (s .bank) (show o p s .bank) = show-changed o p s e in
       record {
         page = rw (d .directory) l;
-        owner = ap (λ (x : Entry). x .owner) (entryAt-changed d p);
+        right = rw (d .this (up-below (s .bank) o u) .frames) (giver-right formed p l GotOwn u);
         other = n;
         secure = show-secure o p s u e;
       }
 
   -- the owner's part leaves the taker's frames
-  frame-same : show (giver (s .bank) p) p s .lost ≡ none → CanFetch GotOwn b (p ∷ []) (s .bank)
-      → frameOf (show (giver (s .bank) p) p s .bank) b p .right ≡ frameOf (s .bank) b p .right
+  frame-same : show (giver GotOwn (s .bank) p) p s .lost ≡ none → CanFetch GotOwn b (p ∷ []) (s .bank)
+      → frameOf (show (giver GotOwn (s .bank) p) p s .bank) b p .right ≡ frameOf (s .bank) b p .right
   unfolding frameOf
   frame-same e c = ap (λ (x : Board). frameAt (x .working .frames) p .right) (writer-same b p s formed c e)
 
@@ -173,9 +179,9 @@ module _ (b p : ℕ) (s : Run) (formed : WellFormed (s .bank)) where
 
   -- "writer records got own and flushes"
   pub got-moves : {Again : Access → Type 0} {φ : Phase} {r : Run} → CanFetch GotOwn b (p ∷ []) (s .bank)
-      → Moves b Again φ r Begun (show (giver (s .bank) p) p s)
-      → Moves b Again φ r (Noted (giver (s .bank) p) p)
-      (flush b (step (λ k. note b (Got GotOwn p) (frameOf k (giver (s .bank) p) p .bytes) k) (show (giver (s .bank) p) p s)))
+      → Moves b Again φ r Begun (show (giver GotOwn (s .bank) p) p s)
+      → Moves b Again φ r (Noted (giver GotOwn (s .bank) p) p)
+      (flush b (step (λ k. note b (Got GotOwn p) (frameOf k (giver GotOwn (s .bank) p) p .bytes) k) (show (giver GotOwn (s .bank) p) p s)))
   unfolding does
   got-moves c t =
       flush-moves b taker
@@ -191,8 +197,9 @@ module _ (b p : ℕ) (s : Run) (formed : WellFormed (s .bank)) where
   -- "Write fetch: .."
   pub writeFetch-moves : {Again : Access → Type 0} {φ : Phase} {r : Run} (a : Access) → takes a ≡ GotOwn → names a p ≡ true
       → CanFetch GotOwn b (p ∷ []) (s .bank)
-      → Moves b Again φ r Begun (show (giver (s .bank) p) p s) → Moves b Again φ r (Fetched a (giver (s .bank) p ∷ []) (p ∷ [])) (writeFetch b p s)
-  unfolding writeFetch does giver
+      → Moves b Again φ r Begun (show (giver GotOwn (s .bank) p) p s)
+      → Moves b Again φ r (Fetched a (giver GotOwn (s .bank) p ∷ []) (p ∷ [])) (writeFetch b p s)
+  unfolding writeFetch does giver frameOf
   writeFetch-moves a own named c t =
       let gave : Run = show o p s in
       let bytes : Bank → List ℕ = λ k. frameOf k o p .bytes in
@@ -207,15 +214,16 @@ module _ (b p : ℕ) (s : Run) (formed : WellFormed (s .bank)) where
       passesOwnership a o p own named
       (record {
         page = rw (d .directory) (gives .page);
-        owner = ap (λ (x : Entry). x .owner) entry;
+        right = rw (d .others o (owner-other b p s formed c)) (gives .right);
         other = owner-other b p s formed c;
         secure = rw (d .others o (owner-other b p s formed c)) (gives .secure);
       })
+      (ap (λ (x : Entry). x .owner) entry)
       (note-flush-secure b (Got GotOwn p) bytes gave (rw (writer-same b p s formed c m) (c .taker)) e)
       (λ x l n i. room-got b p s formed c x e (rw (d .boards, g .boards) at l) n (rw entry at i)))
 
   pub got-keeps : CanFetch GotOwn b (p ∷ []) (s .bank)
-      → WellFormed (flush b (step (λ k. note b (Got GotOwn p) (frameOf k (giver (s .bank) p) p .bytes) k) (show (giver (s .bank) p) p s)) .bank)
+      → WellFormed (flush b (step (λ k. note b (Got GotOwn p) (frameOf k (giver GotOwn (s .bank) p) p .bytes) k) (show (giver GotOwn (s .bank) p) p s)) .bank)
   got-keeps c =
       run-formed {d = b} {b = b} taker
       (moves-formed

@@ -1,5 +1,5 @@
 -- Every move keeps a bank well formed, but for the board whose replay is under way. Assumes nothing.
-use mathlib.Core.Path.{_≡_, refl, sym, ap, _∙_}
+use mathlib.Core.Path.{_≡_, refl, ap}
 use Prim.Native.Nat.{ℕ}
 use native.Mathlib.Omega.{arith}
 use mathlib.Core.Bool.{false}
@@ -32,7 +32,7 @@ use Rattle.model.specs.Laws.Keeps.NotedRecords.{note-keeps, storedRecord
 use Rattle.model.specs.Laws.Keeps.Stores.{powerOff-keeps, withFuse-keeps, store-keeps, step-keeps}
 use Rattle.model.specs.Laws.Keeps.Checkpoint.{storedFrame-fits, storedHead-fits, storedSelector-fits, rested-fits}
 use Rattle.model.specs.Laws.Keeps.Accesses.{access-keeps, writable}
-use Rattle.model.specs.Laws.Keeps.Rights.{frameOk-of, giveCopy-keeps, dropCopies-keeps, passOwnership-keeps}
+use Rattle.model.specs.Laws.Keeps.Rights.{frameOk-of, giveCopy-keeps, dropCopies-keeps, passOwnership-keeps, no-right}
 use Rattle.model.specs.Laws.Keeps.Replay.{loaded-inReplay, usedUp-inReplay, settle-restores}
 use Rattle.model.specs.Laws.Keeps.Live.{frames-count}
 use Rattle.model.specs.Laws.Keeps.Entered.{taken-inReplay, replayed-keeps}
@@ -149,9 +149,10 @@ move-formed s _ n (storesSelector b o u v) h =
     (step-keeps (onBoard b (onWorking restedWorking)) t w
     (λ e. onBoard-keeps b (onWorking restedWorking) (t .bank) w (λ l f. rested-fits (t .bank .directory) b (boardAt (t .bank) b) f)))
 move-formed {d} s _ n (givesCopy a o p x c i g u m r) h =
-    takes-formed x _ s n (giveCopy-keeps o d p (s .bank) (takes-well d x (h .going n)) u m (g .page) (λ e. g .other (sym (g .owner) ∙ e)))
-move-formed {d} s _ n (passesOwnership a o p c i g v m) h =
-    step-formed _ s n (passOwnership-keeps o d p (s .bank) (h .going n) (g .page) (g .owner) (g .secure .up) (v .up) m)
+    takes-formed x _ s n (giveCopy-keeps o d p (s .bank) (takes-well d x (h .going n)) u m (g .page)
+    (no-right (takes-well d x (h .going n)) d p u (g .page) r .0))
+move-formed {d} s _ n (passesOwnership a o p c i g own v m) h =
+    step-formed _ s n (passOwnership-keeps o d p (s .bank) (h .going n) (g .page) own (g .secure .up) (v .up) m)
 move-formed s _ n (dropsCopies p l m) h = step-formed _ s n (dropCopies-keeps p (s .bank) (h .going n) l m)
 move-formed {d} s _ n (performs a i can has none-out) h =
     let w : WellFormed (s .bank) = begins-formed d i (h .going n) in

@@ -1,9 +1,9 @@
--- `accesses::live::board_up` meets its contract. Assumes nothing.
+-- `exchange::state::board_up` meets its contract. Assumes nothing.
 use mathlib.Core.Path.{ap, _∙_}
 use Rattle.model.specs.Definitions.WellFormed.{isUp}
 use borrow.Author.Needs.{needs}
-use Rattle.accesses.proofs.live.board_up.Statement.{statement}
-use Rattle.accesses.proofs.live.board_up.Tie as tie
+use Rattle.exchange.proofs.state.board_up.Statement.{statement}
+use Rattle.exchange.proofs.state.board_up.Tie as tie
 
 board-state-requires : tie.Need-board-state-requires
 board-state-requires c κs = search needs
