@@ -268,7 +268,8 @@ withFrame p f x = onWorking (onFrames (λ fs. set fs p f)) x
 unfoldable pub frameOf : Bank → ℕ → ℕ → Frame
 frameOf k b p = frameAt (boardAt k b .working .frames) p
 
--- "the lowest-numbered board in the copy-set" (document 02, F-4): "trailing zeros give the lowest holder"; no board's number where the set is empty
+-- "the lowest-numbered board in the copy-set" (document 02, F-4): "trailing zeros give the lowest holder" (document 01); no board's number where the set is
+-- empty
 unfoldable pub lowestHolder : Entry → ℕ
 lowestHolder e = trailingZeros mostBoards (e .copies)
 

@@ -238,7 +238,7 @@ module _ (b p o : ℕ) (k : Bank) (c : ℕ) where
 
   parts : (q m total : ℕ) → NeedsAll b (Read p o) k c q m total → Part b p k c q total
   parts q m total noPages = record { few = omega arith; who = λ e. absurd (omega arith) }
-  parts q j t (onePage {p = r} {n = n} {m = m} {total = total} u v) =
+  parts q j t (onePage {n = n} {m = m} {total = total} u v) =
       let rest : Part b p k c (suc q) total = parts (suc q) n total v in
       elim (page-part q m u) [
         | inl z ↦ record { few = omega (arith, z, rest .few); who = λ e. let w = rest .who (omega (arith, z, e)) in (omega (arith, w .0), w .1) }

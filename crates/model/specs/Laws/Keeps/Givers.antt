@@ -1,5 +1,5 @@
 -- Who gives a page: up where code 6 lets a fetch pass, with a right to the page, and never the board that lacks it. Assumes nothing.
-use mathlib.Core.Path.{_≡_, refl, ap, _∙_}
+use mathlib.Core.Path.{_≡_, refl, sym, ap, _∙_}
 use mathlib.Core.Logic.{_≢_}
 use Prim.Native.Nat.{ℕ, _^_, _<_}
 use native.Mathlib.Omega.{arith}
@@ -22,6 +22,7 @@ use Rattle.model.specs.Definitions.Calls.{nobodyGives}
 use Rattle.model.specs.Laws.Logic.{cases, clash}
 use Rattle.model.specs.Laws.Sets.{lowest-member, lowest-in, member-below}
 use Rattle.model.specs.Laws.Boards.{rightIn-owner, rightIn-copy, withCopy, giveCopy-parts}
+use Rattle.model.specs.Laws.Valid.{copy-some, own-some}
 use Rattle.model.specs.Laws.States.{SameStates, states-giveCopy}
 use Rattle.model.specs.Laws.Keeps.Clauses.{fits, up-below, isUp-up}
 use Rattle.model.specs.Laws.Keeps.Rights.{entryIn-other, entry-at, holder-up}
@@ -39,12 +40,6 @@ giver-same GotCopy k j p e s = cc (ownerUp-same k j p e s)
 giver-same GotOwn k j p e s = ap (λ (x : Entry). x .owner) e
 
 -- ---- in a well-formed bank
-
-owner-none : (r : Right) → r ≡ Own → r ≢ None
-owner-none r e n = let z : _≡_ {A = ℕ} 0 1 = cc in absurd (omega arith)
-
-copy-not : (r : Right) → r ≡ Copy → r ≢ None
-copy-not r e n = let z : _≡_ {A = ℕ} 0 1 = cc in absurd (omega arith)
 
 -- what a reader lacks
 pub copy-none : (r : Right) → lacks GotCopy r ≡ true → r ≡ None
@@ -68,15 +63,19 @@ module _ {k : Bank} (w : WellFormed k) (p : ℕ) (l : p < length (k .directory))
   pub holder-right : (c : ℕ) → boardAt k c .state ≡ Up → member c (entryAt k p .copies) ≡ true → frameOf k c p .right ≡ Copy
   holder-right c u m = right-of c u ∙ rightIn-copy (entryAt k p) c (λ e. clash (rw e m) (entry-at w p l .ownerBit)) m
 
+  -- an up owner has right own
+  owner-right : boardAt k (entryAt k p .owner) .state ≡ Up → frameOf k (entryAt k p .owner) p .right ≡ Own
+  owner-right u = right-of (entryAt k p .owner) u ∙ rightIn-owner (entryAt k p) (entryAt k p .owner) refl
+
   -- who gives has a right
   pub giver-right : (g : CopyOrOwn) → boardAt k (giver g k p) .state ≡ Up → frameOf k (giver g k p) p .right ≢ None
   unfolding giver
   giver-right GotCopy up =
       cases (λ o. boardAt k o .state ≡ Up → frameOf k o p .right ≢ None) (ownerUp k p)
-      (λ t u. owner-none _ (right-of (entryAt k p .owner) u ∙ rightIn-owner (entryAt k p) (entryAt k p .owner) refl))
-      (λ t u. copy-not _ (holder-right (lowestHolder (entryAt k p)) u (lowest-held (up-below k (lowestHolder (entryAt k p)) u))))
+      (λ t u n. own-some (sym (owner-right u) ∙ n))
+      (λ t u n. copy-some (sym (holder-right (lowestHolder (entryAt k p)) u (lowest-held (up-below k (lowestHolder (entryAt k p)) u))) ∙ n))
       up
-  giver-right GotOwn u = owner-none _ (right-of (entryAt k p .owner) u ∙ rightIn-owner (entryAt k p) (entryAt k p .owner) refl)
+  giver-right GotOwn up = λ n. own-some (sym (owner-right up) ∙ n)
 
   -- an up board that lacks the page doesn't give it
   pub giver-other : (g : CopyOrOwn) (b : ℕ) → boardAt k b .state ≡ Up → lacks g (frameOf k b p .right) ≡ true → giver g k p ≢ b

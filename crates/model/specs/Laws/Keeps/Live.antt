@@ -19,7 +19,7 @@ use Rattle.words.specs.Bytes.{Each}
 use Rattle.model.specs.Definitions.Parts.{allBelow, member}
 use Rattle.model.specs.Definitions.Layout.{slotCount}
 use Rattle.model.specs.Definitions.Bank.{Board, Bank, boardAt, entryAt, frameAt}
-use Rattle.model.specs.Definitions.WellFormed.{rightIn, WellFormed}
+use Rattle.model.specs.Definitions.WellFormed.{WellFormed}
 use Rattle.model.specs.Definitions.Steps.{Run, Access, Read, Write, ReadCells, cellsRead, cellsWritten, anyCell, anyWrite, names, takes}
 use Rattle.model.specs.Definitions.Steps.{lacks, lacksPage, lackingPages, frameOf, giver, dropCopies, fetch}
 use Rattle.model.specs.Definitions.Replay.{lacking}
@@ -29,13 +29,13 @@ use Rattle.model.specs.Laws.Logic.{cases, byBool, clash, and-both}
 use Rattle.model.specs.Laws.Lists.{firstBelow-none, each-head, each-tail, each-imp}
 use Rattle.model.specs.Laws.Below.{listed, Lacks, or-right, sumOver, sumBelow-part, sumBelow-at, allBelow-one, allBelow-listed, lacks-no-page}
 use Rattle.model.specs.Laws.Below.{no-page-lacks, lacks-passes, passes-names, page-enough, page-same, has-right, lackingPages-lack, lackingPages-rise}
-use Rattle.model.specs.Laws.Boards.{droppedIf, boardAt-dropCopies, rightIn-copy}
+use Rattle.model.specs.Laws.Boards.{droppedIf, boardAt-dropCopies}
 use Rattle.model.specs.Laws.Runs.{lost-not, step-done}
 use Rattle.model.specs.Laws.Keeps.Clauses.{up-below, up-not-down, fits}
 use Rattle.model.specs.Contracts.{RoomFor, fetchNeeds, CanFetch, CanAccess, Ready}
 use Rattle.model.specs.Laws.Keeps.Accesses.{takes-enough}
-use Rattle.model.specs.Laws.Keeps.Rights.{entry-at, or-cases}
-use Rattle.model.specs.Laws.Keeps.Givers.{copy-none, giver-other, giver-up}
+use Rattle.model.specs.Laws.Keeps.Rights.{or-cases}
+use Rattle.model.specs.Laws.Keeps.Givers.{copy-none, holder-right, giver-other, giver-up}
 use Rattle.model.specs.Laws.Keeps.Fetches.{Taken, writeFetch-taken}
 use Rattle.model.specs.Laws.Keeps.Copies.{readFetch-taken}
 
@@ -145,11 +145,6 @@ module _ (b : ℕ) (a : Access) (k : Bank) (w : WellFormed k) (can : CanAccess b
   pub frames-count : length (boardAt k b .working .frames) ≡ length (k .directory)
   frames-count = fits w b below .alone .fields .working .frames .count
 
-  -- the right that the board has is the one that the directory gives it
-  right-of : (p : ℕ) → p < length (k .directory) → frameAt fs p .right ≡ rightIn (entryAt k p) b
-  unfolding entryAt
-  right-of p l = fits w b below .agreed .rights (can .up) p l
-
   -- who lacks a right doesn't give
   pub lacking-other : (p : ℕ) → Lacks a fs p → giver (takes a) k p ≢ b
   unfolding frameOf
@@ -208,7 +203,7 @@ module _ (b : ℕ) (a : Access) (k : Bank) (w : WellFormed k) (can : CanAccess b
 
     -- a writer that has its right is the owner, so it holds no copy
     pub writer-none : lackingOf b a k ≡ false → copiesOut a k ≡ true → member b (entryAt k (pageWritten a) .copies) ≡ false
-    unfolding lackingOf lacks
+    unfolding lackingOf lacks frameOf
     writer-none t o =
         let p : ℕ = pageWritten a in
         let own : takes a ≡ GotOwn = writes-own a k o in
@@ -216,8 +211,7 @@ module _ (b : ℕ) (a : Access) (k : Bank) (w : WellFormed k) (can : CanAccess b
         let i : p < length (k .directory) = can .pages p named in
         byBool (member b (entryAt k p .copies))
         (λ m.
-        let copy : frameAt fs p .right ≡ Copy =
-        right-of p i ∙ rightIn-copy (entryAt k p) b (λ e. clash (rw e m) (entry-at w p i .ownerBit)) m in
+        let copy : frameAt fs p .right ≡ Copy = holder-right w p i b (can .up) m in
         let z : lacks (takes a) (frameAt fs p .right) ≡ true = rw (own, copy) in
         clash z (has-right a fs t p (rw frames-count i) named))
         (λ m. m)
