@@ -6,8 +6,14 @@ root=$(cd "$here/.." && pwd) || exit 2
 
 build_archive
 build_second
-program=$root/target/bench/bench
-if newer "$program" "$here/src" "$root/tests/compare/src/engines.rs" "$archive" "$second"; then
-    mkdir -p "$root/target/bench" || exit 2
-    quietly rustc --edition 2021 -C opt-level=3 --extern second="$second" -C link-arg="$archive" -o "$program" "$here/src/main.rs"
+folder=$root/target/bench
+mkdir -p "$folder" || exit 2
+# By gcc, as a firmware's maker would: of the C compilers at hand it makes the quickest check.
+check=$folder/check.o
+if newer "$check" "$here/src/check.c"; then
+    quietly gcc -std=c11 -O3 -Wall -Wextra -Werror -c -o "$check" "$here/src/check.c"
+fi
+program=$folder/bench
+if newer "$program" "$here/src" "$root/tests/compare/src/engines.rs" "$archive" "$second" "$check"; then
+    quietly rustc --edition 2021 -C opt-level=3 --extern second="$second" -C link-arg="$archive" -C link-arg="$check" -o "$program" "$here/src/main.rs"
 fi

@@ -1,10 +1,12 @@
-//! The same calls on the archive and on the second engine, both optimised, on the same buffers by turns.
-//! `bench` prints nanoseconds for each call; `bench counts` runs every row once, for a tool that counts instructions.
+//! The same calls on the archive and on the second engine, both optimised, on the same buffers by turns; beside the accept
+//! also the check of a bank in `check.c`. `bench` prints nanoseconds for each call; `bench counts` runs every row once, for a
+//! tool that counts instructions; `bench verdicts` compares what the three accept.
 
 #[allow(dead_code)]
 #[path = "../../tests/compare/src/engines.rs"]
 mod engines;
 mod rows;
+mod verdicts;
 
 use engines::{archive, archive_convert, archive_shelf, convert_both, packed, Pair};
 use rows::{rows, Glance, Row, Work};
@@ -17,6 +19,7 @@ use second::watch::Watch;
 use std::hint::black_box;
 use std::process::ExitCode;
 use std::time::Instant;
+use verdicts::{agreed, check, compare};
 
 /// N 8, P 16 and N 2, P 1, each with the number of calls that a batch has at least: short enough to go undisturbed.
 const SIZES: [(Layout, usize); 2] = [
@@ -49,9 +52,13 @@ struct Buffer {
 enum Timed {
     Archive,
     Second,
+    /// The C check of the same bank, which no accept is to be slower than.
+    Check,
     /// One pass over the bytes of a bank, which the goal measures the accept by.
     Sum,
 }
+
+const ACCEPTS_ONLY: &str = "the C check and the sum are timed beside accepts only";
 
 /// What is timed, and what is counted: the calls one after another, each behind a choice of the C function or of the
 /// second engine's call, and nothing else. The state was copied into the buffers before.
@@ -64,6 +71,7 @@ fn measured(timed: Timed, buffers: &mut [Buffer], work: &mut Work) {
                 match timed {
                     Timed::Archive => black_box(archive(&mut buffer.bank, line)),
                     Timed::Second => black_box(second(buffer, line)),
+                    Timed::Check => black_box(check(black_box(&buffer.bank)) as u64),
                     Timed::Sum => black_box(sum(black_box(&buffer.bank))),
                 };
             }),
@@ -73,14 +81,14 @@ fn measured(timed: Timed, buffers: &mut [Buffer], work: &mut Work) {
                     Timed::Second => {
                         black_box(packed(&convert(old, &mut buffer.bank, Fault::None)))
                     }
-                    Timed::Sum => black_box(sum(black_box(old))),
+                    Timed::Check | Timed::Sum => unreachable!("{ACCEPTS_ONLY}"),
                 };
             }),
             Work::Glances(Glance { cells, call, out }, count) => (0..*count).for_each(|_| {
                 match timed {
                     Timed::Archive => black_box(archive_shelf(&mut buffer.bank, 0, cells, out)),
                     Timed::Second => black_box(second_call(buffer, call, out)),
-                    Timed::Sum => black_box(sum(black_box(&buffer.bank))),
+                    Timed::Check | Timed::Sum => unreachable!("{ACCEPTS_ONLY}"),
                 };
             }),
         }
@@ -113,7 +121,10 @@ fn sum(bank: &[u8]) -> u64 {
     sum
 }
 
-const TIMED: [Timed; 3] = [Timed::Archive, Timed::Second, Timed::Sum];
+/// The first two on every row, and on an accept all, of which the first three are counted.
+const TIMED: [Timed; 4] = [Timed::Archive, Timed::Second, Timed::Check, Timed::Sum];
+const ENGINES: usize = 2;
+const COUNTED: usize = 3;
 
 /// Copies the row's state into the buffers; outside of what is timed.
 fn prepare(buffers: &mut [Buffer], row: &Row) {
@@ -176,14 +187,25 @@ fn agrees(row: &Row) -> bool {
     }
 }
 
+/// How the engines differ in a row of a size, or the three verdicts on its bank; none if all agrees.
+fn difference(layout: Layout) -> Option<String> {
+    rows(layout).iter().find_map(|row| match agreed(&row.bank) {
+        Err(verdicts) => Some(format!("the bank of the row '{}': {verdicts}", row.name)),
+        Ok(_) if !agrees(row) => Some(format!("the engines differ in the row '{}'", row.name)),
+        Ok(_) => None,
+    })
+}
+
 fn bench() {
     for (layout, least) in SIZES {
         let Layout { boards, pages } = layout;
         println!("N {boards}, P {pages}: {} bytes", layout.length());
-        println!("nanoseconds a call           archive    second     ratio     calls   of a summing pass");
+        println!("nanoseconds a call           archive    second     ratio     calls   C check     ratio   of a summing pass");
         for row in &mut rows(layout) {
-            let accepts = row.name.starts_with("accept");
-            let timed = if accepts { &TIMED[..] } else { &TIMED[..2] };
+            let timed = match row.accepts() {
+                true => &TIMED[..],
+                false => &TIMED[..ENGINES],
+            };
             let best = nanoseconds(row, least, timed);
             let [archive, second] = [best[0], best[1]];
             let calls = row.work.calls();
@@ -192,45 +214,69 @@ fn bench() {
                 row.name,
                 archive / second
             );
-            match best.get(2) {
-                Some(sum) => println!("{:>10.2} of {sum:.0}", archive / sum),
-                None => println!(),
+            match best[ENGINES..] {
+                [check, sum] => println!(
+                    "{check:>10.0}{:>10.2}{:>10.2} of {sum:.0}",
+                    archive / check,
+                    archive / sum
+                ),
+                _ => println!(),
             }
         }
         println!();
     }
 }
 
-/// Each engine once on one buffer, and a line for each row with its number of calls.
+/// Each engine, and on an accept the C check, once on one buffer; a line for each row with its number of calls and of what
+/// was counted.
 fn counts() {
     for (layout, _) in SIZES {
         let size = format!("N {}, P {}", layout.boards, layout.pages);
         for row in &mut rows(layout) {
+            let counted = match row.accepts() {
+                true => &TIMED[..COUNTED],
+                false => &TIMED[..ENGINES],
+            };
             let mut buffers = buffers(row, 1);
-            for timed in &TIMED[..2] {
+            for timed in counted {
                 prepare(&mut buffers, row);
                 measured(*timed, &mut buffers, &mut row.work);
             }
-            println!("{size}: {}|{}", row.name, row.work.calls());
+            println!(
+                "{size}: {}|{}|{}",
+                row.name,
+                row.work.calls(),
+                counted.len()
+            );
         }
     }
 }
 
-fn main() -> ExitCode {
-    let arguments: Vec<String> = std::env::args().skip(1).collect();
-    for (layout, _) in SIZES {
-        if let Some(row) = rows(layout).iter().find(|row| !agrees(row)) {
-            println!("the engines differ in the row '{}'", row.name);
-            return ExitCode::FAILURE;
-        }
-    }
-    match arguments.iter().map(String::as_str).collect::<Vec<_>>()[..] {
+/// Carries out the command; none if it isn't one.
+fn command(arguments: &[&str]) -> Option<bool> {
+    let number = |text: &str| text.parse::<u64>().ok();
+    match arguments {
         [] => bench(),
         ["counts"] => counts(),
-        _ => {
-            eprintln!("usage: bench [counts]");
-            return ExitCode::from(2);
+        ["verdicts", seed, count] => return Some(compare(number(seed)?, number(count)?)),
+        _ => return None,
+    }
+    Some(true)
+}
+
+fn main() -> ExitCode {
+    let arguments: Vec<String> = std::env::args().skip(1).collect();
+    let words: Vec<&str> = arguments.iter().map(String::as_str).collect();
+    if let Some(difference) = SIZES.iter().find_map(|(layout, _)| difference(*layout)) {
+        println!("{difference}");
+        return ExitCode::FAILURE;
+    }
+    match command(&words) {
+        Some(true) => ExitCode::SUCCESS,
+        Some(false) => ExitCode::FAILURE,
+        None => {
+            eprintln!("usage: bench [counts | verdicts SEED COUNT]");
+            ExitCode::from(2)
         }
     }
-    ExitCode::SUCCESS
 }

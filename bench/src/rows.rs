@@ -16,6 +16,13 @@ pub struct Row {
     pub work: Work,
 }
 
+impl Row {
+    /// Whether the row is about the check of a bank alone.
+    pub fn accepts(&self) -> bool {
+        matches!(&self.work, Work::Calls(lines) if lines.iter().all(|line| *line == ACCEPT))
+    }
+}
+
 /// What is timed on a row's bank.
 pub enum Work {
     Calls(Vec<Line>),
@@ -40,6 +47,9 @@ impl Work {
         }
     }
 }
+
+/// No board has this number, so a bank is accepted and then the call refused.
+pub const ACCEPT: Line = Line::Cut { board: u32::MAX };
 
 const MIXED_LINES: u32 = 600;
 const REPEATS: usize = 32;
@@ -167,8 +177,7 @@ fn script(seed: u64, wanted: Line) -> Vec<Line> {
 pub fn rows(layout: Layout) -> Vec<Row> {
     let bank = fresh(layout);
     let boards = layout.boards;
-    // No board has this number, so the bank is accepted and then the call refused.
-    let accept = vec![Line::Cut { board: u32::MAX }; REPEATS];
+    let accept = vec![ACCEPT; REPEATS];
 
     let making = Line::Make {
         boards: boards as u32,

@@ -1,17 +1,21 @@
 -- Laws of a test of every index, as a loop makes it: index by index, ending at the first that fails; and of the search through a block's logs,
--- which ends where the longest one does. Assumes nothing.
-use mathlib.Core.Path.{_≡_, refl, sym}
-use Prim.Native.Nat.{ℕ, max, _+_, _≤_, _<_}
+-- log by log, each as far as its count. Assumes nothing.
+use mathlib.Core.Path.{_≡_, refl, sym, _∙_}
+use mathlib.Core.Logic.{_≢_}
+use Prim.Native.Nat.{ℕ, zero, suc, _+_, _*_, _≤_, _<_}
+use native.Mathlib.Nat.{zero-add, add-zero}
 use native.Mathlib.Omega.{arith}
-use mathlib.Core.Bool.{Bool, true, false, not}
+use mathlib.Core.Bool.{Bool, true, false, _&&_, not, and-assoc, and-true, and-false}
 use mathlib.Core.List.{List}
 use lib.Dec.{ltb}
-use borrow.Author.Tests.{ltb-true, ltb-false, le-ltb, leb-true}
-use Rattle.model.specs.Definitions.Layout.{slotCount, Form, volatileCountAtIn}
-use Rattle.model.specs.Definitions.Parts.{byteAt, everyFrom, everyBelow}
-use Rattle.model.specs.Definitions.Check.{areaCount, countsValid, recordValid, storedValid, slotsValid, recordsValid}
-use Rattle.model.specs.Laws.Logic.{clash, byBool, byEq, and-left, and-right}
+use borrow.Author.Tests.{ltb-true, lt-ltb, leb-true, ne-eqb}
+use Rattle.model.specs.Definitions.Layout.{slotCount, areaSlotsAt, Form, slotSizeIn, slotsSizeIn, volatileCountAtIn, slotsAtIn, areaAtIn, blockSizeIn}
+use Rattle.model.specs.Definitions.Parts.{part, byteAt, everyFrom, everyBelow}
+use Rattle.model.specs.Definitions.Check.{areaCount, countsValid, slotValid, recordValid, storedValid, slotsValid, recordsValid}
+use Rattle.model.specs.Laws.Logic.{cases, clash, byBool, byEq, and-left, and-right}
 use Rattle.model.specs.Laws.Lists.{everyBelow-at, everyBelow-all}
+use Rattle.model.specs.Laws.CodecBack.{area-inside}
+use Rattle.validity.specs.Pieces.{volatileLog, logs, logCount, logSlotsAt, recordValidIn, logValid}
 
 -- what a caller learns of a test that a function made, where it goes on if the test passed and returns if it failed
 pub failed : {t u : Bool} → t ≡ u → not t ≡ true → u ≡ false
@@ -19,6 +23,13 @@ failed {t} {u} e h = byBool t (λ p. clash h (rw p)) (λ p. cc)
 
 pub passed : {t u : Bool} → t ≡ u → not t ≡ false → u ≡ true
 passed {t} {u} e h = byBool t (λ p. cc) (λ p. clash (rw p) h)
+
+-- the same of two tests, one behind the other
+pub first-failed : {a : Bool} (b : Bool) → false ≡ a → false ≡ (a && b)
+first-failed {a} b h = rw (← h)
+
+pub second-failed : (a : Bool) {b : Bool} → false ≡ b → false ≡ (a && b)
+second-failed a {b} h = rw (← h, and-false)
 
 -- ---- a loop over an index: nothing tested yet, one more passed, one failed, all passed
 
@@ -37,42 +48,124 @@ module _ (f : ℕ → Bool) where
   pub below-end : (n i : ℕ) → i ≤ n → n ≤ i → everyBelow i f ≡ true → true ≡ everyBelow n f
   below-end n i l m h = let e : i ≡ n = omega arith in rw e at (sym h)
 
+  -- the next index, whatever the test says
+  from-more : (i n : ℕ) → everyFrom i (n + 1) f ≡ (everyFrom i n f && f (i + n))
+  unfolding everyFrom
+  from-more i zero = rw add-zero (and-true (f i))
+  from-more i (suc n) =
+      let e : suc n + 1 ≡ suc (n + 1) = omega arith in
+      let d : suc i + n ≡ i + suc n = omega arith in
+      rw (e, from-more (suc i) n, d) (sym (and-assoc (f i) (everyFrom (suc i) n f) (f (i + suc n))))
+
+  pub below-more : (n : ℕ) → everyBelow (n + 1) f ≡ (everyBelow n f && f n)
+  unfolding everyBelow
+  below-more n = rw zero-add at (from-more 0 n)
+
+-- two tests of every index are one test of both
+and-swap : (a b c d : Bool) → ((a && b) && (c && d)) ≡ ((a && c) && (b && d))
+and-swap true true c d = refl
+and-swap true false true d = refl
+and-swap true false false d = refl
+and-swap false b c d = refl
+
+and-last : (a b c : Bool) → (a && (b && c)) ≡ (c && (a && b))
+and-last true true true = refl
+and-last true true false = refl
+and-last true false true = refl
+and-last true false false = refl
+and-last false b true = refl
+and-last false b false = refl
+
+module _ (f g : ℕ → Bool) where
+  from-both : (i n : ℕ) → everyFrom i n (λ j. f j && g j) ≡ (everyFrom i n f && everyFrom i n g)
+  unfolding everyFrom
+  from-both i zero = refl
+  from-both i (suc n) = rw (from-both (suc i) n) (and-swap (f i) (g i) (everyFrom (suc i) n f) (everyFrom (suc i) n g))
+
+  pub below-both : (n : ℕ) → everyBelow n (λ j. f j && g j) ≡ (everyBelow n f && everyBelow n g)
+  unfolding everyBelow
+  below-both n = from-both 0 n
+
 -- ---- the search through a block's logs
 
--- how many records the longest log holds
-unfoldable pub longestLog : Form → ℕ → List ℕ → ℕ
-longestLog form pages l = max (byteAt l (volatileCountAtIn form)) (max (areaCount form pages 0 l) (areaCount form pages 1 l))
-
 module _ (form : Form) (pages : ℕ) (l : List ℕ) where
-  pub longest-few : countsValid form pages l ≡ true → longestLog form pages l ≤ slotCount
-  unfolding longestLog countsValid
-  longest-few h =
-      let v : byteAt l (volatileCountAtIn form) ≤ slotCount = leb-true (byteAt l (volatileCountAtIn form)) slotCount (and-left _ _ h) in
-      let s : areaCount form pages 0 l ≤ slotCount = leb-true (areaCount form pages 0 l) slotCount (search (and-left, and-right)) in
-      let t : areaCount form pages 1 l ≤ slotCount = leb-true (areaCount form pages 1 l) slotCount (search (and-left, and-right)) in
-      omega arith
+  -- the records of a log are those below its count; past it every slot may hold anything
+  records-below : (a count : ℕ) → count ≤ slotCount
+      → everyBelow slotCount (recordValid form pages a count l) ≡ everyBelow count
+      (λ i. slotValid form pages (part l (a + i * slotSizeIn form) (slotSizeIn form)))
+  unfolding recordValid
+  records-below a count h =
+      let valid : ℕ → Bool = λ i. slotValid form pages (part l (a + i * slotSizeIn form) (slotSizeIn form)) in
+      byBool (everyBelow count valid)
+      (λ t.
+      everyBelow-all slotCount (recordValid form pages a count l)
+      (λ i m. cases (λ u. u ≡ true) (ltb i count) (λ p. everyBelow-at count i valid t (ltb-true i count p)) (λ p. refl))
+      ∙ sym t)
+      (λ t.
+      byBool (everyBelow slotCount (recordValid form pages a count l))
+      (λ u.
+      clash
+      (everyBelow-all count valid
+      (λ i m. cc (everyBelow-at slotCount i (recordValid form pages a count l) u (omega arith), lt-ltb i count m)))
+      t)
+      (λ u. u ∙ sym t))
 
-  -- past the longest log every slot may hold anything
-  past-logs : (i : ℕ) → longestLog form pages l ≤ i → slotsValid form pages l i ≡ true
-  unfolding longestLog slotsValid storedValid recordValid
-  past-logs i h =
-      cc (
-        le-ltb i (byteAt l (volatileCountAtIn form)) (omega arith),
-        le-ltb i (areaCount form pages 0 l) (omega arith),
-        le-ltb i (areaCount form pages 1 l) (omega arith),
+  -- a log that is not the volatile one
+  pub area-count : (log : ℕ) → log ≢ volatileLog → logCount form pages l log ≡ areaCount form pages log l
+  unfolding logCount
+  area-count log n = rw (ne-eqb log volatileLog n, logCount)
+
+  pub area-at : (log : ℕ) → log ≢ volatileLog → logSlotsAt form pages log ≡ areaAtIn form pages log + areaSlotsAt pages
+  unfolding logSlotsAt
+  area-at log n = rw (ne-eqb log volatileLog n, logSlotsAt)
+
+  -- a log's slots lie inside the block, and its count is at most 32
+  pub log-inside : (log : ℕ) → log < logs → logSlotsAt form pages log + slotsSizeIn form ≤ blockSizeIn form pages
+  unfolding logSlotsAt
+  log-inside log h =
+      byEq log volatileLog
+      (λ e. rw e (omega arith))
+      (λ n. omega (arith, area-at log n, area-inside form pages log (omega arith)))
+
+  module _ (counts : countsValid form pages l ≡ true) where
+    few-volatile : byteAt l (volatileCountAtIn form) ≤ slotCount
+    unfolding countsValid
+    few-volatile = leb-true (byteAt l (volatileCountAtIn form)) slotCount (and-left _ _ counts)
+
+    few-stored : (area : ℕ) → area < 2 → areaCount form pages area l ≤ slotCount
+    unfolding countsValid
+    few-stored zero h = leb-true (areaCount form pages 0 l) slotCount (search (and-left, and-right))
+    few-stored (suc zero) h = leb-true (areaCount form pages 1 l) slotCount (search (and-left, and-right))
+    few-stored (suc (suc area)) h = absurd (omega arith)
+
+    pub log-few : (log : ℕ) → log < logs → logCount form pages l log ≤ slotCount
+    unfolding logCount
+    log-few log h =
+        byEq log volatileLog
+        (λ e. rw e few-volatile)
+        (λ n. omega (arith, area-count log n, few-stored log (omega arith)))
+
+  -- a log whose records were all passed
+  pub log-ended : (log index : ℕ) {count : ℕ} → count ≡ logCount form pages l log → index ≤ count → count ≤ index
+      → everyBelow index (recordValidIn form pages l log) ≡ true → logValid form pages l log ≡ true
+  unfolding logValid
+  log-ended log index e h k p = let d : index ≡ logCount form pages l log = omega arith in rw d at p
+
+  -- log by log as index by index
+  three-logs : everyBelow logs (logValid form pages l) ≡ (logValid form pages l 0 && (logValid form pages l 1 && logValid form pages l 2))
+  unfolding everyBelow everyFrom
+  three-logs = rw (and-true (logValid form pages l 2))
+
+  pub logs-valid : countsValid form pages l ≡ true → everyBelow logs (logValid form pages l) ≡ recordsValid form pages l
+  unfolding recordsValid slotsValid storedValid logValid logCount logSlotsAt recordValidIn
+  logs-valid h =
+      three-logs
+      ∙ and-last (logValid form pages l 0) (logValid form pages l 1) (logValid form pages l 2)
+      ∙ rw (
+        ← records-below (slotsAtIn form pages) (byteAt l (volatileCountAtIn form)) (few-volatile h),
+        ← records-below (areaAtIn form pages 0 + areaSlotsAt pages) (areaCount form pages 0 l) (few-stored h 0 (omega arith)),
+        ← records-below (areaAtIn form pages 1 + areaSlotsAt pages) (areaCount form pages 1 l) (few-stored h 1 (omega arith)),
+        ← below-both (storedValid form pages 0 l) (storedValid form pages 1 l) slotCount,
       )
-
-  -- a block whose records were all passed, and one with a record that failed
-  module _ {slots : ℕ} (e : slots ≡ longestLog form pages l) (index : ℕ) where
-    pub ended : slots ≤ index → everyBelow index (slotsValid form pages l) ≡ true → recordsValid form pages l ≡ true
-    unfolding recordsValid
-    ended h p =
-        everyBelow-all slotCount (slotsValid form pages l)
-        (λ i m.
-        byBool (ltb i index)
-        (λ t. everyBelow-at index i (slotsValid form pages l) p (ltb-true i index t))
-        (λ t. past-logs i (omega (arith, ltb-false i index t))))
-
-    pub stopped : countsValid form pages l ≡ true → index < slots → slotsValid form pages l index ≡ false → recordsValid form pages l ≡ false
-    unfolding recordsValid
-    stopped c h p = sym (below-stop (slotsValid form pages l) slotCount index (omega (arith, longest-few c)) p)
+      (sym (below-both (recordValid form pages (slotsAtIn form pages) (byteAt l (volatileCountAtIn form)) l)
+      (λ i. storedValid form pages 0 l i && storedValid form pages 1 l i) slotCount))

@@ -2,6 +2,7 @@
 use crate::block::area_count;
 use crate::block::block_fits;
 use crate::block::volatile_count;
+use crate::parts::all_holders;
 use crate::parts::directory_valid;
 use crate::parts::slot_valid;
 use fields::bytes::wide;
@@ -24,15 +25,13 @@ use format::layout::block_size_in;
 use format::layout::slot_size_in;
 use format::layout::slots_at_in;
 ghost use mathlib.Core.Path.{_≡_};
-ghost use mathlib.Core.Bool.{true, _&&_};
-ghost use Prim.Native.Nat.{max, _+_, _≤_, _<_};
-ghost use lib.ListN.{length};
+ghost use mathlib.Core.Bool.{_&&_};
+ghost use Prim.Native.Nat.{_≤_, _<_};
 ghost use lib.Dec.{ltb, leb};
-ghost use Rattle.model.specs.Definitions.Layout.{slotCount, formOf, sinceSize, slotsSizeIn};
-ghost use Rattle.model.specs.Definitions.Check.{headValid, blockFits, storedValid, slotsValid, directoryOf, blocksFit, logsValid, wellFormed, blockOfIn};
-ghost use Rattle.model.specs.Definitions.Check.{wellFormedIn, recordValid};
+ghost use Rattle.model.specs.Definitions.Layout.{mostPages, formOf, sinceSize};
+ghost use Rattle.model.specs.Definitions.Check.{headValid, blocksFit, logsValid, wellFormedIn, wellFormed};
 ghost use Rattle.validity.specs.Sizes.{BlockSized, BankSized};
-ghost use Rattle.validity.specs.Search.{longestLog};
+ghost use Rattle.validity.specs.Pieces.{logs, logCount, logSlotsAt};
 
 // ---- the head
 
@@ -71,135 +70,65 @@ fn head_valid(bank: &[u8], since: usize) -> bool
     bank.len() == bank_size_in(since, boards, pages)
 }
 
-// ---- every block but its records
+// ---- blocks and records
 
-// The directory and a board's block, each handed on as its own part.
-fn block_fits_at(bank: &[u8], since: usize, boards: usize, pages: usize, board: usize) -> bool
-    requires { ⌜ BankSized since boards pages (now bank) × (board < boards) ⌝ }
-    ensures { λ r. ⌜ r
-        ≡ blockFits (formOf since) pages (directoryOf pages (now (bank .entry))) (blockOfIn (formOf since) pages (now (bank .entry)) board) board ⌝ }
+// A block's logs, by number: those of its areas, and the volatile one.
+const VOLATILE_LOG: usize = 2;
+
+const LOGS: usize = VOLATILE_LOG + 1;
+
+// How many records a log holds.
+fn log_count(block: &[u8], since: usize, pages: usize, log: usize) -> usize
+    requires { ⌜ BlockSized since pages (now block) × (log < logs) ⌝ }
+    ensures { λ r. ⌜ r ≡ logCount (formOf since) pages (now (block .entry)) log ⌝ }
+{
+    if log == VOLATILE_LOG {
+        return volatile_count(block, since, pages);
+    }
+    area_count(block, since, pages, log)
+}
+
+// Where a log's slots stand in a block.
+fn log_slots_at(since: usize, pages: usize, log: usize) -> usize
+    requires { ⌜ (since ≤ sinceSize) × (pages ≤ mostPages) × (log < logs) ⌝ }
+    ensures { λ r. ⌜ r ≡ logSlotsAt (formOf since) pages log ⌝ }
+{
+    if log == VOLATILE_LOG {
+        return slots_at_in(since, pages);
+    }
+    area_at_in(since, pages, log) + area_slots_at(pages)
+}
+
+// "The search for a malformed slot, board by board and slot by slot, ends at the first": whether it comes to its end. A board's block is tested
+// before its slots. Where block and log stand is worked out once for each, outside the loop over slots.
+fn boards_valid(bank: &[u8], since: usize, boards: usize, pages: usize) -> bool
+    requires { ⌜ BankSized since boards pages (now bank) ⌝ }
+    ensures { λ r. ⌜ r ≡ (blocksFit (formOf since) boards pages (now (bank .entry)) && logsValid (formOf since) boards pages (now (bank .entry))) ⌝ }
 {
     let n = pages * ENTRY_SIZE;
-    let a = block_at_in(since, pages, board);
+    let directory = &bank[HEAD_SIZE..HEAD_SIZE + n];
+    let holders = all_holders(directory, pages);
     let size = block_size_in(since, pages);
-    block_fits(
-        &bank[HEAD_SIZE..HEAD_SIZE + n],
-        &bank[a..a + size],
-        since,
-        pages,
-        board,
-    )
-}
-
-fn blocks_fit(bank: &[u8], since: usize, boards: usize, pages: usize) -> bool
-    requires { ⌜ BankSized since boards pages (now bank) ⌝ }
-    ensures { λ r. ⌜ r ≡ blocksFit (formOf since) boards pages (now (bank .entry)) ⌝ }
-{
-    let mut board = 0;
-    while board < boards {
-        if !block_fits_at(bank, since, boards, pages, board) {
-            return false;
-        }
-        board += 1;
-    }
-    true
-}
-
-// ---- records
-
-fn larger(a: usize, b: usize) -> usize
-    ensures { λ r. ⌜ r ≡ max a b ⌝ }
-{
-    if a < b { b } else { a }
-}
-
-// How many records the longest of a block's three logs holds.
-fn longest_log(block: &[u8], since: usize, pages: usize) -> usize
-    requires { ⌜ BlockSized since pages (now block) ⌝ }
-    ensures { λ r. ⌜ r ≡ longestLog (formOf since) pages (now (block .entry)) ⌝ }
-{
-    let stored = larger(
-        area_count(block, since, pages, 0),
-        area_count(block, since, pages, 1),
-    );
-    larger(volatile_count(block, since, pages), stored)
-}
-
-// The slot of an index in the log that starts at a place, if the log has a record there.
-fn record_valid(
-    block: &[u8],
-    since: usize,
-    pages: usize,
-    at: usize,
-    count: usize,
-    index: usize,
-) -> bool
-    requires { ⌜ (since ≤ sinceSize) × (at + slotsSizeIn (formOf since) ≤ length (now block)) × (index < slotCount) ⌝ }
-    ensures { λ r. ⌜ r ≡ recordValid (formOf since) pages at count (now (block .entry)) index ⌝ }
-{
-    if count <= index {
-        return true;
-    }
-    let size = slot_size_in(since);
-    let a = at + index * size;
-    slot_valid(&block[a..a + size], since, pages)
-}
-
-// The same of an area's log.
-fn stored_valid(block: &[u8], since: usize, pages: usize, area: usize, index: usize) -> bool
-    requires { ⌜ BlockSized since pages (now block) × (area < 2) × (index < slotCount) ⌝ }
-    ensures { λ r. ⌜ r ≡ storedValid (formOf since) pages area (now (block .entry)) index ⌝ }
-{
-    let at = area_at_in(since, pages, area) + area_slots_at(pages);
-    record_valid(
-        block,
-        since,
-        pages,
-        at,
-        area_count(block, since, pages, area),
-        index,
-    )
-}
-
-// The slots of an index in all three logs.
-fn slots_valid(block: &[u8], since: usize, pages: usize, index: usize) -> bool
-    requires { ⌜ BlockSized since pages (now block) × (index < slotCount) ⌝ }
-    ensures { λ r. ⌜ r ≡ slotsValid (formOf since) pages (now (block .entry)) index ⌝ }
-{
-    let volatile = volatile_count(block, since, pages);
-    if !record_valid(
-        block,
-        since,
-        pages,
-        slots_at_in(since, pages),
-        volatile,
-        index,
-    ) {
-        return false;
-    }
-    if !stored_valid(block, since, pages, 0, index) {
-        return false;
-    }
-    stored_valid(block, since, pages, 1, index)
-}
-
-// "The search for a malformed slot, board by board and slot by slot, ends at the first": whether it comes to its end.
-fn records_valid(bank: &[u8], since: usize, boards: usize, pages: usize) -> bool
-    requires { ⌜ BankSized since boards pages (now bank) × (blocksFit (formOf since) boards pages (now bank) ≡ true) ⌝ }
-    ensures { λ r. ⌜ r ≡ logsValid (formOf since) boards pages (now (bank .entry)) ⌝ }
-{
-    let size = block_size_in(since, pages);
+    let slot = slot_size_in(since);
     let mut board = 0;
     'search: while board < boards {
         let a = block_at_in(since, pages, board);
         let block = &bank[a..a + size];
-        let slots = longest_log(block, since, pages);
-        let mut index = 0;
-        while index < slots {
-            if !slots_valid(block, since, pages, index) {
-                break 'search;
+        if !block_fits(directory, block, since, pages, board, holders) {
+            break 'search;
+        }
+        let mut log = 0;
+        while log < LOGS {
+            let at = log_slots_at(since, pages, log);
+            let end = at + log_count(block, since, pages, log) * slot;
+            let mut from = at;
+            while from < end {
+                if !slot_valid(&block[from..from + slot], since, pages) {
+                    break 'search;
+                }
+                from += slot;
             }
-            index += 1;
+            log += 1;
         }
         board += 1;
     }
@@ -222,10 +151,7 @@ pub fn well_formed_in(bank: &[u8], since: usize) -> bool
     if !directory_valid(&bank[HEAD_SIZE..HEAD_SIZE + n], boards, pages) {
         return false;
     }
-    if !blocks_fit(bank, since, boards, pages) {
-        return false;
-    }
-    records_valid(bank, since, boards, pages)
+    boards_valid(bank, since, boards, pages)
 }
 
 // The same in today's form.

@@ -1,16 +1,20 @@
 // The test of a board's block but for its records, on a slice that starts at the block's offset: fixed fields, counts, frames, and what
 // the board and the directory say of each other.
+use crate::parts::frame_pair_valid;
+use crate::parts::frame_pairs_valid;
+use crate::parts::frame_valid;
 use crate::parts::frames_valid;
+use crate::parts::zero_frame;
 use crate::parts::zero_run;
 use fields::bytes::get;
 use fields::bytes::wide;
 use fields::copies::holds;
 use fields::frame::right_byte;
 use fields::widths::FRAME_SIZE;
+use fields::widths::RIGHT_AT;
 use fields::widths::SLOT_COUNT;
 use format::block::read_fuse;
 use format::block::read_number;
-use format::block::read_state;
 use format::block::state_byte;
 use format::layout::AREA_COUNT_AT;
 use format::layout::AREA_FRAMES_AT;
@@ -28,20 +32,22 @@ use format::layout::volatile_count_at_in;
 use types::Right;
 use types::State;
 ghost use mathlib.Core.Path.{_≡_};
-ghost use Prim.Native.Nat.{_*_, _<_};
+ghost use Prim.Native.Nat.{_+_, _*_, _≤_, _<_};
 ghost use lib.ListN.{length};
 ghost use Rattle.model.specs.Definitions.Parts.{byteAt};
-ghost use Rattle.model.specs.Definitions.Layout.{mostBoards, byteValues, entrySize, stateAt, formOf, volatileCountAtIn};
-ghost use Rattle.model.specs.Definitions.Codec.{decodeEntry, rightOf, stateOf};
+ghost use Rattle.model.specs.Definitions.Layout.{mostBoards, mostPages, byteValues, entrySize, frameSize, areaFramesAt, stateAt, sinceSize, formOf};
+ghost use Rattle.model.specs.Definitions.Layout.{volatileCountAtIn, areaAtIn};
+ghost use Rattle.model.specs.Definitions.Codec.{decodeEntry, rightByte, stateOf};
 ghost use Rattle.model.specs.Definitions.WellFormed.{rightIn};
-ghost use Rattle.model.specs.Definitions.Check.{areaCount, countsValid, allFramesValid, fieldsValid, selectedCount, isBlank, stateValid, boardValid};
-ghost use Rattle.model.specs.Definitions.Check.{sameRight, pageAgrees, pagesAgree, blockFits};
+ghost use Rattle.model.specs.Definitions.Check.{areaCount, countsValid, selectedCount, blockFits};
 ghost use Rattle.validity.specs.Sizes.{BlockSized};
+ghost use Rattle.validity.specs.Pieces.{Holders, storedFramesValid, fixedFieldsValid, blankFields, stateFieldsValid, boardFieldsValid, frameAgrees, framesAgree};
+ghost use Rattle.validity.specs.Pieces.{downFramesValid, framesFit};
 
 // The selector's byte for area 1.
 const SECOND_AREA: u8 = 1;
 
-// ---- counts and frames
+// ---- counts and fixed fields
 
 // How many volatile records a block holds.
 pub fn volatile_count(block: &[u8], since: usize, pages: usize) -> usize
@@ -73,24 +79,10 @@ fn counts_valid(block: &[u8], since: usize, pages: usize) -> bool
     area_count(block, since, pages, 1) <= SLOT_COUNT
 }
 
-// The working frames, and those of both areas.
-fn all_frames_valid(block: &[u8], since: usize, pages: usize) -> bool
+// State and selector in range, and the counts.
+fn fixed_fields_valid(block: &[u8], since: usize, pages: usize) -> bool
     requires { ⌜ BlockSized since pages (now block) ⌝ }
-    ensures { λ r. ⌜ r ≡ allFramesValid (formOf since) pages (now (block .entry)) ⌝ }
-{
-    if !frames_valid(block, pages, frames_at_in(since)) {
-        return false;
-    }
-    if !frames_valid(block, pages, area_at_in(since, pages, 0) + AREA_FRAMES_AT) {
-        return false;
-    }
-    frames_valid(block, pages, area_at_in(since, pages, 1) + AREA_FRAMES_AT)
-}
-
-// State and selector in range, the counts, and every frame.
-fn fields_valid(block: &[u8], since: usize, pages: usize) -> bool
-    requires { ⌜ BlockSized since pages (now block) ⌝ }
-    ensures { λ r. ⌜ r ≡ fieldsValid (formOf since) pages (now (block .entry)) ⌝ }
+    ensures { λ r. ⌜ r ≡ fixedFieldsValid (formOf since) pages (now (block .entry)) ⌝ }
 {
     if state_byte(State::Replaying) < get(block, STATE_AT) {
         return false;
@@ -98,10 +90,7 @@ fn fields_valid(block: &[u8], since: usize, pages: usize) -> bool
     if SECOND_AREA < get(block, SELECTOR_AT) {
         return false;
     }
-    if !counts_valid(block, since, pages) {
-        return false;
-    }
-    all_frames_valid(block, since, pages)
+    counts_valid(block, since, pages)
 }
 
 // ---- what a board says of itself
@@ -117,10 +106,10 @@ fn selected_count(block: &[u8], since: usize, pages: usize) -> usize
     area_count(block, since, pages, 0)
 }
 
-// "a dark board has access number, since, volatile count and frames zero and no fuse"
-fn blank(block: &[u8], since: usize, pages: usize) -> bool
+// "a dark board has access number, since, volatile count and frames zero and no fuse": but for the frames
+fn blank_fields(block: &[u8], since: usize, pages: usize) -> bool
     requires { ⌜ BlockSized since pages (now block) ⌝ }
-    ensures { λ r. ⌜ r ≡ isBlank (formOf since) pages (now (block .entry)) ⌝ }
+    ensures { λ r. ⌜ r ≡ blankFields (formOf since) (now (block .entry)) ⌝ }
 {
     if read_number(block) != 0 {
         return false;
@@ -131,39 +120,35 @@ fn blank(block: &[u8], since: usize, pages: usize) -> bool
     if volatile_count(block, since, pages) != 0 {
         return false;
     }
-    if !zero_run(block, frames_at_in(since), pages * FRAME_SIZE) {
-        return false;
-    }
     read_fuse(block) == NO_FUSE
 }
 
-// What a board's state asks of its replay place, its volatile log and, of a down board, the rest.
-fn state_valid(block: &[u8], since: usize, pages: usize) -> bool
+// What a board's state asks of its replay place, its volatile log and, of a down board, the rest but its frames.
+fn state_fields_valid(block: &[u8], since: usize, pages: usize) -> bool
     requires { ⌜ BlockSized since pages (now block) ⌝ }
-    ensures { λ r. ⌜ r ≡ stateValid (formOf since) (stateOf (byteAt (now (block .entry)) stateAt)) pages (now (block .entry)) ⌝ }
+    ensures { λ r. ⌜ r ≡ stateFieldsValid (formOf since) (stateOf (byteAt (now (block .entry)) stateAt)) pages (now (block .entry)) ⌝ }
 {
     let place = wide(get(block, place_at_in(since)));
-    match read_state(block) {
-        State::Up => place == 0,
-        State::Down => {
-            if place != 0 {
-                return false;
-            }
-            blank(block, since, pages)
-        }
-        State::Replaying => {
-            if selected_count(block, since, pages) <= place {
-                return false;
-            }
-            volatile_count(block, since, pages) == 0
-        }
+    let state = get(block, STATE_AT);
+    if state == state_byte(State::Up) {
+        return place == 0;
     }
+    if state == state_byte(State::Down) {
+        if place != 0 {
+            return false;
+        }
+        return blank_fields(block, since, pages);
+    }
+    if selected_count(block, since, pages) <= place {
+        return false;
+    }
+    volatile_count(block, since, pages) == 0
 }
 
 // "fuse not 0", "stored plus volatile at most 32 for the selected area", and what the state asks.
-fn board_valid(block: &[u8], since: usize, pages: usize) -> bool
+fn board_fields_valid(block: &[u8], since: usize, pages: usize) -> bool
     requires { ⌜ BlockSized since pages (now block) ⌝ }
-    ensures { λ r. ⌜ r ≡ boardValid (formOf since) pages (now (block .entry)) ⌝ }
+    ensures { λ r. ⌜ r ≡ boardFieldsValid (formOf since) pages (now (block .entry)) ⌝ }
 {
     if read_fuse(block) == 0 {
         return false;
@@ -171,48 +156,64 @@ fn board_valid(block: &[u8], since: usize, pages: usize) -> bool
     if SLOT_COUNT < selected_count(block, since, pages) + volatile_count(block, since, pages) {
         return false;
     }
-    state_valid(block, since, pages)
+    state_fields_valid(block, since, pages)
 }
 
-// ---- what a board and the directory say of each other
+// ---- frames, and what a board and the directory say of each other
 
-// A frame's byte stands for the right that a directory entry gives a board: each right by one comparison, no right is made first.
-fn right_agrees(entry: &[u8], right: u8, board: usize) -> bool
-    requires { ⌜ (length (now entry) ≡ entrySize) × (board < mostBoards) ⌝ }
-    ensures { λ r. ⌜ r ≡ sameRight (rightOf right) (rightIn (decodeEntry (now (entry .entry))) board) ⌝ }
+// Where the frames of an area stand in a block.
+fn area_frames_at(since: usize, pages: usize, area: usize) -> usize
+    requires { ⌜ (since ≤ sinceSize) × (pages ≤ mostPages) × (area < 2) ⌝ }
+    ensures { λ r. ⌜ r ≡ areaAtIn (formOf since) pages area + areaFramesAt ⌝ }
 {
-    if wide(entry[OWNER_AT]) == board {
-        return right_byte(Right::Copy) < right;
-    }
-    if holds(board, entry[COPIES_AT]) {
-        return right == right_byte(Right::Copy);
-    }
-    right == right_byte(Right::None)
+    area_at_in(since, pages, area) + AREA_FRAMES_AT
 }
 
-// An up board's right is the directory's; another board has no copy.
-fn page_agrees(entry: &[u8], right: u8, up: bool, board: usize) -> bool
+// The right that a directory entry gives a board, as its byte.
+fn right_given(entry: &[u8], board: u8) -> u8
     requires { ⌜ (length (now entry) ≡ entrySize) × (board < mostBoards) ⌝ }
-    ensures { λ r. ⌜ r ≡ pageAgrees up (rightOf right) (decodeEntry (now (entry .entry))) board ⌝ }
+    ensures { λ r. ⌜ r ≡ rightByte (rightIn (decodeEntry (now (entry .entry))) board) ⌝ }
 {
-    if up {
-        return right_agrees(entry, right, board);
+    if entry[OWNER_AT] == board {
+        return right_byte(Right::Own);
     }
-    !holds(board, entry[COPIES_AT])
+    if holds(wide(board), entry[COPIES_AT]) {
+        return right_byte(Right::Copy);
+    }
+    right_byte(Right::None)
 }
 
-// "an up board's rights agree with the directory; .. a board not up is in no copy-set"
-fn pages_agree(directory: &[u8], block: &[u8], since: usize, pages: usize, board: usize) -> bool
+// A frame of an up board is valid, and its right the directory's.
+fn frame_agrees(entry: &[u8], frame: &[u8], board: u8) -> bool
+    requires { ⌜ (length (now entry) ≡ entrySize) × (length (now frame) ≡ frameSize) × (board < mostBoards) ⌝ }
+    ensures { λ r. ⌜ r ≡ frameAgrees (now (entry .entry)) (now (frame .entry)) board ⌝ }
+{
+    if frame[RIGHT_AT] != right_given(entry, board) {
+        return false;
+    }
+    frame_valid(frame)
+}
+
+// The frames of an up board and of its areas, a page of all three a turn.
+fn frames_agree(directory: &[u8], block: &[u8], since: usize, pages: usize, board: usize) -> bool
     requires { ⌜ (length (now directory) ≡ pages * entrySize) × BlockSized since pages (now block) × (board < mostBoards) ⌝ }
-    ensures { λ r. ⌜ r ≡ pagesAgree (formOf since) pages (now (directory .entry)) (now (block .entry)) board ⌝ }
+    ensures { λ r. ⌜ r ≡ framesAgree (formOf since) pages (now (directory .entry)) (now (block .entry)) board ⌝ }
 {
-    let up = get(block, STATE_AT) == state_byte(State::Up);
-    let frames = frames_at_in(since);
+    let working = frames_at_in(since);
+    let first = area_frames_at(since, pages, 0);
+    let second = area_frames_at(since, pages, 1);
     let mut page = 0;
     while page < pages {
         let a = page * ENTRY_SIZE;
-        let right = get(block, frames + page * FRAME_SIZE);
-        if !page_agrees(&directory[a..a + ENTRY_SIZE], right, up, board) {
+        let b = working + page * FRAME_SIZE;
+        if !frame_agrees(
+            &directory[a..a + ENTRY_SIZE],
+            &block[b..b + FRAME_SIZE],
+            board as u8,
+        ) {
+            return false;
+        }
+        if !frame_pair_valid(block, first + page * FRAME_SIZE, second + page * FRAME_SIZE) {
             return false;
         }
         page += 1;
@@ -220,16 +221,87 @@ fn pages_agree(directory: &[u8], block: &[u8], since: usize, pages: usize, board
     true
 }
 
+// The frames of both areas.
+fn stored_frames_valid(block: &[u8], since: usize, pages: usize) -> bool
+    requires { ⌜ BlockSized since pages (now block) ⌝ }
+    ensures { λ r. ⌜ r ≡ storedFramesValid (formOf since) pages (now (block .entry)) ⌝ }
+{
+    frame_pairs_valid(
+        block,
+        pages,
+        area_frames_at(since, pages, 0),
+        area_frames_at(since, pages, 1),
+    )
+}
+
+// The frames of a down board, which are zero, and of its areas, a page of all three a turn.
+fn down_frames_valid(block: &[u8], since: usize, pages: usize) -> bool
+    requires { ⌜ BlockSized since pages (now block) ⌝ }
+    ensures { λ r. ⌜ r ≡ downFramesValid (formOf since) pages (now (block .entry)) ⌝ }
+{
+    let working = frames_at_in(since);
+    let first = area_frames_at(since, pages, 0);
+    let second = area_frames_at(since, pages, 1);
+    let mut page = 0;
+    while page < pages {
+        if !zero_frame(block, working + page * FRAME_SIZE) {
+            return false;
+        }
+        if !frame_pair_valid(block, first + page * FRAME_SIZE, second + page * FRAME_SIZE) {
+            return false;
+        }
+        page += 1;
+    }
+    true
+}
+
+// All frames, and what board and directory say of each other. A board not up is looked for in one set, that of all who hold a copy.
+fn frames_fit(
+    directory: &[u8],
+    block: &[u8],
+    since: usize,
+    pages: usize,
+    board: usize,
+    holders: u8,
+) -> bool
+    requires { ⌜ (length (now directory) ≡ pages * entrySize) × BlockSized since pages (now block) × (board < mostBoards)
+        × Holders pages (now directory) holders ⌝ }
+    ensures { λ r. ⌜ r ≡ framesFit (formOf since) (stateOf (byteAt (now (block .entry)) stateAt)) pages (now (directory .entry)) (now (block .entry)) board ⌝ }
+{
+    let state = get(block, STATE_AT);
+    if state == state_byte(State::Up) {
+        return frames_agree(directory, block, since, pages, board);
+    }
+    if holds(board, holders) {
+        return false;
+    }
+    if state == state_byte(State::Down) {
+        return down_frames_valid(block, since, pages);
+    }
+    if !stored_frames_valid(block, since, pages) {
+        return false;
+    }
+    frames_valid(block, pages, frames_at_in(since))
+}
+
 // All of a block but its records.
-pub fn block_fits(directory: &[u8], block: &[u8], since: usize, pages: usize, board: usize) -> bool
-    requires { ⌜ (length (now directory) ≡ pages * entrySize) × BlockSized since pages (now block) × (board < mostBoards) ⌝ }
+pub fn block_fits(
+    directory: &[u8],
+    block: &[u8],
+    since: usize,
+    pages: usize,
+    board: usize,
+    holders: u8,
+) -> bool
+    requires { ⌜ (length (now directory) ≡ pages * entrySize) × BlockSized since pages (now block) × (board < mostBoards)
+        × Holders pages (now directory) holders ⌝ }
     ensures { λ r. ⌜ r ≡ blockFits (formOf since) pages (now (directory .entry)) (now (block .entry)) board ⌝ }
 {
-    if !fields_valid(block, since, pages) {
+    if !fixed_fields_valid(block, since, pages) {
         return false;
     }
-    if !board_valid(block, since, pages) {
+    if !board_fields_valid(block, since, pages) {
         return false;
     }
-    pages_agree(directory, block, since, pages, board)
+    frames_fit(directory, block, since, pages, board, holders)
 }

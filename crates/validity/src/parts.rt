@@ -1,5 +1,4 @@
 // Tests of the small parts of a bank, each on its own bytes: a page, a frame, a slot, a directory entry.
-use fields::bytes::get_u32;
 use fields::bytes::wide;
 use fields::copies::holds;
 use fields::frame::right_byte;
@@ -24,6 +23,7 @@ use format::layout::OWNER_AT;
 use format::layout::slot_bytes_at_in;
 use types::Right;
 ghost use mathlib.Core.Path.{_≡_};
+ghost use mathlib.Core.Bool.{_&&_};
 ghost use Prim.Native.Nat.{_+_, _*_, _≤_, _<_};
 ghost use lib.ListN.{length};
 ghost use Rattle.words.specs.LittleEndian.{numberOf};
@@ -31,53 +31,84 @@ ghost use Rattle.model.specs.Definitions.Parts.{part};
 ghost use Rattle.model.specs.Definitions.Layout.{mostBoards, mostPages, byteValues, lastNumber, numberSize, entrySize, pageSize, frameSize, formOf, sinceSize};
 ghost use Rattle.model.specs.Definitions.Layout.{slotSizeIn};
 ghost use Rattle.model.specs.Definitions.Codec.{decodeEntry};
-ghost use Rattle.model.specs.Definitions.Check.{isZero, frameValid, framesValid, gotMark, bareMark, markFits, slotValid, entryValid, directoryValid};
+ghost use Rattle.model.specs.Definitions.Check.{isZero, frameValid, framesValid, gotMark, bareMark, slotValid, entryValid, directoryValid};
+ghost use Rattle.validity.specs.Pieces.{wordSize, pageBits, Holders};
 
-// The `n` bytes at a place are all zero: their sum is, which takes no branch for each byte.
+// The `n` bytes at a place are all zero: no bit is set in any, which takes no branch for each byte. For since, whose width is the form's.
 pub fn zero_run(s: &[u8], at: usize, n: usize) -> bool
-    requires { ⌜ (at + n ≤ length (now s)) × (n ≤ mostPages * frameSize) ⌝ }
+    requires { ⌜ at + n ≤ length (now s) ⌝ }
     ensures { λ r. ⌜ r ≡ isZero (part (now (s .entry)) at n) ⌝ }
 {
-    let mut sum: u32 = 0;
+    let mut bits: u8 = 0;
     let mut i = 0;
     while i < n {
-        sum += s[at + i] as u32;
+        bits = bits | s[at + i];
         i += 1;
     }
-    sum == 0
+    bits == 0
 }
 
-// The word at a place.
-fn word(s: &[u8], at: usize) -> u64
-    requires { ⌜ at + numberSize ≤ length (now s) ⌝ }
-    ensures { λ r. ⌜ (r ≡ numberOf (part (now (s .entry)) at numberSize)) × (r ≤ lastNumber) ⌝ }
+// A byte of a word.
+fn byte(b: u8) -> u64
+    ensures { λ r. ⌜ (r ≡ b) × (r < byteValues) ⌝ }
 {
-    get_u32(s, at) as u64
+    b as u64
 }
 
-// The page at a place is zero: the sum of its four words is, which takes four loads and one branch.
+// Four bytes as a number, summed from a part's own first places: so the compiler takes them, and the word of two, by one load.
+fn half(s: &[u8]) -> u64
+    requires { ⌜ length (now s) ≡ numberSize ⌝ }
+    ensures { λ r. ⌜ (r ≡ numberOf (now (s .entry))) × (r ≤ lastNumber) ⌝ }
+{
+    byte(s[0]) + 256 * byte(s[1]) + 65536 * byte(s[2]) + 16777216 * byte(s[3])
+}
+
+// What the second half of a word counts: 2^32.
+const HALF_VALUES: u64 = 4294967296;
+
+const WORD_SIZE: usize = 2 * NUMBER_SIZE;
+
+fn word(s: &[u8]) -> u64
+    requires { ⌜ length (now s) ≡ wordSize ⌝ }
+    ensures { λ r. ⌜ r ≡ numberOf (now (s .entry)) ⌝ }
+{
+    half(&s[0..NUMBER_SIZE]) + HALF_VALUES * half(&s[NUMBER_SIZE..WORD_SIZE])
+}
+
+// The bits of the page at a place, of its two words joined: none is set where the page is zero.
+fn page_bits(s: &[u8], at: usize) -> u64
+    requires { ⌜ at + pageSize ≤ length (now s) ⌝ }
+    ensures { λ r. ⌜ r ≡ pageBits (part (now (s .entry)) at pageSize) ⌝ }
+{
+    let middle = at + WORD_SIZE;
+    word(&s[at..middle]) | word(&s[middle..middle + WORD_SIZE])
+}
+
 fn zero_page(s: &[u8], at: usize) -> bool
     requires { ⌜ at + pageSize ≤ length (now s) ⌝ }
     ensures { λ r. ⌜ r ≡ isZero (part (now (s .entry)) at pageSize) ⌝ }
 {
-    let front = word(s, at) + word(s, at + NUMBER_SIZE);
-    let back = word(s, at + 2 * NUMBER_SIZE) + word(s, at + 3 * NUMBER_SIZE);
-    front + back == 0
+    page_bits(s, at) == 0
+}
+
+// The frame at a place is zero, its right and its page.
+pub fn zero_frame(s: &[u8], at: usize) -> bool
+    requires { ⌜ at + frameSize ≤ length (now s) ⌝ }
+    ensures { λ r. ⌜ r ≡ isZero (part (now (s .entry)) at frameSize) ⌝ }
+{
+    byte(s[at]) | page_bits(s, at + FRAME_BYTES_AT) == 0
 }
 
 // A frame's right is in range, and its page zero under right none.
-fn frame_valid(frame: &[u8]) -> bool
+pub fn frame_valid(frame: &[u8]) -> bool
     requires { ⌜ length (now frame) ≡ frameSize ⌝ }
     ensures { λ r. ⌜ r ≡ frameValid (now (frame .entry)) ⌝ }
 {
     let right = frame[RIGHT_AT];
-    if right_byte(Right::Own) < right {
-        return false;
+    if right == right_byte(Right::None) {
+        return zero_page(frame, FRAME_BYTES_AT);
     }
-    if right != right_byte(Right::None) {
-        return true;
-    }
-    zero_page(frame, FRAME_BYTES_AT)
+    right <= right_byte(Right::Own)
 }
 
 // The frames of all pages, from a place on.
@@ -96,68 +127,82 @@ pub fn frames_valid(s: &[u8], pages: usize, at: usize) -> bool
     true
 }
 
-// The marks as numbers, the first letter lowest.
-const GOT_COPY: usize = GOT_MARK0 as usize + 256 * COPY_MARK1 as usize;
+// The frames at two places. Where neither has a right, as most have none, both pages are tested at once.
+pub fn frame_pair_valid(s: &[u8], first: usize, second: usize) -> bool
+    requires { ⌜ (first + frameSize ≤ length (now s)) × (second + frameSize ≤ length (now s)) ⌝ }
+    ensures { λ r. ⌜ r ≡ (frameValid (part (now (s .entry)) first frameSize) && frameValid (part (now (s .entry)) second frameSize)) ⌝ }
+{
+    if s[first] | s[second] == right_byte(Right::None) {
+        return page_bits(s, first + FRAME_BYTES_AT) | page_bits(s, second + FRAME_BYTES_AT) == 0;
+    }
+    if !frame_valid(&s[first..first + FRAME_SIZE]) {
+        return false;
+    }
+    frame_valid(&s[second..second + FRAME_SIZE])
+}
 
-const GOT_OWN: usize = GOT_MARK0 as usize + 256 * OWN_MARK1 as usize;
+// The frames of all pages from two places on, two frames a turn.
+pub fn frame_pairs_valid(s: &[u8], pages: usize, first: usize, second: usize) -> bool
+    requires { ⌜ (first + pages * frameSize ≤ length (now s)) × (second + pages * frameSize ≤ length (now s)) × (pages ≤ mostPages) ⌝ }
+    ensures { λ r. ⌜ r ≡ (framesValid pages first (now (s .entry)) && framesValid pages second (now (s .entry))) ⌝ }
+{
+    let mut page = 0;
+    while page < pages {
+        if !frame_pair_valid(s, first + page * FRAME_SIZE, second + page * FRAME_SIZE) {
+            return false;
+        }
+        page += 1;
+    }
+    true
+}
 
+// Two bytes as one number, so that they take one comparison.
+fn pair(low: u8, high: u8) -> usize
+    ensures { λ r. ⌜ (r ≡ low + 256 * high) × (low < byteValues) ⌝ }
+{
+    wide(low) + 256 * wide(high)
+}
+
+// Letter by letter: both marks of a got begin with the same one.
+fn got_mark(m0: u8, m1: u8) -> bool
+    ensures { λ r. ⌜ r ≡ gotMark m0 m1 ⌝ }
+{
+    if m0 != GOT_MARK0 {
+        return false;
+    }
+    if m1 == COPY_MARK1 {
+        return true;
+    }
+    m1 == OWN_MARK1
+}
+
+// The marks of shown and dropped as numbers, the first letter lowest.
 const SHOWN: usize = SHOWN_MARK0 as usize + 256 * SHOWN_MARK1 as usize;
 
 const DROPPED: usize = DROPPED_MARK0 as usize + 256 * DROPPED_MARK1 as usize;
 
-// Two letters as one number, so that a mark takes one comparison.
-fn mark(m0: u8, m1: u8) -> usize
-    ensures { λ r. ⌜ (r ≡ m0 + 256 * m1) × (m0 < byteValues) ⌝ }
-{
-    wide(m0) + 256 * wide(m1)
-}
-
-fn got_mark(m0: u8, m1: u8) -> bool
-    ensures { λ r. ⌜ r ≡ gotMark m0 m1 ⌝ }
-{
-    let m = mark(m0, m1);
-    if m == GOT_COPY {
-        return true;
-    }
-    m == GOT_OWN
-}
-
 fn bare_mark(m0: u8, m1: u8) -> bool
     ensures { λ r. ⌜ r ≡ bareMark m0 m1 ⌝ }
 {
-    let m = mark(m0, m1);
+    let m = pair(m0, m1);
     if m == SHOWN {
         return true;
     }
     m == DROPPED
 }
 
-// Two letters are one of the four marks, and the page under a mark that is no got is zero.
-fn mark_fits(m0: u8, m1: u8, zero: bool) -> bool
-    ensures { λ r. ⌜ r ≡ markFits m0 m1 zero ⌝ }
-{
-    if got_mark(m0, m1) {
-        return true;
-    }
-    if !zero {
-        return false;
-    }
-    bare_mark(m0, m1)
-}
-
-// A slot below a count holds a record: a mark, a page of the bank, the zero byte, and no page bytes unless it is a got.
+// A slot below a count holds a record: a mark, a page of the bank, the zero byte, and no page bytes unless it is a got, whose page is not looked at.
 pub fn slot_valid(slot: &[u8], since: usize, pages: usize) -> bool
-    requires { ⌜ (since ≤ sinceSize) × (length (now slot) ≡ slotSizeIn (formOf since)) ⌝ }
+    requires { ⌜ (since ≤ sinceSize) × (length (now slot) ≡ slotSizeIn (formOf since)) × (pages ≤ mostPages) ⌝ }
     ensures { λ r. ⌜ r ≡ slotValid (formOf since) pages (now (slot .entry)) ⌝ }
 {
-    let zero = zero_page(slot, slot_bytes_at_in(since));
-    if !mark_fits(slot[MARK0_AT], slot[MARK1_AT], zero) {
+    if pages <= pair(slot[SLOT_PAGE_AT], slot[SLOT_ZERO_AT]) {
         return false;
     }
-    if pages <= wide(slot[SLOT_PAGE_AT]) {
-        return false;
+    if bare_mark(slot[MARK0_AT], slot[MARK1_AT]) {
+        return zero_page(slot, slot_bytes_at_in(since));
     }
-    slot[SLOT_ZERO_AT] == 0
+    got_mark(slot[MARK0_AT], slot[MARK1_AT])
 }
 
 // A directory entry names a board of the bank, and copy holders that are boards and not the owner.
@@ -190,4 +235,18 @@ pub fn directory_valid(directory: &[u8], boards: usize, pages: usize) -> bool
         page += 1;
     }
     true
+}
+
+// The boards that hold a copy of some page, as one set. The contract says it of every bit.
+pub fn all_holders(directory: &[u8], pages: usize) -> u8
+    requires { ⌜ length (now directory) ≡ pages * entrySize ⌝ }
+    ensures { λ r. ⌜ Holders pages (now (directory .entry)) r ⌝ }
+{
+    let mut holders: u8 = 0;
+    let mut page = 0;
+    while page < pages {
+        holders = holders | directory[page * ENTRY_SIZE + COPIES_AT];
+        page += 1;
+    }
+    holders
 }

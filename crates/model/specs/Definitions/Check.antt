@@ -1,6 +1,5 @@
--- Document 01, "Well formed means", as a test of bytes, in the order in which the engine makes it: the head, the directory, every block but its
--- records, then the records; in any form, which what depends on one takes first. Laws/WellFormedTest proves that exactly the bytes of a well-formed bank
--- pass. Assumes nothing.
+-- Document 01, "Well formed means", as a test of bytes: the head, the directory, every block but its records, then the records; in any form, which
+-- what depends on one takes first. Laws/WellFormedTest proves that exactly the bytes of a well-formed bank pass. Assumes nothing.
 use Prim.Native.Nat.{ℕ, _+_, _*_, _^_}
 use mathlib.Core.Bool.{Bool, true, false, _&&_, _||_, not}
 use mathlib.Core.List.{List}

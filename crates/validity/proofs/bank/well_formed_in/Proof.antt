@@ -100,31 +100,13 @@ directory-valid-requires c κs = (simp (length-take, length-drop) (omega (arith,
 returns-2 : tie.Need-returns-2
 returns-2 c = rw (split (c .before .before .before), failed (directory-test (c .before)) (c .if2 .taken))
 
-blocks-fit-requires : tie.Need-blocks-fit-requires
-blocks-fit-requires c κs = sized (c .before .before .before)
+boards-valid-requires : tie.Need-boards-valid-requires
+boards-valid-requires c κs = sized (c .before .before .before)
 
 returns-3 : tie.Need-returns-3
 returns-3 c =
-    let listed = c .before .before in
-    rw (
-      split (listed .before .before .before),
-      passed (directory-test (listed .before)) (listed .if2 .left),
-      failed (c .before .blocks-fit .ensures) (c .if3 .taken),
-    )
-
-records-valid-requires : tie.Need-records-valid-requires
-records-valid-requires c κs = (sized (c .before .before .before .before .before), passed (c .before .blocks-fit .ensures) (c .if3 .left))
-
-returns-4 : tie.Need-returns-4
-returns-4 c =
-    let fitting = c .before in
-    let listed = fitting .before .before in
-    rw (
-      split (listed .before .before .before),
-      passed (directory-test (listed .before)) (listed .if2 .left),
-      passed (fitting .before .blocks-fit .ensures) (fitting .if3 .left),
-      c .records-valid .ensures,
-    )
+    let listed = c .before in
+    rw (split (listed .before .before .before), passed (directory-test (listed .before)) (listed .if2 .left), c .boards-valid .ensures)
 
 pub well-formed-in-spec : {M : Type 1} → statement M
 well-formed-in-spec =
@@ -143,7 +125,5 @@ well-formed-in-spec =
     part-directory-valid-end
     directory-valid-requires
     returns-2
-    blocks-fit-requires
-    returns-3
-    records-valid-requires
-    returns-4)
+    boards-valid-requires
+    returns-3)
