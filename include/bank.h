@@ -2,6 +2,7 @@
  *
  * A bank is one buffer of BANK_LENGTH(boards, pages) bytes, of any alignment. bank_make fills it, and bank_convert does from a bank
  * of the older form, of BANK_OLDER_LENGTH(boards, pages) bytes, which to the other calls is no bank; these work on a bank in place.
+ * A bank of the earlier form, as long as today's, goes through bank_adopt once, before any other call.
  * Every call may be given any bytes and any numbers: what it can't use it refuses, and then it changes nothing.
  *
  * The caller promises two things. The pointer is valid for `len` bytes, to read and, where it isn't const, to write. Nobody else
@@ -34,12 +35,14 @@ enum {
  * Its bytes 2 and 3 are its numbers of boards and pages, as in today's form. */
 #define BANK_OLDER_LENGTH(boards, pages) (4 + 2 * (size_t)(pages) + (size_t)(boards) * (2134 + 51 * (size_t)(pages)))
 
-/* What a call says. Under 1 to 7 and 10 nothing was done, except that an access which ended a replay keeps that end. */
+/* What a call says. Under 1 to 7, 10 and 11 nothing was done, except that an access which ended a replay keeps that end. */
 enum bank_codes {
     BANK_DONE = 0,           /* Done. */
     BANK_MALFORMED = 1,      /* The bytes are no bank, or bank_make was given a wrong length. Sell nothing from it: bring back a good copy, or make a
-                                new bank. If it has the older length, convert it. From bank_convert: the new buffer has not BANK_LENGTH of the old
-                                bank's boards and pages, or the old bytes are no bank of the older form. */
+                                new bank. If it has the older length, convert it. If the firmware was just updated, ask bank_adopt first: a bank of
+                                the earlier form with records may get 1 from the other calls. From bank_adopt: no bank of that form. From
+                                bank_convert: the new buffer has not BANK_LENGTH of the old bank's boards and pages, or the old bytes are no bank of
+                                the older form. */
     BANK_OUT_OF_RANGE = 2,   /* A number is too large, or a size is 0. The caller is wrong: mend it. */
     BANK_WRONG_STATE = 3,    /* Board `who` is down: restart it. Or it is not down and needs no restart. Or it replays: no checkpoint until that is over. */
     BANK_COUNTERS_FULL = 4,  /* Board `who` made 4,294,967,295 accesses: its access number is used up, make a new bank. (In a bank that was made by
@@ -52,12 +55,15 @@ enum bank_codes {
                                 page, or a board that holds a copy and would give it or lose it. */
     BANK_POWER_LOST = 8,     /* The fuse of board `who` blew in this call. It is down; what was stored before stands, this call was not finished:
                                 restart it. */
-    BANK_WRONG_CELLS = 10    /* bank_shelf was given no cell, more than 32, half of one, or not one byte of `out` for each. The caller is wrong: mend it. */
+    BANK_WRONG_CELLS = 10,   /* bank_shelf was given no cell, more than 32, half of one, or not one byte of `out` for each. The caller is wrong: mend it. */
+    BANK_HAS_RECORDS = 11    /* From bank_adopt and bank_convert: a log of the bank holds records, which name no board. Go back to the firmware that wrote
+                                it, restart each board that is down, let every replay end; then, with no access in between, checkpoint each board
+                                that has records twice (once leaves them in its other area), and come again. */
 };
 
 /* Every call answers one number with four fields. */
 static inline uint32_t bank_code(uint64_t answer) { return (uint32_t)(answer & 255); }           /* one of bank_codes */
-static inline uint32_t bank_who(uint64_t answer) { return (uint32_t)(answer >> 8 & 255); }       /* the board that a code from 3 on speaks of, else 0 */
+static inline uint32_t bank_who(uint64_t answer) { return (uint32_t)(answer >> 8 & 255); }       /* the board that codes 3 to 8 speak of, else 0 */
 static inline uint32_t bank_stores(uint64_t answer) { return (uint32_t)(answer >> 16 & 65535); } /* stores to stable memory in this call, under every code */
 static inline uint32_t bank_value(uint64_t answer) { return (uint32_t)(answer >> 32); }          /* under code 0 of a read or a restart, else 0 */
 
@@ -87,11 +93,18 @@ uint64_t bank_fuse(uint8_t *bank, size_t len, uint32_t board, uint32_t stores);
  * did after that, and gets the same bytes from its log. Where the log ends it goes on live. */
 uint64_t bank_restart(uint8_t *bank, size_t len, uint32_t board);
 
-/* Writes a bank of the older form anew, in today's: the same boards, pages, logs and numbers, and zero in the slots that no record is in.
+/* Writes a bank of the older form anew, in today's: the same boards, pages and numbers, and zero in the slots of the logs, which are empty.
  * `old` is only read; `new_bank` has BANK_LENGTH of its boards and pages, and every byte of it is written. From then on the new bank
  * answers every call as the old one would have until that one's first code 4; where that one had made 65,535 accesses since a record,
- * the new one goes on. Under code 1 nothing is written. */
+ * the new one goes on. Under codes 1 and 11 nothing is written, and 1 comes first. */
 uint64_t bank_convert(const uint8_t *old, size_t old_len, uint8_t *new_bank, size_t new_len);
+
+/* Whether a bank of the earlier form (today's bytes, but byte 3 of a record is 0 where it now names a board) can go on as it is. Code 0: every
+ * log is empty, and the same bytes are a bank of today. Code 1: no bank of that form. Code 11: it has records. The bank is only read.
+ * Call it once, at the first start after the update and before any other call: a 0 in byte 3 names board 0, so the other calls take a bank
+ * of the earlier form for their own, records and all, unless a log of board 0 has a record; then they answer 1. A bank of today gets 0
+ * here while its logs are empty, else 1 or 11. */
+uint64_t bank_adopt(const uint8_t *bank, size_t len);
 
 #ifdef __cplusplus
 }

@@ -1,6 +1,6 @@
-/* Whether bytes are a well-formed bank: a yardstick for the archive's accept. Written by hand from document 01 ("Bytes of a bank"), with the widths of F-2,
- * and docs/FORMAT.md, without sight of either engine's check. C11 with one pragma of gcc's, as quick as that goes. Document 01's own words stand in
- * quotation marks. */
+/* Whether bytes are a well-formed bank: a yardstick for the archive's accept. Written by hand from document 01 ("Bytes of a bank"), with the widths of F-2
+ * and the board that F-6 names in a record, and docs/FORMAT.md, without sight of either engine's check. C11 with one pragma of gcc's, as quick as that
+ * goes. Document 01's own words stand in quotation marks. */
 #include <stddef.h>
 #include <stdint.h>
 #include <string.h>
@@ -14,8 +14,10 @@ enum { UP = 0, DOWN = 1, REPLAYING = 2 }; /* Document 01 says dark for down. */
 enum { NONE = 0, COPY = 1, OWN = 2 };
 enum { BLOWN = 0, NO_FUSE = 65535 };
 
-#define MARK(first, second) ((first) | (second) << BITS_OF_A_BYTE)
-enum { GOT_COPY = MARK('G', 'C'), GOT_OWN = MARK('G', 'O'), SHOWN = MARK('S', 'H'), DROPPED = MARK('D', 'R') };
+/* Two bytes side by side, as one number. */
+#define PAIR(first, second) ((first) | (second) << BITS_OF_A_BYTE)
+enum { GOT_COPY = PAIR('G', 'C'), GOT_OWN = PAIR('G', 'O'), SHOWN = PAIR('S', 'H'), DROPPED = PAIR('D', 'R') };
+enum { TOP_BIT = 128, TOP_BITS = PAIR(TOP_BIT, TOP_BIT) };
 
 /* Where a field starts: where the one before it does, and that one's width. */
 enum { HEAD_FIRST = 0, HEAD_SECOND = HEAD_FIRST + U8, HEAD_BOARDS = HEAD_SECOND + U8, HEAD_PAGES = HEAD_BOARDS + U8, HEAD_BYTES = HEAD_PAGES + U8 };
@@ -24,8 +26,8 @@ enum { FRAME_RIGHT = 0, FRAME_PAGE = FRAME_RIGHT + U8, FRAME_BYTES = FRAME_PAGE 
 enum {
     SLOT_MARK = 0,
     SLOT_PAGE = SLOT_MARK + U16,
-    SLOT_ZERO = SLOT_PAGE + U8,
-    SLOT_COUNT = SLOT_ZERO + U8,
+    SLOT_BOARD = SLOT_PAGE + U8,
+    SLOT_COUNT = SLOT_BOARD + U8,
     SLOT_CONTENT = SLOT_COUNT + U32,
     SLOT_BYTES = SLOT_CONTENT + PAGE_BYTES,
     LOG_BYTES = LOG_SLOTS * SLOT_BYTES
@@ -115,9 +117,8 @@ static int known_frames_fit(const uint8_t *working, const uint8_t *first, const 
     return 1;
 }
 
-/* "The 16 bytes are the page for got, else zero." Page and zero byte are read as one number: it is below P only if the zero byte is 0. */
-static int record_fits(const uint8_t *slot, uint8_t pages) {
-    if (two_bytes(slot + SLOT_PAGE) >= pages) return 0;
+/* "The 16 bytes are the page for got, else zero." */
+static int content_fits(const uint8_t *slot) {
     switch (two_bytes(slot + SLOT_MARK)) {
     case GOT_COPY:
     case GOT_OWN:
@@ -130,17 +131,27 @@ static int record_fits(const uint8_t *slot, uint8_t pages) {
     }
 }
 
-/* "Slots at or past a count may hold anything." Four to a turn, which is quicker where logs are full. */
-static int records_fit(const uint8_t *slot, size_t count, uint8_t pages) {
+/* A record's page and the board that it names, as one number. The result has a byte's top bit if the page isn't below P, the board isn't below N or is the
+ * log's own: a byte from 128 up has it, one from its limit up gets it when the room is added, the own board, 0 after the XOR, when 1 is taken off. */
+static unsigned misnamed(unsigned named, unsigned room, unsigned own) {
+    return named | (named + room) | ((named ^ own) - PAIR(0, 1));
+}
+
+/* "Slots at or past a count may hold anything." Four to a turn, and what they name judged behind the last, is quicker where logs are full; the first line
+ * spares empty ones a call. */
+static int records_fit(const uint8_t *slot, size_t count, unsigned room, unsigned own) {
+    if (count == 0) return 1;
+    unsigned faults = 0;
     const uint8_t *end = slot + count * SLOT_BYTES;
 #pragma GCC unroll 4
     for (; slot != end; slot += SLOT_BYTES) {
-        if (!record_fits(slot, pages)) return 0;
+        faults |= misnamed(two_bytes(slot + SLOT_PAGE), room, own);
+        if (!content_fits(slot)) return 0;
     }
-    return 1;
+    return (faults & TOP_BITS) == 0;
 }
 
-static int block_fits(const uint8_t *block, size_t board, uint8_t pages, const struct directory *directory) {
+static int block_fits(const uint8_t *block, size_t board, uint8_t boards, uint8_t pages, const struct directory *directory) {
     size_t frames = (size_t)pages * FRAME_BYTES;
     const uint8_t *working = block + BLOCK_FRAMES;
     const uint8_t *first = working + frames + LOG_BYTES;
@@ -180,8 +191,10 @@ static int block_fits(const uint8_t *block, size_t board, uint8_t pages, const s
     } else {
         if (!known_frames_fit(working, first, second, frames, rights)) return 0;
     }
-    return records_fit(working + frames, volatile_count, pages) && records_fit(first + frames, first_stored, pages) &&
-           records_fit(second + frames, second_stored, pages);
+    /* What a byte at its limit lacks to its top bit, and the log's own board where a record would name it. */
+    unsigned room = PAIR(TOP_BIT - pages, TOP_BIT - boards), own = PAIR(0, (unsigned)board);
+    return records_fit(working + frames, volatile_count, room, own) && records_fit(first + frames, first_stored, room, own) &&
+           records_fit(second + frames, second_stored, room, own);
 }
 
 /* "no copy-set bit at or past N", "The owner's bit is 0." On the way it notes what the blocks are held against. */
@@ -215,7 +228,7 @@ int check_bank(const uint8_t *bank, size_t len) {
     const uint8_t *block = bank + HEAD_BYTES + (size_t)pages * ENTRY_BYTES;
     size_t block_bytes = BLOCK_BYTES((size_t)pages * FRAME_BYTES);
     for (size_t board = 0; board < boards; board++, block += block_bytes) {
-        if (!block_fits(block, board, pages, &directory)) return 0;
+        if (!block_fits(block, board, boards, pages, &directory)) return 0;
     }
     return 1;
 }

@@ -8,8 +8,11 @@ mod engines;
 mod rows;
 mod verdicts;
 
-use engines::{archive, archive_convert, archive_shelf, convert_both, packed, Pair};
+use engines::{
+    adopt_both, archive, archive_adopt, archive_convert, archive_shelf, convert_both, packed, Pair,
+};
 use rows::{rows, Glance, Row, Work};
+use second::adopt::adopt;
 use second::calls::{call, make, Call};
 use second::convert::convert;
 use second::fault::Fault;
@@ -75,12 +78,19 @@ fn measured(timed: Timed, buffers: &mut [Buffer], work: &mut Work) {
                     Timed::Sum => black_box(sum(black_box(&buffer.bank))),
                 };
             }),
-            Work::Conversions(old, count) => (0..*count).for_each(|_| {
+            Work::Conversions(old, _, count) => (0..*count).for_each(|_| {
                 match timed {
                     Timed::Archive => black_box(archive_convert(old, &mut buffer.bank)),
                     Timed::Second => {
                         black_box(packed(&convert(old, &mut buffer.bank, Fault::None)))
                     }
+                    Timed::Check | Timed::Sum => unreachable!("{ACCEPTS_ONLY}"),
+                };
+            }),
+            Work::Adoptions(_, count) => (0..*count).for_each(|_| {
+                match timed {
+                    Timed::Archive => black_box(archive_adopt(&mut buffer.bank)),
+                    Timed::Second => black_box(packed(&adopt(&mut buffer.bank, Fault::None))),
                     Timed::Check | Timed::Sum => unreachable!("{ACCEPTS_ONLY}"),
                 };
             }),
@@ -178,7 +188,12 @@ fn agrees(row: &Row) -> bool {
             let mut pair = Pair::new(&row.bank, Fault::None);
             lines.iter().all(|line| pair.take(line).is_ok())
         }
-        Work::Conversions(old, _) => matches!(convert_both(old, &row.bank, Fault::None), Ok(0)),
+        Work::Conversions(old, code, _) => {
+            convert_both(old, &row.bank, Fault::None).is_ok_and(|answer| answer == *code)
+        }
+        Work::Adoptions(code, _) => {
+            adopt_both(&row.bank, Fault::None).is_ok_and(|answer| answer == *code)
+        }
         Work::Glances(glance, count) => {
             let line = Line::Call(glance.call.clone());
             let mut pair = Pair::new(&row.bank, Fault::None);

@@ -1,4 +1,5 @@
-//! The rows of the bench: a bank in some state, and the calls that are timed on it; or an old bank that is converted into it.
+//! The rows of the bench: a bank in some state, and the calls that are timed on it; or an old bank that is converted into it,
+//! or one of the earlier form that is adopted.
 
 use second::calls::{call, make, Call};
 use second::check::well_formed;
@@ -6,6 +7,7 @@ use second::fault::Fault;
 use second::gen::Generator;
 use second::layout::*;
 use second::line::{read_line, Line};
+use second::made::unnamed;
 use second::older::narrowed;
 use second::trial::Trial;
 use second::watch::Watch;
@@ -26,8 +28,10 @@ impl Row {
 /// What is timed on a row's bank.
 pub enum Work {
     Calls(Vec<Line>),
-    /// So many conversions of an old bank.
-    Conversions(Vec<u8>, usize),
+    /// So many conversions of an old bank, each answered with this code.
+    Conversions(Vec<u8>, u64, usize),
+    /// So many adoptions of the row's bank, each answered with this code.
+    Adoptions(u64, usize),
     /// So many shelf calls of board 0 for these cells.
     Glances(Glance, usize),
 }
@@ -43,7 +47,8 @@ impl Work {
     pub fn calls(&self) -> usize {
         match self {
             Work::Calls(lines) => lines.len(),
-            Work::Conversions(_, count) | Work::Glances(_, count) => *count,
+            Work::Conversions(_, _, count) => *count,
+            Work::Adoptions(_, count) | Work::Glances(_, count) => *count,
         }
     }
 }
@@ -53,6 +58,10 @@ pub const ACCEPT: Line = Line::Cut { board: u32::MAX };
 
 const MIXED_LINES: u32 = 600;
 const REPEATS: usize = 32;
+
+/// Codes of conversions and adoptions.
+const DONE: u64 = 0;
+const HAS_RECORDS: u64 = 11;
 
 fn row(name: &'static str, bank: &[u8], calls: Vec<Line>) -> Row {
     assert!(well_formed(bank));
@@ -64,12 +73,21 @@ fn row(name: &'static str, bank: &[u8], calls: Vec<Line>) -> Row {
 }
 
 /// The same bank in the older form is converted, with something in every slot past a count.
-fn conversion(name: &'static str, bank: &[u8]) -> Row {
+fn conversion(name: &'static str, bank: &[u8], code: u64) -> Row {
     let old = narrowed(bank, |slots| slots.fill(7)).expect("every number fits in two bytes");
     Row {
         name,
         bank: bank.to_vec(),
-        work: Work::Conversions(old, REPEATS),
+        work: Work::Conversions(old, code, REPEATS),
+    }
+}
+
+/// The same bank in the earlier form is adopted.
+fn adoption(name: &'static str, bank: &[u8], code: u64) -> Row {
+    Row {
+        name,
+        bank: unnamed(bank),
+        work: Work::Adoptions(code, REPEATS),
     }
 }
 
@@ -114,16 +132,18 @@ fn fresh(layout: Layout) -> Vec<u8> {
     bank
 }
 
-/// 32 records in every area, in the order that write fetches leave them.
+/// 32 records in every area, in the order that write fetches leave them; all name the next board.
 fn full_logs(layout: Layout) -> Vec<u8> {
     let mut bank = fresh(layout);
-    for area in (0..2 * layout.boards).map(|place| layout.area(place / 2, place % 2)) {
+    for (board, which) in (0..layout.boards).flat_map(|board| [(board, 0), (board, 1)]) {
+        let area = layout.area(board, which);
         bank[layout.stored(area)] = SLOTS as u8;
         for place in 0..SLOTS {
             let slot = layout.area_slot(area, place);
             let kind = [GOT_OWN, SHOWN, DROPPED][place % 3];
             bank[slot..slot + 2].copy_from_slice(&kind);
             bank[slot + SLOT_PAGE] = (place / 3 % layout.pages) as u8;
+            bank[slot + SLOT_BOARD] = ((board + 1) % layout.boards) as u8;
             if kind == GOT_OWN {
                 bank[slot + SLOT_BYTES..slot + SLOT].fill(place as u8);
             }
@@ -252,8 +272,10 @@ pub fn rows(layout: Layout) -> Vec<Row> {
             done(&mut replaying.clone(), repeated),
         ),
         row("mixed script", &bank, mixed(layout)),
-        conversion("convert, fresh bank", &bank),
-        conversion("convert, all logs full", &full_logs(layout)),
+        conversion("convert, fresh bank", &bank, DONE),
+        conversion("convert, code 11", &full_logs(layout), HAS_RECORDS),
+        adoption("adopt, fresh bank", &bank, DONE),
+        adoption("adopt, code 11", &full_logs(layout), HAS_RECORDS),
     ];
     rows.into_iter()
         .filter(|row| row.work.calls() > 0)

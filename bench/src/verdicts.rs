@@ -95,12 +95,13 @@ fn good(random: &mut Random) -> Vec<u8> {
 }
 
 /// Behind the first area's 32 slots stands the second area's access number. It may be any: here it reads as a record's
-/// mark, page and zero byte, so that 33 records aren't refused for the 33rd.
+/// mark, page and board, the next one, so that 33 records aren't refused for the 33rd.
 fn lure(bank: &mut [u8]) {
     let layout = Layout::of(bank);
     let [first, second] = GOT_OWN;
-    let number = u32::from_le_bytes([first, second, 0, 0]);
     for board in 0..layout.boards {
+        let named = (board + 1) % layout.boards;
+        let number = u32::from_le_bytes([first, second, 0, named as u8]);
         put32(bank, layout.area(board, 1), number);
     }
 }

@@ -29,6 +29,7 @@ static void call(void) {
     case 5: answer = bank_restart(bank, len, arg[0]); break;
     case 6: answer = bank_convert(old, old_len, bank, len); break;
     case 7: answer = bank_shelf(bank, len, arg[0], cells, 2 * cell_count, out, cell_count); break;
+    case 8: answer = bank_adopt(bank, len); break;
     default: answer = 0; break; /* nothing: what the measuring itself takes */
     }
 }
@@ -57,7 +58,8 @@ static uint32_t below(uint32_t n) {
 }
 
 int main(int count, char **files) {
-    static const char *names[] = {"bank_make", "bank_read", "bank_write", "bank_checkpoint", "bank_fuse", "bank_restart", "bank_convert", "bank_shelf"};
+    static const char *names[] = {"bank_make",    "bank_read",    "bank_write", "bank_checkpoint", "bank_fuse",
+                                  "bank_restart", "bank_convert", "bank_shelf", "bank_adopt"};
     enum { KINDS = sizeof names / sizeof *names };
     size_t most[KINDS] = {0};
     len = BANK_LENGTH(8, 16);
@@ -66,6 +68,12 @@ int main(int count, char **files) {
     size_t none = used();
     kind = 0, arg[0] = 8, arg[1] = 16;
     most[0] = used();
+    kind = 8; /* a fresh bank passes */
+    most[8] = used();
+    if (bank_code(answer) != BANK_DONE) {
+        fprintf(stderr, "stack: a fresh bank isn't adopted\n");
+        return 1;
+    }
     for (int i = 0; i < CALLS; i++) {
         uint32_t k = below(16);
         kind = k < 4 ? 1 : k < 6 ? 7 : k < 12 ? 2 : k == 12 ? 3 : k == 13 || (k == 14 && below(4) == 0) ? 4 : 5;
@@ -74,6 +82,10 @@ int main(int count, char **files) {
         for (size_t c = 0; c < cell_count; c++) cells[2 * c] = (uint8_t)below(3), cells[2 * c + 1] = (uint8_t)below(16);
         size_t n = used();
         if (n > most[kind]) most[kind] = n;
+        if (i % 16 == 0) { /* any code, mostly 1 */
+            kind = 8, n = used();
+            if (n > most[8]) most[8] = n;
+        }
     }
     FILE *file = count == 2 ? fopen(files[1], "rb") : NULL;
     if (file == NULL) {

@@ -44,17 +44,17 @@ use Rattle.accesses.specs.Asks.{Lacking, Asks}
 use Rattle.accesses.specs.Results.{Answered}
 use Rattle.model.specs.Laws.Moves.Calls.{bytes-seen, prepared-keeps, prepared-sizes}
 
--- a page without the copies that were out, if any were
-unfoldable pub withoutOut : ℕ → Bank → Bank
-withoutOut p k = elim (eqb (entryAt k p .copies) 0) [ true ↦ k | false ↦ dropCopies p k ]
+-- a page without the copies that were out, if any were, dropped for writer w
+unfoldable pub withoutOut : (w p : ℕ) → Bank → Bank
+withoutOut w p k = elim (eqb (entryAt k p .copies) 0) [ true ↦ k | false ↦ dropCopies w p k ]
 
-pub out-none : (p : ℕ) (k : Bank) → entryAt k p .copies ≡ 0 → k ≡ withoutOut p k
+pub out-none : (w p : ℕ) (k : Bank) → entryAt k p .copies ≡ 0 → k ≡ withoutOut w p k
 unfolding withoutOut
-out-none p k e = cc (eq-eqb (entryAt k p .copies) 0 e)
+out-none w p k e = cc (eq-eqb (entryAt k p .copies) 0 e)
 
-pub out-some : (p : ℕ) (k : Bank) → (entryAt k p .copies ≡ 0 → ⊥) → dropCopies p k ≡ withoutOut p k
+pub out-some : (w p : ℕ) (k : Bank) → (entryAt k p .copies ≡ 0 → ⊥) → dropCopies w p k ≡ withoutOut w p k
 unfolding withoutOut
-out-some p k n = cc (ne-eqb (entryAt k p .copies) 0 n)
+out-some w p k n = cc (ne-eqb (entryAt k p .copies) 0 n)
 
 -- ---- what comes before the access
 
@@ -103,7 +103,7 @@ module _ {pages : ℕ} {a : Access} {q : Ask} {set : ℕ} {k : Bank} (l : Lackin
     unfolding prepared
     prepared-fetch s = cc (lacks-some s, pages-lacking, l .stands .takes .takes)
 
-    pub prepared-own-write : q .writes ≡ true → set ≡ 0 → running n (withoutOut (q .page) k) ≡ prepared (q .board) a (running n k)
+    pub prepared-own-write : q .writes ≡ true → set ≡ 0 → running n (withoutOut (q .board) (q .page) k) ≡ prepared (q .board) a (running n k)
     unfolding prepared step withoutOut
     prepared-own-write w e =
         let out = copies-out w in

@@ -115,14 +115,14 @@ fn live_verdict(bank: &[u8], boards: usize, pages: usize, ask: Ask, lacking: u16
 }
 
 // An own write takes back the copies that are out.
-fn drop_out(bank: &mut [u8], pages: usize, page: usize)
-    requires { ⌜ OfBank pages 0 (now bank) × (page < pages) × EntryOk (length (decode (now bank) .boards)) (entryAt (decode (now bank)) page)
+fn drop_out(bank: &mut [u8], pages: usize, board: usize, page: usize)
+    requires { ⌜ OfBank pages board (now bank) × (page < pages) × EntryOk (length (decode (now bank) .boards)) (entryAt (decode (now bank)) page)
         × ((c : ℕ) → c < length (decode (now bank) .boards) → member c (entryAt (decode (now bank)) page .copies) ≡ true
         → Space (boardAt (decode (now bank)) c)) ⌝ }
-    ensures { λ _. ⌜ Holds (now (bank .exit)) (withoutOut page (decode (now (bank .entry)))) ⌝ }
+    ensures { λ _. ⌜ Holds (now (bank .exit)) (withoutOut board page (decode (now (bank .entry)))) ⌝ }
 {
     if 0 < count_copies(read_copies(bank, page)) {
-        drop_copies(bank, pages, page);
+        drop_copies(bank, pages, board, page);
     }
 }
 
@@ -140,7 +140,7 @@ fn prepare(bank: &mut [u8], pages: usize, ask: Ask, lacking: u16) -> Progress
         return fetch(bank, pages, ask.board, page, lacking, writes);
     }
     if writes {
-        drop_out(bank, pages, page);
+        drop_out(bank, pages, ask.board, page);
     }
     Progress {
         stores: 0,

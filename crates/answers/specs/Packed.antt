@@ -7,7 +7,7 @@ use mathlib.Core.List.{List, [], _∷_}
 use lib.Dec.{eqb, lit<}
 use Rattle.types.specs.declared.Answer.{Answer}
 use Rattle.types.specs.declared.Answer.the-variants.{Done, Malformed, OutOfRange, WrongState, CountersFull, ReplayDiffers, OwnerNotUp, LogFull}
-use Rattle.types.specs.declared.Answer.the-variants.{PowerLost, WrongCells}
+use Rattle.types.specs.declared.Answer.the-variants.{PowerLost, WrongCells, HasRecords}
 use Rattle.types.specs.declared.Outcome.{Outcome}
 use Rattle.model.specs.Definitions.Layout.{byteValues}
 use Rattle.model.specs.Definitions.Answers.{code, value, who}
@@ -39,6 +39,7 @@ code-small (OwnerNotUp b) = lit< tt
 code-small (LogFull b) = lit< tt
 code-small (PowerLost b) = lit< tt
 code-small WrongCells = lit< tt
+code-small HasRecords = lit< tt
 
 digits-code : (c w s v : ℕ) → c < whoUnit → (c + whoUnit * w + storesUnit * s + valueUnit * v) % whoUnit ≡ c
 digits-code c w s v h = omega arith
@@ -87,6 +88,7 @@ answerOf c w v =
     ∷ (6, OwnerNotUp w)
     ∷ (7, LogFull w)
     ∷ (10, WrongCells)
+    ∷ (11, HasRecords)
     ∷ [])
     (PowerLost w) c
 
@@ -102,6 +104,7 @@ answer-back (OwnerNotUp b) = refl
 answer-back (LogFull b) = refl
 answer-back (PowerLost b) = refl
 answer-back WrongCells = refl
+answer-back HasRecords = refl
 
 unfoldable pub unpacked : ℕ → Outcome
 unpacked n = record { answer = answerOf (n % whoUnit) (n / whoUnit % byteValues) (n / valueUnit); stores = n / storesUnit % storesUnit }

@@ -24,5 +24,6 @@ pub fn numbers_of(answer: Answer) -> AnswerNumbers
         Answer::LogFull(board) => row(7, 0, board),
         Answer::PowerLost(board) => row(8, 0, board),
         Answer::WrongCells => row(10, 0, 0),
+        Answer::HasRecords => row(11, 0, 0),
     }
 }

@@ -4,6 +4,7 @@ use engine::access::read;
 use engine::access::read_cells;
 use engine::access::write;
 use engine::checkpoint::checkpoint;
+use engine::convert::adopt;
 use engine::convert::convert;
 use engine::fuse::fuse;
 use engine::make::make;
@@ -12,7 +13,7 @@ ghost use mathlib.Core.Path.{_≡_};
 ghost use lib.ListN.{length};
 ghost use Rattle.model.specs.Definitions.Steps.{Read, Write, ReadCells};
 ghost use Rattle.model.specs.Definitions.Calls.{make as making, call, bufferAfter, Accessing, Checkpointing, Fusing, Restarting};
-ghost use Rattle.model.specs.Definitions.Older.{convert as converting};
+ghost use Rattle.model.specs.Definitions.Older.{convert as converting, adopt as adopting};
 ghost use Rattle.bank.specs.Contracts.{RepliedPacked};
 
 #[no_mangle]
@@ -72,4 +73,11 @@ pub extern "C" fn bank_convert(old: &[u8], new: &mut [u8]) -> u64
     ensures { λ r. ⌜ RepliedPacked (converting (now (old .entry)) (now (new .entry))) r (now (new .exit)) ⌝ }
 {
     pack(convert(old, new))
+}
+
+#[no_mangle]
+pub extern "C" fn bank_adopt(bank: &[u8]) -> u64
+    ensures { λ r. ⌜ RepliedPacked (adopting (now (bank .entry))) r (now (bank .entry)) ⌝ }
+{
+    pack(adopt(bank))
 }

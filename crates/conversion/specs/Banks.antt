@@ -4,28 +4,32 @@ use mathlib.Core.Path.{_≡_, sym, ap, _∙_}
 use Prim.Native.Nat.{ℕ, _+_, _*_, _-_, _≤_, _<_}
 use native.Mathlib.Nat.{mul-le-mul-right}
 use native.Mathlib.Omega.{arith}
-use mathlib.Core.Bool.{true}
+use mathlib.Core.Bool.{true, false}
 use mathlib.Core.List.{List, _++_}
 use lib.ListN.{length, take, drop, length-append, length-map, length-take, length-drop}
 use Rattle.model.specs.Definitions.Parts.{part, splice, byteAt, encodeAll}
 use Rattle.model.specs.Definitions.Layout.{mostBoards, mostPages, boardsAt, pagesAt, blocksAt, blockSize, bankSize, blockSizeIn, bankSizeIn}
 use Rattle.model.specs.Definitions.Bank.{Board, Bank}
 use Rattle.model.specs.Definitions.Codec.{encodeEntry, encodeBoard, encodeBoardIn, decodeBoardIn, encode, encodeIn, decodeIn}
-use Rattle.model.specs.Definitions.Older.{older, olderWellFormed, olderBank, clearedBoard, cleared}
+use Rattle.model.specs.Definitions.Older.{older, olderWellFormed, olderBank, clearedBoard, cleared, noRecords}
 use Rattle.model.specs.Definitions.Check.{blockOfIn}
 use Rattle.model.specs.Laws.Parts.{part-front, index-in, length-splice, encodeAll-map}
 use Rattle.model.specs.Laws.CodecBank.{bankHead, length-encodeEntries}
 use Rattle.fields.proofs.Lent.{lent-part, lent-written}
 use Rattle.fields.proofs.Splices.{splice-pair}
 use Rattle.model.specs.Laws.CodecBankBack.{BytesOk, bytes-ok, decode-pages, part-blockOf, length-blockOf, bytes-blockOf, block-readable, encode-decode}
-use Rattle.conversion.specs.Logs.{rewritten, Wide, rewritten-length, written-more}
+use Rattle.model.specs.Laws.Lists.{everyBelow-at}
+use Rattle.model.specs.Laws.Counts.{no-records-counts}
+use Rattle.model.specs.Contracts.{countsZero}
+use Rattle.conversion.specs.Rewritten.{rewritten, Wide, rewritten-length, written-more}
 use Rattle.conversion.specs.Blocks.{OlderBlock, block-wide}
 
 -- ---- what is known of the old bytes
 
--- they are well formed, with these numbers of boards and pages
+-- they are well formed without a record, with these numbers of boards and pages
 pub record OlderBank (n p : ℕ) (s : List ℕ) : Type 0 where
   pub formed : olderWellFormed s ≡ true
+  pub empty : noRecords (olderBank s) ≡ true
   pub boards : n ≡ byteAt s boardsAt
   pub pages : p ≡ byteAt s pagesAt
 
@@ -38,7 +42,7 @@ abbrev pub rewrittenBlocks : ℕ → ℕ → List ℕ → List ℕ
 rewrittenBlocks pages n s = rewritten (decodeBoardIn older pages) clearedBytes (blockSizeIn older pages) (blockSize pages) n (drop (blocksAt pages) s)
 
 module _ {n p : ℕ} {s : List ℕ} (o : OlderBank n p s) where
-  known : BytesOk older s
+  known : BytesOk older false s
   known = bytes-ok s (o .formed)
 
   pub few-pages : p ≤ mostPages
@@ -59,6 +63,8 @@ module _ {n p : ℕ} {s : List ℕ} (o : OlderBank n p s) where
         size = rw (o .pages) (length-blockOf s known b m);
         bytes = rw (o .pages) (bytes-blockOf s known b);
         readable = rw (o .pages) (block-readable s known b m);
+        empty = rw (o .pages) (everyBelow-at (byteAt s boardsAt) b (λ c. countsZero older (byteAt s pagesAt) (blockOfIn older (byteAt s pagesAt) s c))
+            (rw (no-records-counts older s) at (o .empty)) m);
       }
 
   pub blocks-wide : Wide (decodeBoardIn older p) clearedBytes (blockSizeIn older p) (blockSize p) n (drop (blocksAt p) s)
@@ -136,7 +142,7 @@ module _ {n p : ℕ} {s : List ℕ} (o : OlderBank n p s) where
   head-same : part s 0 (blocksAt p) ≡ headBytes (olderBank s)
   unfolding encodeIn
   head-same =
-      let split : headBytes (olderBank s) ++ encodeAll (encodeBoardIn older) (olderBank s .boards) ≡ s = encode-decode older s (o .formed) in
+      let split : headBytes (olderBank s) ++ encodeAll (encodeBoardIn older) (olderBank s .boards) ≡ s = encode-decode older false s (o .formed) in
       ap (λ (l : List ℕ). part l 0 (blocksAt p)) (sym split) ∙ part-front (headBytes (olderBank s)) _ (blocksAt p) head-length
 
   parts : headBytes (olderBank s) ++ rewrittenBlocks p n s ≡ encode (cleared (olderBank s))

@@ -2,27 +2,32 @@
 use mathlib.Core.Path.{_≡_, refl, sym, ap, _∙_}
 use Prim.Native.Nat.{ℕ, zero, suc, _+_, _*_, _-_, _≤_, _<_}
 use native.Mathlib.Omega.{arith}
-use mathlib.Core.Bool.{Bool, true, false}
+use mathlib.Core.Bool.{Bool, true, false, _&&_}
 use mathlib.Core.List.{List, [], _∷_, _++_, append-assoc}
 use lib.ListN.{length, take, drop, length-append}
 use lib.Dec.{eqb, lit<}
 use Rattle.words.specs.Bytes.{Bytes}
 use Rattle.words.specs.LittleEndian.{bytesOf, numberOf}
 use Rattle.words.specs.LittleEndianLaws.{length-bytesOf}
-use Rattle.model.specs.Definitions.Parts.{part, splice, byteAt, encodeAll}
+use Rattle.model.specs.Definitions.Parts.{part, splice, byteAt, encodeAll, zeros, decodeAll}
 use Rattle.model.specs.Definitions.Layout.{mostPages, fuseSize, numberSize, sinceSize, frameSize, areaNumberAt, areaCountAt, areaFramesAt, areaSlotsAt}
-use Rattle.model.specs.Definitions.Layout.{stateAt, selectorAt, fuseAt, numberAt, sinceAt, slotCount, slotsSize, slotsSizeIn, areaSizeIn, placeAtIn}
+use Rattle.model.specs.Definitions.Layout.{stateAt, selectorAt, fuseAt, numberAt, sinceAt, slotsSize, slotsSizeIn, areaSizeIn, placeAtIn}
 use Rattle.model.specs.Definitions.Layout.{volatileCountAtIn, framesAtIn, slotsAtIn, areaAtIn, blockSizeIn, placeAt, slotsAt, areaAt, blockSize, areaSize}
-use Rattle.model.specs.Definitions.Bank.{Area, Board, logOver, areaOver, boardOver}
+use Rattle.model.specs.Definitions.Bank.{Area, Board, logOver, areaOver, boardOver, Log}
 use Rattle.model.specs.Definitions.Codec.{selectorByte, encodeFrame, decodeStable, encodeLog, decodeLogIn, encodeArea, encodeAreaIn, decodeAreaIn, encodeFixed}
-use Rattle.model.specs.Definitions.Codec.{encodeFixedIn, encodeStable, encodeStableIn, encodeBoard, encodeBoardIn, decodeBoardIn}
+use Rattle.model.specs.Definitions.Codec.{encodeFixedIn, encodeStable, encodeStableIn, encodeBoard, encodeBoardIn, decodeBoardIn, encodeLogIn}
 use Rattle.model.specs.Definitions.Older.{older, clearedBoard}
+use Rattle.model.specs.Definitions.Check.{areaCount}
 use Rattle.model.specs.Laws.Parts.{each-part, length-part, part-join, byte-part, splice-next}
 use Rattle.fields.proofs.Lent.{lent-part}
 use Rattle.fields.proofs.Splices.{splice-triple}
-use Rattle.conversion.specs.Logs.{log-wide, clearedLog, clearedArea}
 use Rattle.model.specs.Laws.CodecBack.{AreaPasses, Readable, area-inside, bytesOf-part, frames-part, length-decodeLog, stateByte-stateOf, selectorByte-eqb}
 use Rattle.model.specs.Laws.CodecBack.{second-decodeStable}
+use Rattle.model.specs.Laws.Logic.{and-left, and-right}
+use Rattle.model.specs.Laws.Fresh.{zeros-length}
+use Rattle.model.specs.Laws.BoardTests.{count-place}
+use Rattle.model.specs.Contracts.{countsZero}
+use borrow.Author.Tests.{eqb-true}
 
 -- ---- what is known of the old bytes
 
@@ -31,12 +36,14 @@ pub record OlderArea (pages : ℕ) (l : List ℕ) : Type 0 where
   pub size : length l ≡ areaSizeIn older pages
   pub bytes : Bytes l
   pub passes : AreaPasses older pages l
+  pub empty : byteAt l areaCountAt ≡ 0
 
 pub record OlderBlock (pages : ℕ) (l : List ℕ) : Type 0 where
   pub few : pages ≤ mostPages
   pub size : length l ≡ blockSizeIn older pages
   pub bytes : Bytes l
   pub readable : Readable older pages l
+  pub empty : countsZero older pages l ≡ true
 
 area-passes : (pages area : ℕ) (l : List ℕ) → OlderBlock pages l → area < 2
     → AreaPasses older pages (part l (areaAtIn older pages area) (areaSizeIn older pages))
@@ -44,18 +51,38 @@ area-passes pages zero l o h = o .readable .area0
 area-passes pages (suc zero) l o h = o .readable .area1
 area-passes pages (suc (suc n)) l o h = absurd (omega arith)
 
+-- the counts of a block without a record
+module _ (pages : ℕ) (l : List ℕ) (o : OlderBlock pages l) where
+  areas-zero : (eqb (areaCount older pages 0 l) 0 && eqb (areaCount older pages 1 l) 0) ≡ true
+  unfolding countsZero
+  areas-zero = and-right (eqb (byteAt l (volatileCountAtIn older)) 0) _ (o .empty)
+
+  volatile-zero : byteAt l (volatileCountAtIn older) ≡ 0
+  unfolding countsZero
+  volatile-zero = eqb-true _ 0 (and-left (eqb (byteAt l (volatileCountAtIn older)) 0) _ (o .empty))
+
+  area-zero : (area : ℕ) → area < 2 → areaCount older pages area l ≡ 0
+  area-zero zero h = eqb-true _ 0 (and-left (eqb (areaCount older pages 0 l) 0) _ areas-zero)
+  area-zero (suc zero) h = eqb-true _ 0 (and-right (eqb (areaCount older pages 0 l) 0) _ areas-zero)
+  area-zero (suc (suc n)) h = absurd (omega arith)
+
 -- ---- an area
 
--- the log of an area or a block, read at a place and cleared
-abbrev pub logAt : ℕ → ℕ → List ℕ → List ℕ
-logAt count a l = encodeLog (clearedLog (decodeLogIn older count (part l a (slotsSizeIn older))))
+-- a log, and an area, over zeros, as a conversion writes it
+abbrev pub clearedLog : Log → Log
+clearedLog = logOver (zeros slotsSize)
 
-pub log-length : (count a : ℕ) (l : List ℕ) → count ≤ slotCount → a + slotsSizeIn older ≤ length l → length (logAt count a l) ≡ slotsSize
-log-length count a l c h = log-wide count (part l a (slotsSizeIn older)) (length-part l a (slotsSizeIn older) h) c
+abbrev pub clearedArea : Area → Area
+clearedArea = areaOver (zeros slotsSize)
+
+-- a log without a record: 32 slots of zeros
+log-zeros : (count : ℕ) (l : List ℕ) → count ≡ 0 → encodeLog (clearedLog (decodeLogIn older count l)) ≡ zeros slotsSize
+unfolding encodeLogIn decodeLogIn logOver decodeAll encodeAll
+log-zeros count l e = rw e
 
 -- number, stored count and frames are as they were
 pub area-written : (pages : ℕ) (l : List ℕ) → OlderArea pages l
-    → part l 0 (areaSlotsAt pages) ++ logAt (byteAt l areaCountAt) (areaSlotsAt pages) l ≡ encodeArea (clearedArea (decodeAreaIn older pages l))
+    → part l 0 (areaSlotsAt pages) ++ zeros slotsSize ≡ encodeArea (clearedArea (decodeAreaIn older pages l))
 unfolding encodeAreaIn decodeAreaIn areaOver logOver
 area-written pages l o =
     let n : ℕ = pages * frameSize in
@@ -69,7 +96,9 @@ area-written pages l o =
       length-decodeLog older (byteAt l areaCountAt) (part l (areaSlotsAt pages) (slotsSizeIn older)),
       frames-part pages l areaFramesAt (o .passes .frames) (omega arith),
     )
-    (append-assoc (part l areaNumberAt numberSize) (byteAt l areaCountAt ∷ part l areaFramesAt n) (logAt (byteAt l areaCountAt) (areaSlotsAt pages) l))
+    (append-assoc (part l areaNumberAt numberSize) (byteAt l areaCountAt ∷ part l areaFramesAt n) (zeros slotsSize)
+    ∙ ap (λ (t : List ℕ). part l areaNumberAt numberSize ++ ((byteAt l areaCountAt ∷ part l areaFramesAt n) ++ t))
+    (sym (log-zeros (byteAt l areaCountAt) (part l (areaSlotsAt pages) (slotsSizeIn older)) (o .empty))))
 
 area-length : (pages : ℕ) (l : List ℕ) → OlderArea pages l → length (encodeArea (clearedArea (decodeAreaIn older pages l))) ≡ areaSize pages
 area-length pages l o =
@@ -77,7 +106,7 @@ area-length pages l o =
     (simp (
       length-append,
       length-part l 0 (areaSlotsAt pages) (omega (arith, o .size)),
-      log-length (byteAt l areaCountAt) (areaSlotsAt pages) l (o .passes .log .few) (omega (arith, o .size)),
+      zeros-length,
     ))
 
 -- ---- a block
@@ -91,6 +120,7 @@ area-part pages area l o h =
       size = length-part l (areaAtIn older pages area) (areaSizeIn older pages) (omega (arith, area-inside older pages area h, o .size));
       bytes = each-part l (areaAtIn older pages area) (areaSizeIn older pages) (o .bytes);
       passes = area-passes pages area l o h;
+      empty = count-place older pages area l ∙ area-zero pages l o area h;
     }
 
 -- all before the areas: since in four bytes, the volatile log cleared
@@ -98,7 +128,7 @@ unfoldable pub widenedWorking : ℕ → List ℕ → List ℕ
 widenedWorking pages l =
     part l 0 sinceAt
     ++ (bytesOf sinceSize (numberOf (part l sinceAt (older .sinceWidth)))
-    ++ (part l (placeAtIn older) (slotsAt pages - placeAt) ++ logAt (byteAt l (volatileCountAtIn older)) (slotsAtIn older pages) l))
+    ++ (part l (placeAtIn older) (slotsAt pages - placeAt) ++ zeros slotsSize))
 
 unfoldable pub widenedArea : ℕ → ℕ → List ℕ → List ℕ
 widenedArea pages area l = encodeArea (clearedArea (decodeAreaIn older pages (part l (areaAtIn older pages area) (areaSizeIn older pages))))
@@ -156,14 +186,14 @@ module _ (pages : ℕ) (l : List ℕ) (o : OlderBlock pages l) where
       → splice
       (splice (splice (splice t 0 (part l 0 sinceAt)) sinceAt (bytesOf sinceSize (numberOf (part l sinceAt (older .sinceWidth)))))
       placeAt (part l (placeAtIn older) (slotsAt pages - placeAt)))
-      (slotsAt pages) (logAt (byteAt l (volatileCountAtIn older)) (slotsAtIn older pages) l)
+      (slotsAt pages) (zeros slotsSize)
       ≡ splice t 0 (widenedWorking pages l)
   unfolding widenedWorking
   working-written t e =
       let h : List ℕ = part l 0 sinceAt in
       let s : List ℕ = bytesOf sinceSize (numberOf (part l sinceAt (older .sinceWidth))) in
       let b : List ℕ = part l (placeAtIn older) (slotsAt pages - placeAt) in
-      let g : List ℕ = logAt (byteAt l (volatileCountAtIn older)) (slotsAtIn older pages) l in
+      let g : List ℕ = zeros slotsSize in
       let x : length h ≡ sinceAt = length-part l 0 sinceAt (omega (arith, size)) in
       let y : length s ≡ sinceSize = length-bytesOf sinceSize _ in
       let z : length b ≡ slotsAt pages - placeAt = length-part l (placeAtIn older) (slotsAt pages - placeAt) (omega (arith, size)) in
@@ -184,7 +214,7 @@ module _ (pages : ℕ) (l : List ℕ) (o : OlderBlock pages l) where
         length-bytesOf,
         length-part l 0 sinceAt (omega (arith, size)),
         length-part l (placeAtIn older) (slotsAt pages - placeAt) (omega (arith, size)),
-        log-length (byteAt l (volatileCountAtIn older)) (slotsAtIn older pages) l (o .readable .log .few) (omega (arith, size)),
+        zeros-length,
       )
       (omega arith)
 
@@ -216,9 +246,9 @@ module _ (pages : ℕ) (l : List ℕ) (o : OlderBlock pages l) where
   unfolding decodeBoardIn clearedBoard boardOver
   frames-cleared = frames-part pages l (framesAtIn older) (o .readable .frames) (omega arith)
 
-  log-cleared : encodeLog (y .working .log) ≡ logAt (byteAt l (volatileCountAtIn older)) (slotsAtIn older pages) l
+  log-cleared : encodeLog (y .working .log) ≡ zeros slotsSize
   unfolding decodeBoardIn clearedBoard boardOver
-  log-cleared = refl
+  log-cleared = log-zeros (byteAt l (volatileCountAtIn older)) (part l (slotsAtIn older pages) (slotsSizeIn older)) (volatile-zero pages l o)
 
   areas-cleared : encodeStable (y .stable) ≡ widenedArea pages 0 l ++ widenedArea pages 1 l
   unfolding decodeBoardIn clearedBoard boardOver widenedArea
@@ -230,7 +260,7 @@ module _ (pages : ℕ) (l : List ℕ) (o : OlderBlock pages l) where
       rw (fixed-cleared, frames-cleared, log-cleared, areas-cleared, front, behind)
       (regroup (byteAt l stateAt ∷ byteAt l selectorAt ∷ []) (part l fuseAt fuseSize) (part l numberAt numberSize)
       (bytesOf sinceSize (numberOf (part l sinceAt (older .sinceWidth)))) (byteAt l (placeAtIn older) ∷ byteAt l (volatileCountAtIn older) ∷ [])
-      (part l (framesAtIn older) n) (logAt (byteAt l (volatileCountAtIn older)) (slotsAtIn older pages) l)
+      (part l (framesAtIn older) n) (zeros slotsSize)
       (widenedArea pages 0 l ++ widenedArea pages 1 l))
 
   pub parts-written : (t : List ℕ) → length t ≡ blockSize pages

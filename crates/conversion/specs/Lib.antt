@@ -1,3 +1,3 @@
-pub mod Logs
+pub mod Rewritten
 pub mod Blocks
 pub mod Banks

@@ -1,12 +1,11 @@
 // A block of the older form over a whole block of today's.
-use crate::log::write_log;
+use fields::bytes::clear;
 use fields::bytes::copy;
-use fields::bytes::get;
 use fields::bytes::get_u16;
 use fields::bytes::put_u32;
-use fields::bytes::wide;
 use fields::widths::OLDER_SINCE_SIZE;
-use format::layout::AREA_COUNT_AT;
+use fields::widths::SLOTS_SIZE;
+use format::block::clear_volatiles;
 use format::layout::PLACE_AT;
 use format::layout::SINCE_AT;
 use format::layout::area_at;
@@ -16,8 +15,6 @@ use format::layout::area_size_in;
 use format::layout::area_slots_at;
 use format::layout::place_at_in;
 use format::layout::slots_at;
-use format::layout::slots_at_in;
-use format::layout::volatile_count_at_in;
 ghost use mathlib.Core.Path.{_≡_};
 ghost use Prim.Native.Nat.{_<_};
 ghost use lib.ListN.{length};
@@ -25,20 +22,19 @@ ghost use Rattle.model.specs.Definitions.Parts.{splice};
 ghost use Rattle.model.specs.Definitions.Layout.{areaSize, areaAt, blockSize};
 ghost use Rattle.model.specs.Definitions.Codec.{encodeArea, decodeAreaIn, encodeBoard, decodeBoardIn};
 ghost use Rattle.model.specs.Definitions.Older.{older, clearedBoard};
-ghost use Rattle.conversion.specs.Logs.{clearedArea};
-ghost use Rattle.conversion.specs.Blocks.{OlderArea, OlderBlock, widenedWorking, widenedArea};
+ghost use Rattle.conversion.specs.Blocks.{OlderArea, OlderBlock, clearedArea, widenedWorking, widenedArea};
 
-// An area: number, stored count and frames as they are, then its log.
+// An area: number, stored count and frames as they are; without a record its slots are zero.
 fn write_area(old: &[u8], new: &mut [u8], pages: usize)
     requires { ⌜ OlderArea pages (now old) × (length (now new) ≡ areaSize pages) ⌝ }
     ensures { λ _. ⌜ now (new .exit) ≡ encodeArea (clearedArea (decodeAreaIn older pages (now (old .entry)))) ⌝ }
 {
     let n = area_slots_at(pages);
     copy(old, 0, new, 0, n);
-    write_log(old, n, wide(get(old, AREA_COUNT_AT)), new, n);
+    clear(&mut new[n..n + SLOTS_SIZE]);
 }
 
-// What a power loss empties, and the fields before it: all as they are but since, which gets two bytes more, and the log.
+// What a power loss empties, and the fields before it: all as they are but since, which gets two bytes more, and the slots, which are zero.
 fn write_working(old: &[u8], new: &mut [u8], pages: usize)
     requires { ⌜ OlderBlock pages (now old) × (length (now new) ≡ blockSize pages) ⌝ }
     ensures { λ _. ⌜ now (new .exit) ≡ splice (now (new .entry)) 0 (widenedWorking pages (now (old .entry))) ⌝ }
@@ -52,14 +48,7 @@ fn write_working(old: &[u8], new: &mut [u8], pages: usize)
         PLACE_AT,
         slots_at(pages) - PLACE_AT,
     );
-    let count = wide(get(old, volatile_count_at_in(OLDER_SINCE_SIZE)));
-    write_log(
-        old,
-        slots_at_in(OLDER_SINCE_SIZE, pages),
-        count,
-        new,
-        slots_at(pages),
-    );
+    clear_volatiles(new, pages);
 }
 
 // An area of a block, each handed on as its own part.

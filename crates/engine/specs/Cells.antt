@@ -14,13 +14,13 @@ use Rattle.types.specs.declared.Frame.{Frame}
 use Rattle.types.specs.declared.State.{State}
 use Rattle.types.specs.declared.Answer.{Answer}
 use Rattle.types.specs.declared.Answer.the-variants.{Done, Malformed, OutOfRange, WrongState, CountersFull, ReplayDiffers, OwnerNotUp, LogFull}
-use Rattle.types.specs.declared.Answer.the-variants.{PowerLost, WrongCells}
+use Rattle.types.specs.declared.Answer.the-variants.{PowerLost, WrongCells, HasRecords}
 use Rattle.types.specs.declared.Outcome.{Outcome}
 use Rattle.model.specs.Definitions.Answers.{code, value}
 use Rattle.model.specs.Definitions.Parts.{every, member}
 use Rattle.model.specs.Definitions.Layout.{byteValues, mostPages, mostCells, pageSize}
 use Rattle.model.specs.Definitions.Bank.{Bank}
-use Rattle.model.specs.Definitions.Codec.{decode, encode}
+use Rattle.model.specs.Definitions.Codec.{decode}
 use Rattle.model.specs.Definitions.Steps.{Cell, Access, Read, Write, ReadCells, cellsAsked, cellsRead, cellsWritten, anyCell, anyWrite, names, takes, valueOf}
 use Rattle.model.specs.Definitions.Calls.{Result, cellInRange, accessInRange, wrongCells, accessBank, Accessing, callWithin, callBank, Reply, refused}
 use Rattle.model.specs.Definitions.Calls.{replyOf, call, bufferAfter}
@@ -32,9 +32,9 @@ use Rattle.model.specs.Laws.Codes.Ends.{access-value}
 use Rattle.model.specs.History.Statement.{bytesSeen}
 use Rattle.model.specs.Likeness.{onValue}
 use Rattle.fields.specs.Cells.{CellIn, count-cells}
-use Rattle.steps.specs.Asked.{got, Takes, wroteByte}
+use Rattle.steps.specs.Asked.{got, Takes}
 use Rattle.accesses.specs.declared.ask.Ask.{Ask}
-use Rattle.accesses.specs.Asks.{Stands, Asks, InRange}
+use Rattle.accesses.specs.Asks.{Asks, InRange}
 use Rattle.accesses.specs.Results.{Answered}
 use Rattle.checks.specs.declared.entry.Refusal.{Refusal}
 use Rattle.checks.specs.declared.entry.Refusal.the-variants.{Unreadable, NoBoard}
@@ -105,14 +105,14 @@ module _ {a : Access} {cells : List ℕ} (x : Reading a cells) (b : ℕ) (k : Ba
   pub reads-within : Each (CellIn pages) (cellsAsked cells)
   reads-within = rw (e, ← x .reads) (reads-in b a k range)
 
-  read-names : (p : ℕ) → names a p ≡ anyCell (cellsAsked cells) p
+  read-peers : (p : ℕ) → names a p ≡ anyCell (cellsAsked cells) p
   unfolding names anyWrite
-  read-names p = rw (x .reads, x .wrote) (byBool (anyCell (cellsAsked cells) p) (λ t. rw t) (λ t. rw t))
+  read-peers p = rw (x .reads, x .wrote) (byBool (anyCell (cellsAsked cells) p) (λ t. rw t) (λ t. rw t))
 
   pub read-asked : wrongCells a ≡ false → (named : ℕ) → ((p : ℕ) → member p named ≡ anyCell (cellsAsked cells) p) → WellAsked pages a (readAsk b named) cells k
   read-asked right named members =
       record {
-        stands = record { takes = takes-named cells read-names reads-within members false (x .copies); writes = x .wrote };
+        stands = record { takes = takes-named cells read-peers reads-within members false (x .copies); writes = x .wrote };
         reads = x .reads;
         range = range;
         right = right;
@@ -192,6 +192,7 @@ by-done (OwnerNotUp b) P d r = r (λ g. refl) (λ e. absurd (omega arith))
 by-done (LogFull b) P d r = r (λ g. refl) (λ e. absurd (omega arith))
 by-done (PowerLost b) P d r = r (λ g. refl) (λ e. absurd (omega arith))
 by-done WrongCells P d r = r (λ g. refl) (λ e. absurd (omega arith))
+by-done HasRecords P d r = r (λ g. refl) (λ e. absurd (omega arith))
 
 pub put-done : (n : ℕ) (x : Answer) → code x ≡ 0 → Done n ≡ onValue (λ v. n) x
 unfolding onValue

@@ -100,7 +100,7 @@ module _ (s : List ℕ) (v : wellFormed s ≡ true) where
   -- the bytes as they were
   pub refusal : (a : Answer) → replyOf (record { answer = a; run = start (decode s); given = [] }) ≡ refused a s
   unfolding replyOf refused start
-  refusal a = rw (encode-decode today s v)
+  refusal a = rw (encode-decode today true s v)
 
   -- a way through a call that ends in a refusal
   pub call-refused : (c : Call) (a : Answer) → callBank c (decode s) ≡ record { answer = a; run = start (decode s); given = [] } → call c s ≡ refused a s

@@ -19,6 +19,7 @@ use Rattle.model.specs.Laws.Boards.{boardAt-same}
 use Rattle.model.specs.Laws.Keeps.Clauses.{but, onBoard-but}
 use Rattle.model.specs.Contracts.{Fits, InReplay, WellFormedBut, mostStores}
 use Rattle.model.specs.Laws.Keeps.Replay.{loaded-inReplay, usedUp-inReplay}
+use Rattle.model.specs.Laws.Keeps.Peers.{loaded-peers, usedUp-peers}
 use Rattle.model.specs.Laws.Runs.{sizes-onBoard}
 use Rattle.model.specs.Laws.BoardFields.{loaded-fields}
 use Rattle.replay.specs.Used.{usedUp-fields}
@@ -45,6 +46,7 @@ module _ (b : ℕ) (k : Bank) where
   resumed-inReplay w down =
       onBoard-but b restarted k (but {Kept = Fits} w (λ h. h))
       (λ i h. usedUp-inReplay (k .directory) b (loaded (boardAt k b)) (loaded-inReplay (k .directory) b (boardAt k b) h down))
+      (λ q. usedUp-peers (loaded (boardAt k b)) (loaded-peers (boardAt k b) q))
 
   pub resumed-of : {s : List ℕ} → Holds s resumed → (pages : ℕ) → pages ≡ length (k .directory) → b < length (k .boards) → OfBank pages b s
   resumed-of h pages e l =

@@ -12,11 +12,11 @@ use Rattle.model.specs.Contracts.{Space, Recordable}
 use Rattle.steps.specs.Blocks.{IsBlock, boardOf}
 use Rattle.steps.specs.BlockLaws.{board-written, block-written}
 
-module _ {pages : ℕ} {l m : List ℕ} (kind : Kind) (bytes : List ℕ) (b : IsBlock pages l) (s : Space (boardOf pages l)) (v : Recordable pages kind bytes)
-    (e : m ≡ encodeBoard (onWorking (recorded kind bytes) (boardOf pages l))) where
+module _ {pages : ℕ} {l m : List ℕ} (kind : Kind) (peer : ℕ) (bytes : List ℕ) (b : IsBlock pages l) (s : Space (boardOf pages l)) (v : Recordable pages kind peer bytes)
+    (e : m ≡ encodeBoard (onWorking (recorded kind peer bytes) (boardOf pages l))) where
   pub recorded-block : IsBlock pages m
-  recorded-block = block-written _ (b .few) (recorded-fields (b .fields) kind bytes v s) e
+  recorded-block = block-written _ (b .few) (recorded-fields (b .fields) kind peer bytes v s) e
 
   pub recorded-frame : (p : ℕ) (f : Frame) (n : List ℕ) → n ≡ encodeBoard (withFrame p f (boardOf pages m))
-      → n ≡ encodeBoard (withFrame p f (onWorking (recorded kind bytes) (boardOf pages l)))
-  recorded-frame p f n g = g ∙ rw (board-written _ (b .few) (recorded-fields (b .fields) kind bytes v s) e)
+      → n ≡ encodeBoard (withFrame p f (onWorking (recorded kind peer bytes) (boardOf pages l)))
+  recorded-frame p f n g = g ∙ rw (board-written _ (b .few) (recorded-fields (b .fields) kind peer bytes v s) e)

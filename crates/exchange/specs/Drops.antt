@@ -46,31 +46,31 @@ bank-same j k d n e =
     ap (λ (xs : List Board). record { directory = j .directory; boards = xs }) b ∙ ap (λ (xs : List Entry). record { directory = xs; boards = k .boards }) d
 
 -- two tests that say the same of every board
-pub dropAt-same : (f g : ℕ → Bool) (p : ℕ) (k : Bank) → ((c : ℕ) → c < length (k .boards) → f c ≡ g c) → dropAt f p k ≡ dropAt g p k
+pub dropAt-same : (f g : ℕ → Bool) (w p : ℕ) (k : Bank) → ((c : ℕ) → c < length (k .boards) → f c ≡ g c) → dropAt f w p k ≡ dropAt g w p k
 unfolding dropAt
-dropAt-same f g p k e =
-    bank-same (dropAt f p k) (dropAt g p k) refl (boards-dropAt f p k ∙ sym (boards-dropAt g p k))
+dropAt-same f g w p k e =
+    bank-same (dropAt f w p k) (dropAt g w p k) refl (boards-dropAt f w p k ∙ sym (boards-dropAt g w p k))
     (λ c h.
-    let l : c < length (k .boards) = omega (arith, boards-dropAt g p k) in
-    boardAt-dropAt f p k c l ∙ (rw (e c l) (sym (boardAt-dropAt g p k c l))))
+    let l : c < length (k .boards) = omega (arith, boards-dropAt g w p k) in
+    boardAt-dropAt f w p k c l ∙ (rw (e c l) (sym (boardAt-dropAt g w p k c l))))
 
-pub dropAt-none : (f : ℕ → Bool) (p : ℕ) (k : Bank) → ((c : ℕ) → c < length (k .boards) → f c ≡ false) → dropAt f p k ≡ k
+pub dropAt-none : (f : ℕ → Bool) (w p : ℕ) (k : Bank) → ((c : ℕ) → c < length (k .boards) → f c ≡ false) → dropAt f w p k ≡ k
 unfolding dropAt droppedIf
-dropAt-none f p k e = bank-same (dropAt f p k) k refl (boards-dropAt f p k) (λ c l. cc (boardAt-dropAt f p k c l, e c l))
+dropAt-none f w p k e = bank-same (dropAt f w p k) k refl (boards-dropAt f w p k) (λ c l. cc (boardAt-dropAt f w p k c l, e c l))
 
 -- one board more
-pub dropAt-next : (f g : ℕ → Bool) (b p : ℕ) (k : Bank) → f b ≡ false → g b ≡ true → ((c : ℕ) → c ≢ b → f c ≡ g c)
-    → onBoard b (dropped p) (dropAt f p k) ≡ dropAt g p k
+pub dropAt-next : (f g : ℕ → Bool) (w b p : ℕ) (k : Bank) → f b ≡ false → g b ≡ true → ((c : ℕ) → c ≢ b → f c ≡ g c)
+    → onBoard b (dropped w p) (dropAt f w p k) ≡ dropAt g w p k
 unfolding dropAt onBoard droppedIf
-dropAt-next f g b p k waits done other =
-    let j : Bank = dropAt f p k in
-    bank-same (onBoard b (dropped p) j) (dropAt g p k) refl (boards-onBoard b (dropped p) j ∙ boards-dropAt f p k ∙ sym (boards-dropAt g p k))
+dropAt-next f g w b p k waits done other =
+    let j : Bank = dropAt f w p k in
+    bank-same (onBoard b (dropped w p) j) (dropAt g w p k) refl (boards-onBoard b (dropped w p) j ∙ boards-dropAt f w p k ∙ sym (boards-dropAt g w p k))
     (λ c h.
-    let l : c < length (k .boards) = omega (arith, boards-dropAt g p k) in
-    let m : c < length (j .boards) = omega (arith, boards-dropAt f p k) in
+    let l : c < length (k .boards) = omega (arith, boards-dropAt g w p k) in
+    let m : c < length (j .boards) = omega (arith, boards-dropAt f w p k) in
     byEq c b
-    (λ e. cc (boardAt-same b (dropped p) j (rw e at m), boardAt-dropAt f p k c l, boardAt-dropAt g p k c l))
-    (λ n. cc (boardAt-other b (dropped p) j c n, boardAt-dropAt f p k c l, boardAt-dropAt g p k c l, other c n)))
+    (λ e. cc (boardAt-same b (dropped w p) j (rw e at m), boardAt-dropAt f w p k c l, boardAt-dropAt g w p k c l))
+    (λ n. cc (boardAt-other b (dropped w p) j c n, boardAt-dropAt f w p k c l, boardAt-dropAt g w p k c l, other c n)))
 
 -- ---- the loop
 
@@ -78,26 +78,26 @@ dropAt-next f g b p k waits done other =
 unfoldable pub gone : ℕ → ℕ → ℕ → Bool
 gone losers left c = member c losers && not (member c left)
 
--- bytes in which the losers but those left have dropped their right
-pub record Dropping (s : List ℕ) (k : Bank) (losers left p : ℕ) : Type 0 where
-  pub holds : Holds s (dropAt (gone losers left) p k)
+-- bytes in which the losers but those left have dropped their right to writer w
+pub record Dropping (s : List ℕ) (k : Bank) (losers left w p : ℕ) : Type 0 where
+  pub holds : Holds s (dropAt (gone losers left) w p k)
   pub among : (c : ℕ) → member c left ≡ true → member c losers ≡ true
   pub few : left ≤ losers
 
-pub dropping-first : {s : List ℕ} {k : Bank} → Holds s k → (losers p : ℕ) → Dropping s k losers losers p
+pub dropping-first : {s : List ℕ} {k : Bank} → Holds s k → (losers w p : ℕ) → Dropping s k losers losers w p
 unfolding gone
-dropping-first {k = k} h losers p =
-    let e : dropAt (gone losers losers) p k ≡ k = dropAt-none (gone losers losers) p k (λ c l. byBool (member c losers) (λ t. cc) (λ t. cc)) in
+dropping-first {k = k} h losers w p =
+    let e : dropAt (gone losers losers) w p k ≡ k = dropAt-none (gone losers losers) w p k (λ c l. byBool (member c losers) (λ t. cc) (λ t. cc)) in
     record { holds = rw e h; among = λ c m. m; few = omega arith }
 
-pub dropping-last : {s : List ℕ} {k : Bank} (losers p : ℕ) → Dropping s k losers 0 p → Holds s (dropAt (λ c. member c losers) p k)
+pub dropping-last : {s : List ℕ} {k : Bank} (losers w p : ℕ) → Dropping s k losers 0 w p → Holds s (dropAt (λ c. member c losers) w p k)
 unfolding gone
-dropping-last {s} {k} losers p d =
-    let e : dropAt (gone losers 0) p k ≡ dropAt (λ c. member c losers) p k
-    = dropAt-same (gone losers 0) (λ c. member c losers) p k (λ c l. byBool (member c losers) (λ t. cc (member-none c)) (λ t. cc)) in
+dropping-last {s} {k} losers w p d =
+    let e : dropAt (gone losers 0) w p k ≡ dropAt (λ c. member c losers) w p k
+    = dropAt-same (gone losers 0) (λ c. member c losers) w p k (λ c l. byBool (member c losers) (λ t. cc (member-none c)) (λ t. cc)) in
     rw e at (d .holds)
 
-module _ {s : List ℕ} {k : Bank} {losers left p b : ℕ} (d : Dropping s k losers left p) (n : losers < 2 ^ length (k .boards))
+module _ {s : List ℕ} {k : Bank} {losers left w p b : ℕ} (d : Dropping s k losers left w p) (n : losers < 2 ^ length (k .boards))
     (m : length (k .boards) ≤ mostBoards) (some : left ≢ 0) (e : b ≡ trailingZeros mostBoards left) where
   pub lowest-below : b < mostBoards
   lowest-below =
@@ -117,23 +117,23 @@ module _ {s : List ℕ} {k : Bank} {losers left p b : ℕ} (d : Dropping s k los
   -- the lowest one's turn
   pub dropping-of : (pages : ℕ) → pages ≡ length (k .directory) → OfBank pages b s
   unfolding dropAt
-  dropping-of pages c = holds-of (d .holds) pages b c (rw (boards-dropAt (gone losers left) p k) lowest-board)
+  dropping-of pages c = holds-of (d .holds) pages b c (rw (boards-dropAt (gone losers left) w p k) lowest-board)
 
   pub dropping-space : CanDrop (λ c. member c losers) k → Space (boardAt (decode s) b)
   unfolding droppedIf
   dropping-space can =
-      let w : boardAt (decode s) b ≡ boardAt k b = cc (holds-decode (d .holds), boardAt-dropAt (gone losers left) p k b lowest-board, lowest-waits) in
-      rw w (can b lowest-board (d .among b lowest-left))
+      let same : boardAt (decode s) b ≡ boardAt k b = cc (holds-decode (d .holds), boardAt-dropAt (gone losers left) w p k b lowest-board, lowest-waits) in
+      rw same (can b lowest-board (d .among b lowest-left))
 
-  pub dropping-next : (ys : List ℕ) (rest : ℕ) → rest ≡ withoutMember b left → Holds ys (onBoard b (dropped p) (decode s)) → Dropping ys k losers rest p
+  pub dropping-next : (ys : List ℕ) (rest : ℕ) → rest ≡ withoutMember b left → Holds ys (onBoard b (dropped w p) (decode s)) → Dropping ys k losers rest w p
   unfolding gone
   dropping-next ys rest r h =
       let f : ℕ → Bool = gone losers left in
       let g : ℕ → Bool = gone losers (withoutMember b left) in
-      let w : onBoard b (dropped p) (dropAt f p k) ≡ dropAt g p k
-      = dropAt-next f g b p k lowest-waits (cc (member-without-same b left, d .among b lowest-left)) (λ c o. cc (member-without-other b c left o)) in
+      let next : onBoard b (dropped w p) (dropAt f w p k) ≡ dropAt g w p k
+      = dropAt-next f g w b p k lowest-waits (cc (member-without-same b left, d .among b lowest-left)) (λ c o. cc (member-without-other b c left o)) in
       record {
-        holds = rw (r, ← w) (rw (holds-decode (d .holds)) at h);
+        holds = rw (r, ← next) (rw (holds-decode (d .holds)) at h);
         among = λ c t. byEq c b (λ o. clash t (rw (r, o) (member-without-same b left))) (λ o. d .among c (sym (member-without-other b c left o) ∙ rw r at t));
         few = rw r (omega (arith, without-le b left, d .few));
       }

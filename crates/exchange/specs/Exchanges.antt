@@ -26,7 +26,7 @@ entryPart s p = decodeEntry (part s (headSize + p * entrySize) entrySize)
 
 -- "reader records got copy, gains the copy and its bit": the frame is the owner's, the entry is read after the copy is taken
 pub copy-given : {ys zs : List ℕ} (k : Bank) (o b p : ℕ) (f : Frame) (owner copies holders : ℕ) → p < length (k .directory)
-    → f ≡ frameOf k o p → Holds ys (onBoard b (tookCopy p (f .bytes)) k)
+    → f ≡ frameOf k o p → Holds ys (onBoard b (tookCopy o p (f .bytes)) k)
     → owner ≡ entryPart ys p .owner → copies ≡ entryPart ys p .copies → holders ≡ withMember b copies
     → zs ≡ splice ys (headSize + p * entrySize) (encodeEntry (record { owner = owner; copies = holders })) → Holds zs (giveCopy o b p k)
 unfolding onBoard withCopy
@@ -35,14 +35,14 @@ copy-given {ys} {zs} k o b p f owner copies holders l e h r q m w =
     rw (giveCopy-parts o b p k, ← e) (entry-holds h p l (withCopy b) (record { owner = owner; copies = holders }) zs (rw (m, q, r, entry)) w)
 
 -- "each holder records dropped and loses its copy, the copy-set empties"
-pub copies-dropped : {xs ys zs : List ℕ} {k : Bank} (p owner copies : ℕ) → p < length (k .directory) → Holds xs k
-    → owner ≡ entryPart xs p .owner → copies ≡ entryPart xs p .copies → Holds ys (dropAt (λ c. member c copies) p k)
-    → zs ≡ splice ys (headSize + p * entrySize) (encodeEntry (record { owner = owner; copies = 0 })) → Holds zs (dropCopies p k)
+pub copies-dropped : {xs ys zs : List ℕ} {k : Bank} (v p owner copies : ℕ) → p < length (k .directory) → Holds xs k
+    → owner ≡ entryPart xs p .owner → copies ≡ entryPart xs p .copies → Holds ys (dropAt (λ c. member c copies) v p k)
+    → zs ≡ splice ys (headSize + p * entrySize) (encodeEntry (record { owner = owner; copies = 0 })) → Holds zs (dropCopies v p k)
 unfolding dropAt withoutCopies entryAt
-copies-dropped {xs} {ys} {zs} {k} p owner copies l h r q d w =
+copies-dropped {xs} {ys} {zs} {k} v p owner copies l h r q d w =
     let entry = entry-read h p l in
     let e : copies ≡ entryAt k p .copies = q ∙ ap (λ (e : Entry). e .copies) entry in
-    rw (dropCopies-parts p k, ← e)
+    rw (dropCopies-parts v p k, ← e)
     (entry-holds d p l withoutCopies (record { owner = owner; copies = 0 }) zs (rw r (ap (λ (e : Entry). record { owner = e .owner; copies = 0 }) entry)) w)
 
 -- ---- a page passed on
@@ -68,14 +68,14 @@ module _ {xs : List ℕ} {k : Bank} (o w p copies losers : ℕ) (l : p < length 
       (λ f. holder c b f (rw passing at (sym (member-without-other w c copies f) ∙ without))))
 
   -- the taker's frame is the one that was read before the drops
-  page-taken : {ys zs : List ℕ} (f : Frame) → f ≡ frameOf k o p → Holds ys (dropAt (λ c. member c losers) p k)
-      → Holds zs (onBoard w (tookOwn p (f .bytes)) (decode ys)) → Holds zs (onBoard w (tookOwn p (frameOf k o p .bytes)) (dropAt (loses o w p k) p k))
+  page-taken : {ys zs : List ℕ} (f : Frame) → f ≡ frameOf k o p → Holds ys (dropAt (λ c. member c losers) w p k)
+      → Holds zs (onBoard w (tookOwn p (f .bytes)) (decode ys)) → Holds zs (onBoard w (tookOwn p (frameOf k o p .bytes)) (dropAt (loses o w p k) w p k))
   page-taken f e d t =
-      let j : dropAt (λ c. member c losers) p k ≡ dropAt (loses o w p k) p k
-      = dropAt-same (λ c. member c losers) (loses o w p k) p k (λ c b. gives-set o w p k copies losers n passing m c) in
+      let j : dropAt (λ c. member c losers) w p k ≡ dropAt (loses o w p k) w p k
+      = dropAt-same (λ c. member c losers) (loses o w p k) w p k (λ c b. gives-set o w p k copies losers n passing m c) in
       rw (holds-decode d ∙ j, e) at t
 
-  pub page-passed : {ys zs us : List ℕ} (f : Frame) → f ≡ frameOf k o p → Holds ys (dropAt (λ c. member c losers) p k)
+  pub page-passed : {ys zs us : List ℕ} (f : Frame) → f ≡ frameOf k o p → Holds ys (dropAt (λ c. member c losers) w p k)
       → Holds zs (onBoard w (tookOwn p (f .bytes)) (decode ys))
       → us ≡ splice zs (headSize + p * entrySize) (encodeEntry (record { owner = w; copies = 0 })) → Holds us (passOwnership o w p k)
   unfolding dropAt onBoard ownedBy

@@ -30,7 +30,7 @@ use Rattle.model.specs.Laws.Keeps.Fetches.{page-there, owner-up, owner-other, r
 use Rattle.exchange.specs.Banks.{Holds, OfBank, holds-bank, holds-decode, holds-wellFormed}
 use Rattle.exchange.specs.Progress.{running, Came, CanShow, getOwn}
 use Rattle.model.specs.Laws.Moves.Stores.{show-keeps}
-use Rattle.model.specs.Laws.Moves.Fetches.{got-keeps}
+use Rattle.model.specs.Laws.Moves.Fetches.{taker-other, got-keeps}
 
 -- ---- a run and its bytes
 
@@ -84,17 +84,18 @@ module _ {s : List ℕ} {pages b p o : ℕ} (ready : Ready pages b p o s) where
   fetch-shows = (giver-up, rw (ready .3) (omega (arith, room-owner b p (running 0 (decode s)) (ready .1) (ready .2))))
 
   -- every bank that the owner's part leaves is well formed
-  pub shown-keeps : (n : ℕ) → WellFormed (show o p (running n (decode s)) .bank)
-  shown-keeps n = show-keeps o p (running n (decode s)) (ready .1) (λ e. giver-up) (λ e. fetch-shows .1) (λ e. page-in)
+  pub shown-keeps : (n : ℕ) → WellFormed (show o b p (running n (decode s)) .bank)
+  shown-keeps n = show-keeps o b p (running n (decode s)) (ready .1) (λ e. giver-up) (λ e. fetch-shows .1) (λ e. page-in)
+      (λ e. taker-other (decode s) b o (ready .2 .taker) fetch-other)
 
   -- ---- after the owner's part, with power yet
 
-  module _ (n : ℕ) {l : List ℕ} {m : ℕ} {q : Option ℕ} (ran : Came l m q (show o p (running n (decode s)))) (on : q ≡ none) where
-    shown-bank : Holds l (show o p (running n (decode s)) .bank)
+  module _ (n : ℕ) {l : List ℕ} {m : ℕ} {q : Option ℕ} (ran : Came l m q (show o b p (running n (decode s)))) (on : q ≡ none) where
+    shown-bank : Holds l (show o b p (running n (decode s)) .bank)
     shown-bank = came-holds ran (shown-keeps n)
 
-    changed : Changed o (FlushedWith (Shown p) (zeros pageSize)) (decode s) (decode l)
-    changed = rw (holds-decode shown-bank) (show-changed o p (running n (decode s)) (sym (ran .lost) ∙ on))
+    changed : Changed o (FlushedWith (Shown p) b (zeros pageSize)) (decode s) (decode l)
+    changed = rw (holds-decode shown-bank) (show-changed o b p (running n (decode s)) (sym (ran .lost) ∙ on))
 
     pub shown-wellFormed : WellFormed (decode l)
     shown-wellFormed = rw (holds-decode shown-bank) (shown-keeps n)
@@ -119,21 +120,21 @@ or-holds true h = refl
 or-holds false h = h
 
 module _ {s : List ℕ} {pages b p o : ℕ} (ready : Ready pages b p o s) (n : ℕ) {l : List ℕ} {m : ℕ} {q : Option ℕ}
-    (ran : Came l m q (show o p (running n (decode s)))) where
+    (ran : Came l m q (show o b p (running n (decode s)))) where
   -- power was lost in the owner's part
   pub write-lost : (d : ℕ) → q ≡ some d → Came l m q (writeFetch b p (running n (decode s)))
   unfolding writeFetch
   write-lost d e =
-      let r : Run = show o p (running n (decode s)) in
+      let r : Run = show o b p (running n (decode s)) in
       rw (← ready .3)
       (came-lost ran d e
       (follows-trans
-      (follows-note-flush b (Got GotOwn p) (λ k. frameOf k o p .bytes) r)
+      (follows-note-flush b (Got GotOwn p) o (λ k. frameOf k o p .bytes) r)
       (follows-step (passOwnership o b p) (getOwn o b p r) (sizes-passOwnership o b p (getOwn o b p r .bank)))))
 
   -- after the writer's part
   module _ (on : q ≡ none) {j : List ℕ} {t : ℕ} {y : Option ℕ} (took : Came j t y (getOwn o b p (running m (decode l)))) where
-    gave : running m (decode l) ≡ show o p (running n (decode s))
+    gave : running m (decode l) ≡ show o b p (running n (decode s))
     gave = came-on ran on (shown-keeps ready n)
 
     got-formed : WellFormed (getOwn o b p (running m (decode l)) .bank)
@@ -155,12 +156,12 @@ module _ {s : List ℕ} {pages b p o : ℕ} (ready : Ready pages b p o s) (n : �
       got-bank : Holds j (getOwn o b p (running m (decode l)) .bank)
       got-bank = came-holds took got-formed
 
-      got-changed : Changed b (FlushedWith (Got GotOwn p) (frameOf (decode l) o p .bytes)) (decode l) (decode j)
+      got-changed : Changed b (FlushedWith (Got GotOwn p) o (frameOf (decode l) o p .bytes)) (decode l) (decode j)
       got-changed =
           rw (holds-decode got-bank)
-          (note-flush-changed b (Got GotOwn p) (λ k. frameOf k o p .bytes) (running m (decode l)) (sym (took .lost) ∙ still))
+          (note-flush-changed b (Got GotOwn p) o (λ k. frameOf k o p .bytes) (running m (decode l)) (sym (took .lost) ∙ still))
 
-      gave-changed : Changed o (FlushedWith (Shown p) (zeros pageSize)) (decode s) (decode l)
+      gave-changed : Changed o (FlushedWith (Shown p) b (zeros pageSize)) (decode s) (decode l)
       gave-changed = changed ready n ran on
 
       pub got-of : (d : ℕ) → d < length (decode s .boards) → OfBank pages d j
@@ -178,7 +179,7 @@ module _ {s : List ℕ} {pages b p o : ℕ} (ready : Ready pages b p o s) (n : �
           → Space (boardAt (decode j) d)
       got-space d h other loses =
           let e : entryAt (decode j) p ≡ entryAt (decode s) p = entryAt-changed got-changed p ∙ entryAt-changed gave-changed p in
-          let done : getOwn o b p (show o p (running n (decode s))) .lost ≡ none = rw gave at (sym (took .lost) ∙ still) in
+          let done : getOwn o b p (show o b p (running n (decode s))) .lost ≡ none = rw gave at (sym (took .lost) ∙ still) in
           let room : RoomFor 1 (boardAt (decode j) d)
           = rw (holds-decode got-bank, gave, ready .3)
           (room-got b p (running n (decode s)) (ready .1) (ready .2) d (rw (ready .3) at done) (rw (got-changed .boards, gave-changed .boards) at h) other

@@ -7,7 +7,7 @@ use mathlib.Core.List.{List}
 use lib.ListN.{length}
 use Rattle.words.specs.Bytes.{Each}
 use Rattle.types.specs.declared.CopyOrOwn.{CopyOrOwn}
-use Rattle.types.specs.declared.CopyOrOwn.the-variants.{GotCopy, GotOwn}
+use Rattle.types.specs.declared.CopyOrOwn.the-variants.{GotOwn}
 use Rattle.types.specs.declared.Kind.the-variants.{Got}
 use Rattle.types.specs.declared.State.the-variants.{Up}
 use Rattle.exchange.specs.declared.progress.Loss.{Loss}
@@ -17,7 +17,7 @@ use Rattle.model.specs.Definitions.Layout.{slotCount}
 use Rattle.model.specs.Definitions.Bank.{Bank, boardAt}
 use Rattle.model.specs.Definitions.Codec.{encode}
 use Rattle.model.specs.Definitions.Steps.{Run, step, note, flush, frameOf, giver}
-use Rattle.model.specs.Contracts.{volatileCount, RoomFor, CanFetch}
+use Rattle.model.specs.Contracts.{volatileCount, RoomFor}
 
 -- a call that goes on, after n stores
 abbrev pub running : ℕ → Bank → Run
@@ -44,16 +44,11 @@ CanShow o k = (boardAt k o .state ≡ Up) × RoomFor 1 (boardAt k o)
 
 -- "writer records got own and flushes": the page is the owner's
 abbrev pub getOwn : ℕ → ℕ → ℕ → Run → Run
-getOwn o w p r = flush w (step (λ k. note w (Got GotOwn p) (frameOf k o p .bytes) k) r)
+getOwn o w p r = flush w (step (λ k. note w (Got GotOwn p) o (frameOf k o p .bytes) k) r)
 
 -- the pages of a set, rising
 abbrev pub pagesIn : ℕ → ℕ → List ℕ
 pagesIn pages set = allBelow pages (λ p. member p set)
-
--- pages that can be shown, because some board can fetch them
-pub record CanShowAll (ps : List ℕ) (k : Bank) : Type 0 where
-  pub taker : ℕ
-  pub fetch : CanFetch GotCopy taker ps k
 
 -- pages of which board b can be given copies: boards own and give them, and its volatile log has a slot for each
 pub record CanGive (b : ℕ) (ps : List ℕ) (k : Bank) : Type 0 where

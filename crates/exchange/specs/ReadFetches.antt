@@ -26,13 +26,13 @@ use Rattle.model.specs.Laws.Keeps.Rights.{entry-at}
 use Rattle.model.specs.Laws.Keeps.Givers.{giver-giveCopy}
 use Rattle.model.specs.Laws.Keeps.Copies.{room-giver, Shared, shared-giver, shown-can, showAll-shared, needs-reader}
 use Rattle.model.specs.Laws.Moves.Stores.{show-keeps}
-use Rattle.model.specs.Laws.Moves.Fetches.{showAll-moves}
+use Rattle.model.specs.Laws.Moves.Fetches.{taker-other, showAll-moves}
 use Rattle.model.specs.Laws.Moves.Formed.{formed-begun, run-formed, moves-formed}
 use Rattle.model.specs.Moves.{anyone, still}
 use Rattle.model.specs.Contracts.{volatileCount, CanFetch}
 use Rattle.exchange.specs.Banks.{Holds, OfBank, holds-bank, holds-decode, of-holds, holds-of}
 use Rattle.exchange.specs.Directory.{of-board}
-use Rattle.exchange.specs.Progress.{running, Came, CanShow, pagesIn, CanShowAll, CanGive}
+use Rattle.exchange.specs.Progress.{running, Came, CanShow, pagesIn, CanGive}
 use Rattle.exchange.specs.Fetching.{came-holds, came-on, came-step, came-lost}
 use Rattle.exchange.specs.Walks.{left, left-all, left-none, left-next, left-skip, left-above}
 
@@ -43,16 +43,16 @@ pagesFrom pages set i = left (λ p. member p set) pages i
 -- ---- the givers' part
 
 -- after the pages below i, with m stores: what is left of the bank on entry is left of this one
-pub record Showing (pages set : ℕ) (k : Bank) (s : List ℕ) (m i : ℕ) : Type 0 where
-  pub bank : OfBank pages 0 s
+pub record Showing (pages set b : ℕ) (k : Bank) (s : List ℕ) (m i : ℕ) : Type 0 where
+  pub bank : OfBank pages b s
   pub formed : WellFormed (decode s)
-  pub can : CanShowAll (pagesFrom pages set i) (decode s)
-  pub run : (n : ℕ) → showAll (pagesFrom pages set i) (running (n + m) (decode s)) ≡ showAll (pagesIn pages set) (running n k)
+  pub can : CanFetch GotCopy b (pagesFrom pages set i) (decode s)
+  pub run : (n : ℕ) → showAll b (pagesFrom pages set i) (running (n + m) (decode s)) ≡ showAll b (pagesIn pages set) (running n k)
   pub few : m ≤ i * slotCount
   pub within : i ≤ pages
 
-pub showing-first : {pages : ℕ} (set : ℕ) {s : List ℕ} → OfBank pages 0 s → WellFormed (decode s) → CanShowAll (pagesIn pages set) (decode s)
-    → Showing pages set (decode s) s 0 0
+pub showing-first : {pages b : ℕ} (set : ℕ) {s : List ℕ} → OfBank pages b s → WellFormed (decode s) → CanFetch GotCopy b (pagesIn pages set) (decode s)
+    → Showing pages set b (decode s) s 0 0
 showing-first {pages} set o w c =
     let e : pagesFrom pages set 0 ≡ pagesIn pages set = left-all (λ p. member p set) pages in
     record {
@@ -64,18 +64,18 @@ showing-first {pages} set o w c =
       within = omega arith;
     }
 
-module _ {pages set : ℕ} {k : Bank} {s : List ℕ} {m i : ℕ} (h : Showing pages set k s m i) where
+module _ {pages set b : ℕ} {k : Bank} {s : List ℕ} {m i : ℕ} (h : Showing pages set b k s m i) where
   -- the last page is behind
-  pub showing-last : pages ≤ i → (n : ℕ) → Came s (n + m) none (showAll (pagesIn pages set) (running n k))
+  pub showing-last : pages ≤ i → (n : ℕ) → Came s (n + m) none (showAll b (pagesIn pages set) (running n k))
   unfolding showAll
   showing-last l n =
       let e : pagesFrom pages set i ≡ [] = left-none (λ p. member p set) pages i l in
-      let r : running (n + m) (decode s) ≡ showAll (pagesIn pages set) (running n k) = rw e at (h .run n) in
+      let r : running (n + m) (decode s) ≡ showAll b (pagesIn pages set) (running n k) = rw e at (h .run n) in
       rw (← r) (record { bytes = of-holds (h .bank) .bytes; stores = refl; lost = refl })
 
   module _ (l : i < pages) where
     -- a page that isn't in the set
-    pub showing-skip : member i set ≡ false → Showing pages set k s m (i + 1)
+    pub showing-skip : member i set ≡ false → Showing pages set b k s m (i + 1)
     showing-skip t =
         let e : pagesFrom pages set i ≡ pagesFrom pages set (i + 1) = left-skip (λ p. member p set) pages i l t in
         record {
@@ -94,11 +94,8 @@ module _ {pages set : ℕ} {k : Bank} {s : List ℕ} {m i : ℕ} (h : Showing pa
       here : pagesFrom pages set i ≡ i ∷ rest
       here = left-next (λ p. member p set) pages i l t
 
-      abbrev taker : ℕ
-      taker = h .can .taker
-
-      can : CanFetch GotCopy taker (i ∷ rest) (decode s)
-      can = rw (← here) (h .can .fetch)
+      can : CanFetch GotCopy b (i ∷ rest) (decode s)
+      can = rw (← here) (h .can)
 
       module _ (o : ℕ) (from : o ≡ giver GotCopy (decode s) i) where
         up : boardAt (decode s) o .state ≡ Up
@@ -109,42 +106,40 @@ module _ {pages set : ℕ} {k : Bank} {s : List ℕ} {m i : ℕ} (h : Showing pa
         show-giver = up-below (decode s) o up
 
         pub show-can : CanShow o (decode s)
-        show-can = (up, rw from (room-giver taker i rest (decode s) can))
+        show-can = (up, rw from (room-giver b i rest (decode s) can))
 
         -- and has shown it
-        module _ {ys : List ℕ} (x : ℕ) {q : Option ℕ} (ran : (n : ℕ) → Came ys (n + x) q (show o i (running n (decode s)))) where
-          told : (n : ℕ) → Came ys (n + (m + x)) q (show o i (running (n + m) (decode s)))
+        module _ {ys : List ℕ} (x : ℕ) {q : Option ℕ} (ran : (n : ℕ) → Came ys (n + x) q (show o b i (running n (decode s)))) where
+          told : (n : ℕ) → Came ys (n + (m + x)) q (show o b i (running (n + m) (decode s)))
           told n = let e : n + (m + x) ≡ n + m + x = omega arith in rw e (ran (n + m))
 
-          goes : (n : ℕ) → showAll rest (show o i (running (n + m) (decode s))) ≡ showAll (pagesIn pages set) (running n k)
+          goes : (n : ℕ) → showAll b rest (show o b i (running (n + m) (decode s))) ≡ showAll b (pagesIn pages set) (running n k)
           unfolding showAll
           goes n = rw (from, ← h .run n, here)
 
           -- and lost its power
-          pub showing-lost : (d : ℕ) → q ≡ some d → (n : ℕ) → Came ys (n + (m + x)) q (showAll (pagesIn pages set) (running n k))
-          showing-lost d e n = rw (← goes n) (came-lost (told n) d e (follows-showAll rest (show o i (running (n + m) (decode s)))))
+          pub showing-lost : (d : ℕ) → q ≡ some d → (n : ℕ) → Came ys (n + (m + x)) q (showAll b (pagesIn pages set) (running n k))
+          showing-lost d e n = rw (← goes n) (came-lost (told n) d e (follows-showAll b rest (show o b i (running (n + m) (decode s)))))
 
           -- and has it yet
           module _ (on : q ≡ none) (small : x ≤ slotCount) where
-            keeps : (n : ℕ) → WellFormed (show o i (running n (decode s)) .bank)
-            keeps n = show-keeps o i (running n (decode s)) (h .formed) (λ e. up) (λ e. show-can .1) (λ e. each-head (can .pages))
+            keeps : (n : ℕ) → WellFormed (show o b i (running n (decode s)) .bank)
+            keeps n =
+                show-keeps o b i (running n (decode s)) (h .formed) (λ e. up) (λ e. show-can .1) (λ e. each-head (can .pages))
+                (λ e. taker-other (decode s) b o (can .taker) (rw from (each-head (can .others))))
 
-            held : Holds ys (show o i (running 0 (decode s)) .bank)
+            held : Holds ys (show o b i (running 0 (decode s)) .bank)
             held = came-holds (ran 0) (keeps 0)
 
-            changed : Changed o (FlushedWith (Shown i) (zeros pageSize)) (decode s) (show o i (running 0 (decode s)) .bank)
-            changed = show-changed o i (running 0 (decode s)) (sym (ran 0 .lost) ∙ on)
+            changed : Changed o (FlushedWith (Shown i) b (zeros pageSize)) (decode s) (show o b i (running 0 (decode s)) .bank)
+            changed = show-changed o b i (running 0 (decode s)) (sym (ran 0 .lost) ∙ on)
 
-            pub showing-on : Showing pages set k ys (m + x) (i + 1)
+            pub showing-on : Showing pages set b k ys (m + x) (i + 1)
             showing-on =
                 record {
-                  bank = holds-of held pages 0 (rw (changed .directory) (h .bank .count)) (rw (changed .boards) (h .bank .board));
+                  bank = holds-of held pages b (rw (changed .directory) (h .bank .count)) (rw (changed .boards) (h .bank .board));
                   formed = rw (holds-decode held) (keeps 0);
-                  can =
-                      record {
-                        taker = taker;
-                        fetch = rw (holds-decode held, from) (shown-can taker i rest (running 0 (decode s)) can (rw from at (sym (ran 0 .lost) ∙ on)));
-                      };
+                  can = rw (holds-decode held, from) (shown-can b i rest (running 0 (decode s)) can (rw from at (sym (ran 0 .lost) ∙ on)));
                   run = λ n. rw (came-on (told n) on (keeps (n + m))) (goes n);
                   few = omega (arith, h .few);
                   within = omega arith;
@@ -179,7 +174,7 @@ copy-can o b p ps k h behind c =
             arith,
             c .room,
             length-append (boardAt k b .working .log .records)
-                (record { count = boardAt k b .working .since; kind = Got GotCopy p; bytes = frameOf k o p .bytes } ∷ []),
+                (record { count = boardAt k b .working .since; kind = Got GotCopy p; peer = o; bytes = frameOf k o p .bytes } ∷ []),
           ));
     }
 
@@ -230,16 +225,16 @@ module _ {pages set b : ℕ} {k : Bank} {s : List ℕ} {i : ℕ} (h : Giving pag
 -- ---- both
 
 module _ {pages b : ℕ} {s ps : List ℕ} (o : OfBank pages b s) (w : WellFormed (decode s)) (c : CanFetch GotCopy b ps (decode s)) (n : ℕ) {l : List ℕ} {m : ℕ}
-    {q : Option ℕ} (ran : Came l m q (showAll ps (running n (decode s)))) where
+    {q : Option ℕ} (ran : Came l m q (showAll b ps (running n (decode s)))) where
   -- power was lost in a giver's part
   pub read-lost : (d : ℕ) → q ≡ some d → Came l m q (readFetch b ps (running n (decode s)))
   unfolding readFetch
   read-lost d e =
-      let u : Run = showAll ps (running n (decode s)) in
+      let u : Run = showAll b ps (running n (decode s)) in
       came-lost ran d e (follows-step (giveCopies b ps) u (sizes-giveCopies b ps (u .bank)))
 
   module _ (on : q ≡ none) where
-    formed : WellFormed (showAll ps (running n (decode s)) .bank)
+    formed : WellFormed (showAll b ps (running n (decode s)) .bank)
     formed =
         run-formed {d = b} {b = b} anyone
         (moves-formed (showAll-moves {Again = λ a. ⊥} ps (running n (decode s)) (λ e. c) still) (formed-begun b (running n (decode s)) w))

@@ -16,16 +16,17 @@ ghost use Rattle.model.specs.Laws.Boards.{tookCopy, tookOwn};
 ghost use Rattle.model.specs.Contracts.{Space};
 ghost use Rattle.steps.specs.Blocks.{IsBlock, boardOf};
 
-// "records got copy, gains the copy"; the frame is the giver's.
-pub fn take_copy(block: &mut [u8], pages: usize, page: usize, frame: Frame)
+// "records got copy, gains the copy"; the frame is the giver's, whom the record names.
+pub fn take_copy(block: &mut [u8], pages: usize, giver: u8, page: usize, frame: Frame)
     requires { ⌜ IsBlock pages (now block) × Space (boardOf pages (now block)) × (page < pages) × FrameOk frame ⌝ }
-    ensures { λ _. ⌜ now (block .exit) ≡ encodeBoard (tookCopy page (frame .bytes) (boardOf pages (now (block .entry)))) ⌝ }
+    ensures { λ _. ⌜ now (block .exit) ≡ encodeBoard (tookCopy giver page (frame .bytes) (boardOf pages (now (block .entry)))) ⌝ }
 {
     let bytes = frame.bytes;
     record(
         block,
         pages,
         Kind::Got(CopyOrOwn::GotCopy, page as u8),
+        giver,
         bytes,
     );
     set_frame(
@@ -56,11 +57,17 @@ pub fn take_own(block: &mut [u8], pages: usize, page: usize, frame: Frame)
     );
 }
 
-// "record dropped and lose the right"
-pub fn drop_right(block: &mut [u8], pages: usize, page: usize)
+// "record dropped and lose the right"; the record names the writer.
+pub fn drop_right(block: &mut [u8], pages: usize, writer: u8, page: usize)
     requires { ⌜ IsBlock pages (now block) × Space (boardOf pages (now block)) × (page < pages) ⌝ }
-    ensures { λ _. ⌜ now (block .exit) ≡ encodeBoard (dropped page (boardOf pages (now (block .entry)))) ⌝ }
+    ensures { λ _. ⌜ now (block .exit) ≡ encodeBoard (dropped writer page (boardOf pages (now (block .entry)))) ⌝ }
 {
-    record(block, pages, Kind::Dropped(page as u8), [0u8; PAGE_SIZE]);
+    record(
+        block,
+        pages,
+        Kind::Dropped(page as u8),
+        writer,
+        [0u8; PAGE_SIZE],
+    );
     set_frame(block, pages, page, empty_frame());
 }

@@ -41,13 +41,13 @@ pub fn page_frame(bank: &[u8], pages: usize, board: usize, page: usize) -> Frame
 
 // ---- a copy given
 
-fn copy_to(bank: &mut [u8], pages: usize, board: usize, page: usize, frame: Frame)
+fn copy_to(bank: &mut [u8], pages: usize, giver: u8, board: usize, page: usize, frame: Frame)
     requires { ⌜ OfBank pages board (now bank) × Space (boardAt (decode (now bank)) board) × (page < pages) × FrameOk frame ⌝ }
-    ensures { λ _. ⌜ Holds (now (bank .exit)) (onBoard board (tookCopy page (frame .bytes)) (decode (now (bank .entry)))) ⌝ }
+    ensures { λ _. ⌜ Holds (now (bank .exit)) (onBoard board (tookCopy giver page (frame .bytes)) (decode (now (bank .entry)))) ⌝ }
 {
     let a = block_at(pages, board);
     let size = block_size(pages);
-    take_copy(&mut bank[a..a + size], pages, page, frame);
+    take_copy(&mut bank[a..a + size], pages, giver, page, frame);
 }
 
 // "reader records got copy, gains the copy and its bit"
@@ -56,7 +56,7 @@ pub fn give_copy(bank: &mut [u8], pages: usize, giver: usize, board: usize, page
     ensures { λ _. ⌜ Holds (now (bank .exit)) (giveCopy giver board page (decode (now (bank .entry)))) ⌝ }
 {
     let frame = page_frame(bank, pages, giver, page);
-    copy_to(bank, pages, board, page, frame);
+    copy_to(bank, pages, giver as u8, board, page, frame);
     let owner = read_owner(bank, page);
     let copies = read_copies(bank, page);
     write_entry(bank, page, owner, with_holder(board, copies));
@@ -79,39 +79,39 @@ pub fn give_copies(bank: &mut [u8], pages: usize, board: usize, lacking: u16)
 
 // ---- rights dropped
 
-fn drop_at(bank: &mut [u8], pages: usize, board: usize, page: usize)
+fn drop_at(bank: &mut [u8], pages: usize, writer: u8, board: usize, page: usize)
     requires { ⌜ OfBank pages board (now bank) × Space (boardAt (decode (now bank)) board) × (page < pages) ⌝ }
-    ensures { λ _. ⌜ Holds (now (bank .exit)) (onBoard board (dropped page) (decode (now (bank .entry)))) ⌝ }
+    ensures { λ _. ⌜ Holds (now (bank .exit)) (onBoard board (dropped writer page) (decode (now (bank .entry)))) ⌝ }
 {
     let a = block_at(pages, board);
     let size = block_size(pages);
-    drop_right(&mut bank[a..a + size], pages, page);
+    drop_right(&mut bank[a..a + size], pages, writer, page);
 }
 
-// The boards of a set drop their right, the lowest first; no board sees another's drop.
-fn drop_all(bank: &mut [u8], pages: usize, losers: u8, page: usize)
+// The boards of a set drop their right to the writer, the lowest first; no board sees another's drop.
+fn drop_all(bank: &mut [u8], pages: usize, writer: u8, losers: u8, page: usize)
     requires { ⌜ OfBank pages 0 (now bank) × (losers < 2 ^ length (decode (now bank) .boards)) × (page < pages)
         × ((c : ℕ) → c < length (decode (now bank) .boards) → member c losers ≡ true → Space (boardAt (decode (now bank)) c)) ⌝ }
-    ensures { λ _. ⌜ Holds (now (bank .exit)) (dropAt (λ c. member c losers) page (decode (now (bank .entry)))) ⌝ }
+    ensures { λ _. ⌜ Holds (now (bank .exit)) (dropAt (λ c. member c losers) writer page (decode (now (bank .entry)))) ⌝ }
 {
     let mut left = losers;
     while left != 0 {
         let holder = lowest_holder(left);
-        drop_at(bank, pages, holder, page);
+        drop_at(bank, pages, writer, holder, page);
         left = without_holder(holder, left);
     }
 }
 
-// "each holder records dropped and loses its copy, the copy-set empties"
-pub fn drop_copies(bank: &mut [u8], pages: usize, page: usize)
-    requires { ⌜ OfBank pages 0 (now bank) × (page < pages) × EntryOk (length (decode (now bank) .boards)) (entryAt (decode (now bank)) page)
+// "each holder records dropped and loses its copy, the copy-set empties"; the board is the writer.
+pub fn drop_copies(bank: &mut [u8], pages: usize, board: usize, page: usize)
+    requires { ⌜ OfBank pages board (now bank) × (page < pages) × EntryOk (length (decode (now bank) .boards)) (entryAt (decode (now bank)) page)
         × ((c : ℕ) → c < length (decode (now bank) .boards) → member c (entryAt (decode (now bank)) page .copies) ≡ true
         → Space (boardAt (decode (now bank)) c)) ⌝ }
-    ensures { λ _. ⌜ Holds (now (bank .exit)) (dropCopies page (decode (now (bank .entry)))) ⌝ }
+    ensures { λ _. ⌜ Holds (now (bank .exit)) (dropCopies board page (decode (now (bank .entry)))) ⌝ }
 {
     let owner = read_owner(bank, page);
     let copies = read_copies(bank, page);
-    drop_all(bank, pages, copies, page);
+    drop_all(bank, pages, board as u8, copies, page);
     write_entry(bank, page, owner, 0);
 }
 
@@ -138,7 +138,7 @@ pub fn pass_ownership(bank: &mut [u8], pages: usize, owner: usize, board: usize,
     let passed = page_frame(bank, pages, owner, page);
     let copies = read_copies(bank, page);
     let losers = with_holder(owner, without_holder(board, copies));
-    drop_all(bank, pages, losers, page);
+    drop_all(bank, pages, board as u8, losers, page);
     own_to(bank, pages, board, page, passed);
     write_entry(bank, page, board as u8, 0);
 }

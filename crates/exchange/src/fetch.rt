@@ -26,13 +26,14 @@ ghost use Rattle.model.specs.Definitions.Steps.{giver, show, showAll, readFetch
 ghost use Rattle.model.specs.Contracts.{RoomFor, CanFetch};
 ghost use Rattle.steps.specs.Asked.{got};
 ghost use Rattle.exchange.specs.Banks.{OfBank};
-ghost use Rattle.exchange.specs.Progress.{running, lostBy, lossOf, Came, CanShow, pagesIn, CanShowAll, getOwn};
+ghost use Rattle.exchange.specs.Progress.{running, lostBy, lossOf, Came, CanShow, pagesIn, getOwn};
 
-// "That giver records shown and flushes as an owner does." (F-4): the giver's part of every fetch.
-fn show(bank: &mut [u8], pages: usize, giver: usize, page: usize) -> Stored
-    requires { ⌜ OfBank pages giver (now bank) × WellFormed (decode (now bank)) × (page < pages) × CanShow giver (decode (now bank)) ⌝ }
-    ensures run { λ r. ⌜ ((n : ℕ) → Came (now (bank .exit)) (n + r .stores) (lostBy giver (r .lost)) (show giver page (running n (decode (now (bank .entry))))))
-        ⌝ }
+// "That giver records shown and flushes as an owner does." (F-4): the giver's part of every fetch, which names the taker.
+fn show(bank: &mut [u8], pages: usize, giver: usize, board: usize, page: usize) -> Stored
+    requires { ⌜ OfBank pages giver (now bank) × WellFormed (decode (now bank)) × (board < length (decode (now bank) .boards)) × (page < pages)
+        × CanShow giver (decode (now bank)) ⌝ }
+    ensures run { λ r. ⌜ ((n : ℕ) → Came (now (bank .exit)) (n + r .stores) (lostBy giver (r .lost))
+        (show giver board page (running n (decode (now (bank .entry)))))) ⌝ }
     ensures few { λ r. ⌜ r .stores ≤ slotCount ⌝ }
 {
     log_through(
@@ -40,15 +41,16 @@ fn show(bank: &mut [u8], pages: usize, giver: usize, page: usize) -> Stored
         pages,
         giver,
         Kind::Shown(page as u8),
+        board as u8,
         [0u8; PAGE_SIZE],
     )
 }
 
 // "All givers record and store first, page by page." (F-3); the first that loses its power ends it.
-fn show_all(bank: &mut [u8], pages: usize, lacking: u16) -> Progress
-    requires { ⌜ OfBank pages 0 (now bank) × WellFormed (decode (now bank)) × CanShowAll (pagesIn pages lacking) (decode (now bank)) ⌝ }
+fn show_all(bank: &mut [u8], pages: usize, board: usize, lacking: u16) -> Progress
+    requires { ⌜ OfBank pages board (now bank) × WellFormed (decode (now bank)) × CanFetch GotCopy board (pagesIn pages lacking) (decode (now bank)) ⌝ }
     ensures run { λ r. ⌜ ((n : ℕ) → Came (now (bank .exit)) (n + r .stores) (lossOf (r .loss))
-        (showAll (pagesIn pages lacking) (running n (decode (now (bank .entry)))))) ⌝ }
+        (showAll board (pagesIn pages lacking) (running n (decode (now (bank .entry)))))) ⌝ }
     ensures few { λ r. ⌜ r .stores ≤ pages * slotCount ⌝ }
 {
     let mut stores: u32 = 0;
@@ -56,7 +58,7 @@ fn show_all(bank: &mut [u8], pages: usize, lacking: u16) -> Progress
     while page < pages {
         if has(page, lacking) {
             let giver = giver(bank, pages, page, false);
-            let shown = show(bank, pages, giver, page);
+            let shown = show(bank, pages, giver, board, page);
             stores += shown.stores;
             if shown.lost {
                 return Progress {
@@ -80,7 +82,7 @@ fn read_fetch(bank: &mut [u8], pages: usize, board: usize, lacking: u16) -> Prog
         (readFetch board (pagesIn pages lacking) (running n (decode (now (bank .entry)))))) ⌝ }
     ensures few { λ r. ⌜ r .stores ≤ pages * slotCount ⌝ }
 {
-    let shown = show_all(bank, pages, lacking);
+    let shown = show_all(bank, pages, board, lacking);
     let loss = shown.loss;
     if let Loss::Nobody = loss {
         give_copies(bank, pages, board, lacking);
@@ -103,6 +105,7 @@ fn get_own(bank: &mut [u8], pages: usize, owner: usize, board: usize, page: usiz
         pages,
         board,
         Kind::Got(CopyOrOwn::GotOwn, page as u8),
+        owner as u8,
         bytes,
     )
 }
@@ -115,7 +118,7 @@ fn write_fetch(bank: &mut [u8], pages: usize, owner: usize, board: usize, page: 
         ⌝ }
     ensures few { λ r. ⌜ r .stores ≤ 2 * slotCount ⌝ }
 {
-    let shown = show(bank, pages, owner, page);
+    let shown = show(bank, pages, owner, board, page);
     if shown.lost {
         return Progress {
             stores: shown.stores,

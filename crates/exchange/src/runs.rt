@@ -26,17 +26,18 @@ pub fn log_through(
     pages: usize,
     board: usize,
     kind: Kind,
+    peer: u8,
     bytes: [u8; PAGE_SIZE],
 ) -> Stored
     requires { ⌜ OfBank pages board (now bank) × WellFormed (decode (now bank)) × (boardAt (decode (now bank)) board .state ≡ Up)
-        × RoomFor 1 (boardAt (decode (now bank)) board) × Recordable pages kind bytes ⌝ }
+        × RoomFor 1 (boardAt (decode (now bank)) board) × Recordable pages kind peer bytes ⌝ }
     ensures run { λ r. ⌜ ((n : ℕ) → Came (now (bank .exit)) (n + r .stores) (lostBy board (r .lost))
-        (flush board (step (note board kind bytes) (running n (decode (now (bank .entry))))))) ⌝ }
+        (flush board (step (note board kind peer bytes) (running n (decode (now (bank .entry))))))) ⌝ }
     ensures few { λ r. ⌜ r .stores ≤ slotCount ⌝ }
 {
     let a = block_at(pages, board);
     let size = block_size(pages);
-    let stored = flush::log_through(&mut bank[a..a + size], pages, kind, bytes);
+    let stored = flush::log_through(&mut bank[a..a + size], pages, kind, peer, bytes);
     if stored.lost {
         forget(bank, pages, board);
     }

@@ -1,18 +1,15 @@
-// A slot of a log: its 24 bytes as a record and back, and the 22 of document 01's form as a record.
-use crate::bytes::get_u16;
+// A slot of a log: its 24 bytes as a record and back.
 use crate::bytes::get_u32;
 use crate::bytes::put_u32;
 use crate::bytes::read_page;
 use crate::bytes::write_page;
 use crate::widths::MARK0_AT;
 use crate::widths::MARK1_AT;
-use crate::widths::OLDER_SLOT_BYTES_AT;
-use crate::widths::OLDER_SLOT_SIZE;
 use crate::widths::RECORD_COUNT_AT;
 use crate::widths::SLOT_BYTES_AT;
 use crate::widths::SLOT_PAGE_AT;
+use crate::widths::SLOT_PEER_AT;
 use crate::widths::SLOT_SIZE;
-use crate::widths::SLOT_ZERO_AT;
 use types::CopyOrOwn;
 use types::Kind;
 use types::Record;
@@ -20,10 +17,9 @@ ghost use mathlib.Core.Path.{_≡_};
 ghost use Prim.Native.Nat.{_+_, _≤_};
 ghost use lib.ListN.{length};
 ghost use Rattle.model.specs.Definitions.Parts.{part, splice};
-ghost use Rattle.model.specs.Definitions.Layout.{pageSize, mark0At, recordCountAt, slotSize, slotSizeIn};
-ghost use Rattle.model.specs.Definitions.Older.{older};
-ghost use Rattle.model.specs.Definitions.Codec.{mark0, mark1, pageOf, kindOf, encodeRecord, decodeRecord, decodeRecordIn};
-ghost use Rattle.fields.specs.SlotParts.{recordOf, kindBytes};
+ghost use Rattle.model.specs.Definitions.Layout.{mark0At, slotSize};
+ghost use Rattle.model.specs.Definitions.Codec.{mark0, mark1, pageOf, kindOf, encodeRecord, decodeRecord};
+ghost use Rattle.fields.specs.SlotParts.{frontBytes};
 
 // "Marks: "GC" got copy, "GO" got own, "SH" shown, "DR" dropped."
 pub const GOT_MARK0: u8 = b'G';
@@ -92,45 +88,32 @@ pub fn page_of(kind: Kind) -> u8
     }
 }
 
-// A record of this count, its mark and page as in any form, its page bytes at a place.
-fn record_with(slot: &[u8], count: u32, at: usize) -> Record
-    requires { ⌜ (recordCountAt ≤ length (now slot)) × (at + pageSize ≤ length (now slot)) ⌝ }
-    ensures { λ r. ⌜ r ≡ recordOf count (now (slot .entry)) at ⌝ }
-{
-    let kind = read_kind(slot[MARK0_AT], slot[MARK1_AT], slot[SLOT_PAGE_AT]);
-    let bytes = read_page(slot, at);
-    Record { count, kind, bytes }
-}
-
 // The record in a slot.
 fn read_record(slot: &[u8]) -> Record
     requires { ⌜ length (now slot) ≡ slotSize ⌝ }
     ensures { λ r. ⌜ r ≡ decodeRecord (now (slot .entry)) ⌝ }
 {
-    record_with(slot, get_u32(slot, RECORD_COUNT_AT), SLOT_BYTES_AT)
+    let count = get_u32(slot, RECORD_COUNT_AT);
+    let kind = read_kind(slot[MARK0_AT], slot[MARK1_AT], slot[SLOT_PAGE_AT]);
+    let peer = slot[SLOT_PEER_AT];
+    let bytes = read_page(slot, SLOT_BYTES_AT);
+    Record {
+        count,
+        kind,
+        peer,
+        bytes,
+    }
 }
 
-// The record in a slot of document 01's form.
-fn read_older_record(slot: &[u8]) -> Record
-    requires { ⌜ length (now slot) ≡ slotSizeIn older ⌝ }
-    ensures { λ r. ⌜ r ≡ decodeRecordIn older (now (slot .entry)) ⌝ }
-{
-    record_with(
-        slot,
-        get_u16(slot, RECORD_COUNT_AT) as u32,
-        OLDER_SLOT_BYTES_AT,
-    )
-}
-
-// A kind over the first bytes of a slot: its mark, its page and the zero byte.
-fn write_kind(slot: &mut [u8], kind: Kind)
+// The first bytes of a slot: a kind's mark and page, and whom the record names.
+fn write_front(slot: &mut [u8], kind: Kind, peer: u8)
     requires { ⌜ length (now slot) ≡ slotSize ⌝ }
-    ensures { λ _. ⌜ now (slot .exit) ≡ splice (now (slot .entry)) mark0At (kindBytes kind) ⌝ }
+    ensures { λ _. ⌜ now (slot .exit) ≡ splice (now (slot .entry)) mark0At (frontBytes kind peer) ⌝ }
 {
     slot[MARK0_AT] = first_mark(kind);
     slot[MARK1_AT] = second_mark(kind);
     slot[SLOT_PAGE_AT] = page_of(kind);
-    slot[SLOT_ZERO_AT] = 0;
+    slot[SLOT_PEER_AT] = peer;
 }
 
 // A record over a whole slot.
@@ -139,7 +122,7 @@ fn write_record(slot: &mut [u8], r: Record)
     ensures { λ _. ⌜ now (slot .exit) ≡ encodeRecord r ⌝ }
 {
     let kind = r.kind;
-    write_kind(slot, kind);
+    write_front(slot, kind, r.peer);
     put_u32(slot, RECORD_COUNT_AT, r.count);
     let bytes = r.bytes;
     write_page(slot, SLOT_BYTES_AT, bytes);
@@ -151,13 +134,6 @@ pub fn read_record_at(s: &[u8], at: usize) -> Record
     ensures { λ r. ⌜ r ≡ decodeRecord (part (now (s .entry)) at slotSize) ⌝ }
 {
     read_record(&s[at..at + SLOT_SIZE])
-}
-
-pub fn read_older_record_at(s: &[u8], at: usize) -> Record
-    requires { ⌜ at + slotSizeIn older ≤ length (now s) ⌝ }
-    ensures { λ r. ⌜ r ≡ decodeRecordIn older (part (now (s .entry)) at (slotSizeIn older)) ⌝ }
-{
-    read_older_record(&s[at..at + OLDER_SLOT_SIZE])
 }
 
 pub fn write_record_at(s: &mut [u8], at: usize, r: Record)

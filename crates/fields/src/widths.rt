@@ -20,14 +20,14 @@ pub const FRAME_BYTES_AT: usize = 1;
 
 pub const FRAME_SIZE: usize = FRAME_BYTES_AT + PAGE_SIZE;
 
-// A slot: mark, page, zero byte, count, page bytes.
+// A slot: mark, page, the named board, count, page bytes.
 pub const MARK0_AT: usize = 0;
 
 pub const MARK1_AT: usize = 1;
 
 pub const SLOT_PAGE_AT: usize = 2;
 
-pub const SLOT_ZERO_AT: usize = 3;
+pub const SLOT_PEER_AT: usize = 3;
 
 pub const RECORD_COUNT_AT: usize = 4;
 
@@ -36,8 +36,3 @@ pub const SLOT_BYTES_AT: usize = RECORD_COUNT_AT + SINCE_SIZE;
 pub const SLOT_SIZE: usize = SLOT_BYTES_AT + PAGE_SIZE;
 
 pub const SLOTS_SIZE: usize = SLOT_COUNT * SLOT_SIZE;
-
-// A slot of document 01's form.
-pub const OLDER_SLOT_BYTES_AT: usize = RECORD_COUNT_AT + OLDER_SINCE_SIZE;
-
-pub const OLDER_SLOT_SIZE: usize = OLDER_SLOT_BYTES_AT + PAGE_SIZE;

@@ -57,8 +57,8 @@ module _ (b : ℕ) {d : ℕ} {Again : Access → Type 0} (other : b ≢ d) where
   move-leaves : {χ ψ : Phase} (s : Run) (m : Move) → s .lost ≡ none → Guard d Again (s .bank) m χ ψ → FormedRun d χ s → boardAt (s .bank) b .state ≢ Up
       → boardAt (does m s .bank) b ≡ boardAt (s .bank) b
   unfolding does note access settle FormedIn droppedIf entryAt
-  move-leaves s _ n (notesShown c p u m l) w i = step-leaves b _ s (boardAt-other c _ (s .bank) b (λ e. i (rw e u)))
-  move-leaves s _ n (notesGot o p u m l r) w i = step-leaves b _ s (boardAt-other d _ (s .bank) b other)
+  move-leaves s _ n (notesShown c p u m l v) w i = step-leaves b _ s (boardAt-other c _ (s .bank) b (λ e. i (rw e u)))
+  move-leaves s _ n (notesGot o p u m l r v) w i = step-leaves b _ s (boardAt-other d _ (s .bank) b other)
   move-leaves s _ n (storesRecord c o u) w i = store-leaves b c _ s (λ e. i (rw e u))
   move-leaves s _ n (storesFrame c p o u) w i = store-leaves b c _ s (λ e. i (rw e u))
   move-leaves s _ n (storesHead c o u) w i = store-leaves b c _ s (λ e. i (rw e u))
@@ -72,12 +72,12 @@ module _ (b : ℕ) {d : ℕ} {Again : Access → Type 0} (other : b ≢ d) where
       (λ l.
       let holds : member b (entryAt (s .bank) p .copies) ≡ false = fits (w .going n) b l .agreed .copies i p (g .page) in
       cc (boardAt-passOwnership-other o d p (s .bank) b l other, ne-eqb b o (λ e. i (rw e (g .secure .up))), holds)))
-  move-leaves s _ n (dropsCopies p l m) w i =
+  move-leaves s _ n (dropsCopies p l own m) w i =
       step-leaves b _ s
-      (leaves-in b (sizes-dropCopies p (s .bank))
+      (leaves-in b (sizes-dropCopies d p (s .bank))
       (λ j.
       let holds : member b (entryAt (s .bank) p .copies) ≡ false = fits (w .going n) b j .agreed .copies i p l in
-      cc (boardAt-dropCopies p (s .bank) b j, holds)))
+      cc (boardAt-dropCopies d p (s .bank) b j, holds)))
   move-leaves s _ n (performs a z can has out) w i = step-leaves b _ s (boardAt-other d _ (s .bank) b other)
   move-leaves s _ n (losesPower l) w i = step-leaves b _ s (boardAt-powerOff-other d (s .bank) b other)
   move-leaves s _ n (setsFuse m p low high) w i = step-leaves b _ s (boardAt-other d _ (s .bank) b other)
@@ -171,8 +171,8 @@ takes-up (behind l) x e = e
 move-awake : {d : ℕ} {Again : Access → Type 0} {χ ψ : Phase} (s : Run) (m : Move) → s .lost ≡ none → Guard d Again (s .bank) m χ ψ → Awake d χ s
     → Awake d ψ (does m s)
 unfolding does UpIn note access onWorking storedFrame storedHead onSpare storedSelector withFuse
-move-awake s _ n (notesShown b p u m l) i = step-awake _ s (states-onBoard b _ (s .bank) refl) (i .going n) (λ x e. e)
-move-awake {d} s _ n (notesGot o p u m l r) i = step-awake _ s (states-onBoard d _ (s .bank) refl) u (λ x e. e)
+move-awake s _ n (notesShown b p u m l v) i = step-awake _ s (states-onBoard b _ (s .bank) refl) (i .going n) (λ x e. e)
+move-awake {d} s _ n (notesGot o p u m l r v) i = step-awake _ s (states-onBoard d _ (s .bank) refl) u (λ x e. e)
 move-awake s _ n (storesRecord b o u) i = store-awake b _ s n (λ x. flushed-storedRecord x .state) (stays-up o (i .going n)) (λ x. up-stays o x _ (i .going n))
 move-awake s _ n (storesFrame b p o u) i = store-awake b _ s n (λ x. refl) (stays-up o (i .going n)) (λ x. up-stays o x _ (i .going n))
 move-awake s _ n (storesHead b o u) i = store-awake b _ s n (λ x. refl) (stays-up o (i .going n)) (λ x. up-stays o x _ (i .going n))
@@ -185,7 +185,7 @@ move-awake s _ n (storesSelector b resumes u v) i = absurd (i .going n)
 move-awake s _ n (storesSelector b closes u v) i = absurd (i .going n)
 move-awake {d} s _ n (givesCopy a o p x c y g u m r) i = step-awake _ s (states-giveCopy o d p (s .bank)) u (takes-up x)
 move-awake {d} s _ n (passesOwnership a o p c y g own v m) i = step-awake _ s (states-passOwnership o d p (s .bank)) (v .up) (λ x e. e)
-move-awake s _ n (dropsCopies p l m) i = step-awake _ s (states-dropCopies p (s .bank)) (i .going n) (λ x e. e)
+move-awake {d} s _ n (dropsCopies p l own m) i = step-awake _ s (states-dropCopies d p (s .bank)) (i .going n) (λ x e. e)
 move-awake {d} s _ n (performs a z can has out) i = step-awake _ s (states-onBoard d _ (s .bank) refl) (can .up) (λ x e. tt)
 move-awake {d} s _ n (losesPower l) i = off-awake s n l
 move-awake {d} s _ n (setsFuse m p low high) i = step-awake _ s (states-onBoard d _ (s .bank) refl) (i .going n) (λ x e. e)

@@ -22,9 +22,11 @@ use Rattle.model.specs.Laws.Boards.{storedRecord-cases, boards-onBoard, directo
 use Rattle.model.specs.Laws.Runs.{lost-not, step-cases}
 use Rattle.model.specs.Laws.Runs.Stores.{burnt-state, burnt-working, burnt-stable}
 use Rattle.model.specs.Laws.Keeps.Clauses.{fits, up-below, onBoard-keeps}
-use Rattle.model.specs.Contracts.{Fits, RoomFor}
+use Rattle.model.specs.Contracts.{Fits, RoomFor, Another}
 use Rattle.model.specs.Laws.Keeps.NotedRecords.{note-keeps, storedRecord-fits}
 use Rattle.model.specs.Laws.Keeps.Stores.{powerOff-keeps}
+use Rattle.model.specs.Laws.Keeps.Peers.{storedRecord-peers}
+use Rattle.model.specs.Laws.Keeps.Rights.{board-byte}
 use Rattle.model.specs.History.Statement.{HistoryEntry, History, ofBoard, zeroMemory, OneMemory}
 use Rattle.history.specs.Rerun.{Rebuilt, trace, final, rebuilt, unstableEntries, volatileTrace}
 use Rattle.history.specs.Invariant.{unstableWrite, settledAs, BoardInvariant, Invariant, nobody}
@@ -145,17 +147,18 @@ pub storedRecord-invariant : {g : ℕ → Option Rebuilt} {h : History} (b : ℕ
 storedRecord-invariant b k q u =
     let f : Fits (k .directory) b (boardAt k b) = fits (q .formed) b (up-below k b u) in
     onBoard-invariant b storedRecord k q
-    (onBoard-keeps b storedRecord k (q .formed) (λ l m. storedRecord-fits (k .directory) b (boardAt k b) m))
+    (onBoard-keeps b storedRecord k (q .formed) (λ l m. storedRecord-fits (k .directory) b (boardAt k b) m)
+    (storedRecord-peers (boardAt k b)))
     (λ c n. refl)
     (λ l t. storedRecord-holds (boardAt k b) t u (f .alone .fields .selected .frames .count))
 
 -- ==== a page shown
 
-pub shown-invariant : {h : History} (o p : ℕ) (k : Bank) → Invariant nobody k h → boardAt k o .state ≡ Up → RoomFor 1 (boardAt k o)
-    → p < length (k .directory) → Invariant nobody (note o (Shown p) (zeros pageSize) k) h
+pub shown-invariant : {h : History} (o b p : ℕ) (k : Bank) → Invariant nobody k h → boardAt k o .state ≡ Up → RoomFor 1 (boardAt k o)
+    → p < length (k .directory) → Another b o k → Invariant nobody (note o (Shown p) b (zeros pageSize) k) h
 unfolding note nobody isGot pageOf
-shown-invariant o p k q u m l =
-    onBoard-invariant o (onWorking (recorded (Shown p) (zeros pageSize))) k q
-    (note-keeps o (Shown p) (zeros pageSize) k (q .formed) u m (recordable-plain (Shown p) refl l))
+shown-invariant o b p k q u m l v =
+    onBoard-invariant o (onWorking (recorded (Shown p) b (zeros pageSize))) k q
+    (note-keeps o (Shown p) b (zeros pageSize) k (q .formed) u m (recordable-plain (Shown p) refl l (board-byte (q .formed) b (v .board))) v)
     (λ c n. refl)
-    (λ i t. shown-holds p (zeros pageSize) t u)
+    (λ i t. shown-holds p b (zeros pageSize) t u)

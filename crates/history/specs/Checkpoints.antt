@@ -19,6 +19,7 @@ use Rattle.model.specs.Laws.Boards.{onBoard-onBoard}
 use Rattle.model.specs.Laws.Runs.Stores.{burnt-state, burnt-working, burnt-stable}
 use Rattle.model.specs.Laws.Keeps.Clauses.{fits, up-below, up-not-replaying, onBoard-keeps}
 use Rattle.model.specs.Laws.Keeps.Checkpoint.{storedSelector-fits, rested-fits}
+use Rattle.model.specs.Laws.Keeps.Peers.{storedSelector-peers, rested-peers}
 use Rattle.model.specs.History.Statement.{HistoryEntry, History, ofBoard, discard}
 use Rattle.model.specs.Moves.{Saved}
 use Rattle.history.specs.Rerun.{Rebuilt, checkpointed, rebuilt}
@@ -125,6 +126,7 @@ module _ {g : ℕ → Option Rebuilt} {h : History} (b : ℕ) (a : OnlyAhead g b
       (λ l m.
       storedSelector-fits (k .directory) b (boardAt k b) m (λ e. up-not-replaying u e)
       (omega (arith, ap length (s .records), log-count (length (k .directory)) (boardAt k b .working .log) (m .alone .fields .working .log))))
+      (storedSelector-peers (boardAt k b))
 
   -- the board may lose power right after the store
   pub selector-may-lose : MayLosePower b (onBoard b storedSelector k) h
@@ -145,7 +147,8 @@ module _ {g : ℕ → Option Rebuilt} {h : History} (b : ℕ) (a : OnlyAhead g b
       ap (onBoard b (onWorking restedWorking)) (onBoard-onBoard b storedSelector burnt k)
       ∙ onBoard-onBoard b (λ z. burnt (storedSelector z)) (onWorking restedWorking) k in
       let v : WellFormed (onBoard b (onWorking restedWorking) j) =
-      onBoard-keeps b (onWorking restedWorking) j w (λ l m. rested-fits (j .directory) b (boardAt j b) m) in
+      onBoard-keeps b (onWorking restedWorking) j w (λ l m. rested-fits (j .directory) b (boardAt j b) m)
+      (rested-peers (boardAt j b)) in
       rw e
       (onBoard-invariant b f k q (rw e at v) (λ c n. sym (a c n))
       (λ l t. selected-holds t u size s (f x) (ap (λ (i : Stable). i .selected) (burnt-stable (storedSelector x))) (burnt-state (storedSelector x) ∙ u)

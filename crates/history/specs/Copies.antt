@@ -43,23 +43,23 @@ quiet-holds {d} {c = c} b p q l n quiet =
     entry-holds q p l (withCopy b)
     (kept-on q p l (withCopy b (entryIn d p)) (λ o. o) (λ m. sym (member-with-other b c (entryIn d p .copies) n) ∙ m) (λ u. clash u quiet))
 
-module _ {d : List Entry} {h : History} {g : Option Rebuilt} {b : ℕ} {x : Board} (q : BoardInvariant d h g b x) (u : x .state ≡ Up) (p : ℕ)
-    (bytes : List ℕ) where
+module _ {d : List Entry} {h : History} {g : Option Rebuilt} {b : ℕ} {x : Board} (q : BoardInvariant d h g b x) (u : x .state ≡ Up)
+    (o p : ℕ) (bytes : List ℕ) where
   abbrev got : Record
-  got = newRecord (Got GotCopy p) bytes (x .working)
+  got = newRecord (Got GotCopy p) o bytes (x .working)
 
   -- the reader: it logs the got, and its frame shows it
   reader-holds : Accepts (settledAs g x) (Logged got) → p < length d → length (x .working .frames) ≡ length d
       → entryIn d p .owner ≢ b → member b (entryIn d p .copies) ≡ false
       → bytes ≡ memoryAfter zeroMemory (h .entries) p
-      → BoardInvariant (update p (withCopy b) d) h (some (next (Logged got) (settledAs g x))) b (tookCopy p bytes x)
+      → BoardInvariant (update p (withCopy b) d) h (some (next (Logged got) (settledAs g x))) b (tookCopy o p bytes x)
   unfolding tookCopy withCopy withFrame onWorking onFrames recorded
   reader-holds a l s other out memory =
       let f : Frame = record { right = Copy; bytes = bytes } in
-      let y : Board = onWorking (recorded (Got GotCopy p) bytes) x in
+      let y : Board = onWorking (recorded (Got GotCopy p) o bytes) x in
       let t : Rebuilt = next (Logged got) (settledAs g x) in
       let r : BoardInvariant d h (some t) b (withFrame p f y) =
-      framed-holds (got-holds q u GotCopy p bytes a other) u p f l s (λ o. absurd (other o)) (λ m. clash m out) in
+      framed-holds (got-holds q u GotCopy p o bytes a other) u p f l s (λ o. absurd (other o)) (λ m. clash m out) in
       entry-holds r p l (withCopy b)
       (record {
         ahead = λ t v e o. absurd (other o);
@@ -78,7 +78,7 @@ module _ (o b p : ℕ) (k : Bank) where
   readerAhead ps =
       record {
         frames = boardAt (giveCopy o b p k) b .working .frames;
-        pending = ps ++ (newRecord (Got GotCopy p) (frameOf k o p .bytes) (boardAt k b .working) ∷ []);
+        pending = ps ++ (newRecord (Got GotCopy p) o (frameOf k o p .bytes) (boardAt k b .working) ∷ []);
       }
 
   giveCopy-directory : giveCopy o b p k .directory ≡ update p (withCopy b) (k .directory)
@@ -87,7 +87,7 @@ module _ (o b p : ℕ) (k : Bank) where
 
   reader-ahead : (g : Option Rebuilt) → b < length (k .boards) → settledAs g (boardAt k b) .frames ≡ boardAt k b .working .frames
       → readerAhead (settledAs g (boardAt k b) .pending)
-      ≡ next (Logged (newRecord (Got GotCopy p) bytesGiven (boardAt k b .working))) (settledAs g (boardAt k b))
+      ≡ next (Logged (newRecord (Got GotCopy p) o bytesGiven (boardAt k b .working))) (settledAs g (boardAt k b))
   unfolding next logged tookCopy withFrame onWorking onFrames recorded rightGot
   reader-ahead g i shows = rw (boardAt-giveCopy-same o b p k i, shows)
 
@@ -97,7 +97,7 @@ module _ (o b p : ℕ) (k : Bank) where
       → p < length (k .directory)
       → frameOf k b p .right ≡ None
       → settledAs (g b) (boardAt k b) .frames ≡ boardAt k b .working .frames
-      → Joins (newRecord (Got GotCopy p) (frameOf k o p .bytes) (boardAt k b .working)) (settledAs (g b) (boardAt k b) .pending)
+      → Joins (newRecord (Got GotCopy p) o (frameOf k o p .bytes) (boardAt k b .working)) (settledAs (g b) (boardAt k b) .pending)
       → frameOf k o p .bytes ≡ memoryAfter zeroMemory (h .entries) p
       → ((c : ℕ) → c < length (k .boards) → unstableWrite c (recoveryPoint (boardAt k c)) p (h .entries) ≡ false)
       → WellFormed (giveCopy o b p k)
@@ -113,7 +113,7 @@ module _ (o b p : ℕ) (k : Bank) where
       byEq c b
       (λ e.
       rw (e, onlyOf-same b ahead, reader-ahead (g b) i shows, boardAt-giveCopy-same o b p k i)
-      (reader-holds (q .boards b i) u p bytesGiven (joins, rw shows lacks) l (t .alone .fields .working .frames .count) (out .0) (out .1) memory))
+      (reader-holds (q .boards b i) u o p bytesGiven (joins, rw shows lacks) l (t .alone .fields .working .frames .count) (out .0) (out .1) memory))
       (λ n. rw (boardAt-giveCopy-other o b p k c n, onlyOf-other b ahead c n) (quiet-holds b p (rw (only c n) at r) l n (quiet c j))))
 
 -- ---- the copies of a page dropped
@@ -125,25 +125,25 @@ unfolding withoutCopies
 kept-holds {d} {c = c} p q l =
     entry-holds q p l withoutCopies (kept-on q p l (withoutCopies (entryIn d p)) (λ o. o) (λ m. clash m (member-none c)) (λ u o e. (o, refl)))
 
-module _ (p : ℕ) (k : Bank) where
-  dropCopies-directory : dropCopies p k .directory ≡ update p withoutCopies (k .directory)
+module _ (w p : ℕ) (k : Bank) where
+  dropCopies-directory : dropCopies w p k .directory ≡ update p withoutCopies (k .directory)
   unfolding dropCopies withoutCopies onEntry dropAt
   dropCopies-directory = refl
 
   -- "each holder records dropped and loses its copy, the copy-set empties": no holder's log is ahead of its frames
   pub dropCopies-invariant : {g : ℕ → Option Rebuilt} {h : History} → Invariant g k h → p < length (k .directory)
       → ((c : ℕ) → member c (entryAt k p .copies) ≡ true → g c ≡ none)
-      → WellFormed (dropCopies p k)
-      → Invariant g (dropCopies p k) h
+      → WellFormed (dropCopies w p k)
+      → Invariant g (dropCopies w p k) h
   unfolding entryAt droppedIf withoutCopies
-  dropCopies-invariant {g} {h} q l settled w =
-      entry-invariant p withoutCopies k (dropCopies p k) q w (boards-dropCopies p k) dropCopies-directory
+  dropCopies-invariant {g} {h} q l settled formed =
+      entry-invariant p withoutCopies k (dropCopies w p k) q formed (boards-dropCopies w p k) dropCopies-directory
       (λ c j r.
-      rw (boardAt-dropCopies p k c j)
+      rw (boardAt-dropCopies w p k c j)
       (cases (BoardInvariant (update p withoutCopies (k .directory)) h (g c) c) (member c (entryAt k p .copies))
       (λ t.
       let n : BoardInvariant (k .directory) h none c (boardAt k c) = rw (settled c t) at r in
       rw (settled c t)
-      (lost-holds p withoutCopies n (holder-up (q .formed) c p j l t) l (fits (q .formed) c j .alone .fields .working .frames .count)
+      (lost-holds w p withoutCopies n (holder-up (q .formed) c p j l t) l (fits (q .formed) c j .alone .fields .working .frames .count)
       (λ e. clash (rw e t) (entry-at (q .formed) p l .ownerBit)) (member-none c) (quiet-held n p l c t)))
       (λ t. kept-holds p r l)))

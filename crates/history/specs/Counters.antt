@@ -20,9 +20,9 @@ use Rattle.types.specs.declared.State.the-variants.{Up, Down, Replaying}
 use Rattle.model.specs.Definitions.Bank.{Working, Board, emptyFrame, emptyLog, onWorking}
 use Rattle.model.specs.Definitions.WellFormed.{isGot}
 use Rattle.model.specs.Definitions.Steps.{poweredOff, appended, recorded, movedRecord, storedRecord, storedSelector, restedWorking, Access, accessed}
-use Rattle.model.specs.Definitions.Replay.{loaded, recordsLeft, used, useUp, usedUp, due, tookGot, tookDue, replayOver, settled, replayed, countSum}
+use Rattle.model.specs.Definitions.Replay.{loaded, recordsLeft, used, useUp, usedUp, tookGot, tookDue, replayOver, settled, replayed, countSum}
 use Rattle.model.specs.Definitions.Replay.{recoveryPoint}
-use Rattle.model.specs.Laws.Logic.{byBool, byOption}
+use Rattle.model.specs.Laws.Logic.{byBool}
 use Rattle.model.specs.Laws.Boards.{storedRecord-cases}
 use Rattle.model.specs.Laws.Keeps.Clauses.{up-not-down, up-not-replaying, down-not-replaying}
 use Rattle.model.specs.History.RecoveryStatement.{SameCounters, Change, Made, Stored, Selected, Lost, Accessed, Loaded, Took, Replayed, Settled, Quiet}
@@ -99,10 +99,10 @@ usedUp-using x = useUp-using (recordsLeft x) x refl
 
 -- ---- each change
 
-recorded-balanced : (kind : Kind) (bytes : List ℕ) (x : Board) → x .state ≡ Up → Balanced x → Balanced (onWorking (recorded kind bytes) x)
+recorded-balanced : (kind : Kind) (peer : ℕ) (bytes : List ℕ) (x : Board) → x .state ≡ Up → Balanced x → Balanced (onWorking (recorded kind peer bytes) x)
 unfolding onWorking recorded appended recoveryPoint
-recorded-balanced kind bytes x u h =
-    up-balanced u (omega (arith, h .up u, countSum-one (x .working .log .records) (record { count = x .working .since; kind = kind; bytes = bytes })))
+recorded-balanced kind peer bytes x u h =
+    up-balanced u (omega (arith, h .up u, countSum-one (x .working .log .records) (record { count = x .working .since; kind = kind; peer = peer; bytes = bytes })))
 
 storedRecord-balanced : (x : Board) → x .state ≡ Up → Balanced x → Balanced (storedRecord x)
 unfolding movedRecord appended recoveryPoint countSum
@@ -204,7 +204,7 @@ quiet-balanced {x} {y} s h =
     }
 
 pub change-balanced : {x y : Board} → Change x y → Balanced x → Balanced y
-change-balanced {x} (Made kind bytes u e) h = rw e (recorded-balanced kind bytes x u h)
+change-balanced {x} (Made kind peer bytes u e) h = rw e (recorded-balanced kind peer bytes x u h)
 change-balanced {x} (Stored u e) h = rw e (storedRecord-balanced x u h)
 change-balanced {x} (Selected u n r e) h = rw e (selected-balanced x u n r)
 change-balanced {x} (Lost e) h = rw e (poweredOff-balanced x)

@@ -55,9 +55,9 @@ onBoard-number b f k h c l =
     (λ e. rw e (ap (λ (x : Board). x .working .number) (boardAt-same b f k (rw e at l)) ∙ h))
     (λ n. ap (λ (x : Board). x .working .number) (boardAt-other b f k c n))
 
-droppedIf-number : (t : Bool) (p : ℕ) (x : Board) → droppedIf t p x .working .number ≡ x .working .number
+droppedIf-number : (t : Bool) (w p : ℕ) (x : Board) → droppedIf t w p x .working .number ≡ x .working .number
 unfolding droppedIf dropped withFrame onWorking onFrames recorded
-droppedIf-number t p x = cases (λ (y : Board). y .working .number ≡ x .working .number) t (λ e. refl) (λ e. refl)
+droppedIf-number t w p x = cases (λ (y : Board). y .working .number ≡ x .working .number) t (λ e. refl) (λ e. refl)
 
 storedRecord-number : (x : Board) → storedRecord x .working .number ≡ x .working .number
 unfolding movedRecord
@@ -83,9 +83,9 @@ module _ (s : Run) (n : s .lost ≡ none) (c : ℕ) where
 move-number : {d : ℕ} {Again : Access → Type 0} {χ ψ : Phase} (s : Run) (m : Move) → s .lost ≡ none → Guard d Again (s .bank) m χ ψ
     → does m s .lost ≡ none → (c : ℕ) → c < length (s .bank .boards) → c ≢ d → accessNumber c (does m s .bank) ≡ accessNumber c (s .bank)
 unfolding does note access settle onWorking recorded onSpare storedFrame storedHead storedSelector restedWorking
-move-number s _ n (notesShown b p u m i) z c l e =
-    step-number s n c _ (onBoard-number b (onWorking (recorded (Shown p) (zeros pageSize))) (s .bank) refl c l)
-move-number {d} s _ n (notesGot o p u m i r) z c l e = other-number s n c _ (boardAt-other d _ (s .bank) c e)
+move-number {d} s _ n (notesShown b p u m i v) z c l e =
+    step-number s n c _ (onBoard-number b (onWorking (recorded (Shown p) d (zeros pageSize))) (s .bank) refl c l)
+move-number {d} s _ n (notesGot o p u m i r v) z c l e = other-number s n c _ (boardAt-other d _ (s .bank) c e)
 move-number s _ n (storesRecord b o u) z c l e = store-number s n c b storedRecord storedRecord-number z l
 move-number s _ n (storesFrame b p o u) z c l e = store-number s n c b (storedFrame p) (λ x. refl) z l
 move-number s _ n (storesHead b o u) z c l e = store-number s n c b storedHead (λ x. refl) z l
@@ -97,9 +97,9 @@ move-number s _ n (storesSelector b o u v) z c l e =
 move-number {d} s _ n (givesCopy a o p x y i g u m r) z c l e = other-number s n c _ (boardAt-giveCopy-other o d p (s .bank) c e)
 move-number {d} s _ n (passesOwnership a o p y i g own v m) z c l e =
     step-number s n c _
-    (ap (λ (x : Board). x .working .number) (boardAt-passOwnership-other o d p (s .bank) c l e) ∙ droppedIf-number _ p (boardAt (s .bank) c))
-move-number s _ n (dropsCopies p i m) z c l e =
-    step-number s n c _ (ap (λ (x : Board). x .working .number) (boardAt-dropCopies p (s .bank) c l) ∙ droppedIf-number _ p (boardAt (s .bank) c))
+    (ap (λ (x : Board). x .working .number) (boardAt-passOwnership-other o d p (s .bank) c l e) ∙ droppedIf-number _ d p (boardAt (s .bank) c))
+move-number {d} s _ n (dropsCopies p i own m) z c l e =
+    step-number s n c _ (ap (λ (x : Board). x .working .number) (boardAt-dropCopies d p (s .bank) c l) ∙ droppedIf-number _ d p (boardAt (s .bank) c))
 move-number {d} s _ n (performs a i can has out) z c l e = other-number s n c _ (boardAt-other d _ (s .bank) c e)
 move-number {d} s _ n (losesPower i) z c l e = other-number s n c _ (boardAt-powerOff-other d (s .bank) c e)
 move-number {d} s _ n (setsFuse m p low high) z c l e = other-number s n c _ (boardAt-other d _ (s .bank) c e)
@@ -164,15 +164,15 @@ selects-none closes = refl
 move-recoverable : {d : ℕ} {Again : Access → Type 0} {k : Bank} {χ ψ : Phase} (s : Run) (m : Move) → s .lost ≡ none → Guard d Again (s .bank) m χ ψ
     → Grants d k χ s → Each (λ o. Recoverable o k (s .bank)) (giversSoFar ψ)
 unfolding giversSoFar
-move-recoverable s _ n (notesShown b p u m l) h = each-nil
-move-recoverable s _ n (notesGot x p u m l r) h = each-nil
+move-recoverable s _ n (notesShown b p u m l v) h = each-nil
+move-recoverable s _ n (notesGot x p u m l r v) h = each-nil
 move-recoverable s _ n (storesRecord b x u) h = h .gave n
 move-recoverable s _ n (storesFrame b p x u) h = h .gave n
 move-recoverable s _ n (storesHead b x u) h = h .gave n
 move-recoverable s _ n (storesSelector b x u v) h = rw (selects-none x) each-nil
 move-recoverable s _ n (givesCopy a o p x c i g u m r) h = takes-given x (h .gave n) (giver-recoverable s n h o p g)
 move-recoverable s _ n (passesOwnership a o p c i g own v m) h = each-cons (giver-recoverable s n h o p g) each-nil
-move-recoverable s _ n (dropsCopies p l m) h = each-nil
+move-recoverable s _ n (dropsCopies p l own m) h = each-nil
 move-recoverable s _ n (performs a i can has out) h = rw (performs-given i) at (h .gave n)
 move-recoverable s _ n (losesPower l) h = each-nil
 move-recoverable s _ n (setsFuse m p low high) h = each-nil

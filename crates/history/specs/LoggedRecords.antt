@@ -84,37 +84,37 @@ module _ {d : List Entry} {h : History} {g : Option Rebuilt} {b : ℕ} {x : Boar
 -- ==== a record is logged
 
 module _ {d : List Entry} {h : History} {g g' : Option Rebuilt} {b : ℕ} {x : Board} (q : BoardInvariant d h g b x) (u : x .state ≡ Up)
-    (kind : Kind) (bytes : List ℕ) where
+    (kind : Kind) (peer : ℕ) (bytes : List ℕ) where
   -- The record is one that the board may log now, a shown if it owns the page; `g'` is what is ahead then.
-  pub recorded-holds : Accepts (settledAs g x) (Logged (newRecord kind bytes (x .working)))
+  pub recorded-holds : Accepts (settledAs g x) (Logged (newRecord kind peer bytes (x .working)))
       → (entryIn d (pageOf kind) .owner ≡ b → isShown kind ≡ true)
-      → settledAs g' (onWorking (recorded kind bytes) x) ≡ next (Logged (newRecord kind bytes (x .working))) (settledAs g x)
+      → settledAs g' (onWorking (recorded kind peer bytes) x) ≡ next (Logged (newRecord kind peer bytes (x .working))) (settledAs g x)
       → ((p : ℕ) (t : Rebuilt) → p < length d → g' ≡ some t → entryIn d p .owner ≡ b → frameAt (t .frames) p ≡ frameAt (x .working .frames) p)
-      → BoardInvariant d h g' b (onWorking (recorded kind bytes) x)
+      → BoardInvariant d h g' b (onWorking (recorded kind peer bytes) x)
   unfolding onWorking recorded appended
   recorded-holds a s e ahead =
-      let y : Board = onWorking (recorded kind bytes) x in
+      let y : Board = onWorking (recorded kind peer bytes) x in
       let es : List HistoryEntry = ofBoard b (h .entries) in
-      let same : rebuilt y es ≡ rebuilt x es = rebuilt-same x y (onWorking-area (recorded kind bytes) x) es es refl in
-      let point : recoveryPoint y ≡ recoveryPoint x = recoveryPoint-same x y (onWorking-area (recorded kind bytes) x) in
+      let same : rebuilt y es ≡ rebuilt x es = rebuilt-same x y (onWorking-area (recorded kind peer bytes) x) es es refl in
+      let point : recoveryPoint y ≡ recoveryPoint x = recoveryPoint-same x y (onWorking-area (recorded kind peer bytes) x) in
       record {
         counts = up-counts y es (h .cursor b) u (counts-up q u);
-        stable = stable-same x y (onWorking-area (recorded kind bytes) x) es es refl (q .stable .reached) (q .stable);
-        explained = up-explained g' y es u (rw e (recorded-volatile x es (settledAs g x) (explained-up q u) kind bytes a));
+        stable = stable-same x y (onWorking-area (recorded kind peer bytes) x) es es refl (q .stable .reached) (q .stable);
+        explained = up-explained g' y es u (rw e (recorded-volatile x es (settledAs g x) (explained-up q u) kind peer bytes a));
         ahead = λ p t j v w o. ahead p t j w o;
         copies = q .copies;
         owned = λ p j o. rw (same, point) (q .owned p j o);
         exclusive = λ p. rw point (q .exclusive p);
         unstable = λ p j v. q .unstable p j (rw point at v);
-        volatile = each-append (x .working .log .records) (newRecord kind bytes (x .working) ∷ []) (q .volatile) (each-cons s each-nil);
+        volatile = each-append (x .working .log .records) (newRecord kind peer bytes (x .working) ∷ []) (q .volatile) (each-cons s each-nil);
       }
 
 -- a shown is logged where nothing is ahead
-pub shown-holds : {d : List Entry} {h : History} {b : ℕ} {x : Board} (p : ℕ) (bytes : List ℕ) → BoardInvariant d h none b x → x .state ≡ Up
-    → BoardInvariant d h none b (onWorking (recorded (Shown p) bytes) x)
+pub shown-holds : {d : List Entry} {h : History} {b : ℕ} {x : Board} (p o : ℕ) (bytes : List ℕ) → BoardInvariant d h none b x → x .state ≡ Up
+    → BoardInvariant d h none b (onWorking (recorded (Shown p) o bytes) x)
 unfolding settledAs Accepts Joins MayLog next logged onWorking recorded isShown
-shown-holds p bytes q u =
-    recorded-holds q u (Shown p) bytes (tt, tt) (λ o. refl) refl (λ r t j w. let z : _≡_ {A = ℕ} 0 1 = cc in absurd (omega arith))
+shown-holds p o bytes q u =
+    recorded-holds q u (Shown p) o bytes (tt, tt) (λ i. refl) refl (λ r t j w. let z : _≡_ {A = ℕ} 0 1 = cc in absurd (omega arith))
 
 -- ==== the oldest volatile record is stored
 

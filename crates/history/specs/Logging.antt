@@ -186,8 +186,8 @@ module _ (x : Board) (r : Record) (rs : List Record) (head : x .working .log .re
 -- ==== an up board makes an entry, or logs a record
 
 -- the record that a board logs
-abbrev pub newRecord : Kind → List ℕ → Working → Record
-newRecord k bs w = record { count = w .since; kind = k; bytes = bs }
+abbrev pub newRecord : Kind → (peer : ℕ) → List ℕ → Working → Record
+newRecord k o bs w = record { count = w .since; kind = k; peer = o; bytes = bs }
 
 -- the working part changes: the area stays
 pub onWorking-area : (f : Working → Working) (x : Board) → onWorking f x .stable .selected ≡ x .stable .selected
@@ -252,19 +252,19 @@ module _ (x : Board) (es : List HistoryEntry) (t : Rebuilt) (v : VolatileExplain
       (omega (arith, v .rest, length-append es (e ∷ [])))
       h
 
-  module _ (k : Kind) (bs : List ℕ) where
-    recorded-trace : volatileTrace (onWorking (recorded k bs) x) es ≡ volatileTrace x es ++ (Logged (newRecord k bs (x .working)) ∷ [])
+  module _ (k : Kind) (o : ℕ) (bs : List ℕ) where
+    recorded-trace : volatileTrace (onWorking (recorded k o bs) x) es ≡ volatileTrace x es ++ (Logged (newRecord k o bs (x .working)) ∷ [])
     unfolding volatileTrace unstableEntries onWorking recorded appended recoveryPoint
-    recorded-trace = trace-record (x .working .log .records) (newRecord k bs (x .working)) (unstableEntries x es) (sym unstable-length)
+    recorded-trace = trace-record (x .working .log .records) (newRecord k o bs (x .working)) (unstableEntries x es) (sym unstable-length)
 
-    pub recorded-volatile : Accepts t (Logged (newRecord k bs (x .working)))
-        → VolatileExplains (onWorking (recorded k bs) x) es (next (Logged (newRecord k bs (x .working))) t)
+    pub recorded-volatile : Accepts t (Logged (newRecord k o bs (x .working)))
+        → VolatileExplains (onWorking (recorded k o bs) x) es (next (Logged (newRecord k o bs (x .working))) t)
     unfolding onWorking recorded appended recoveryPoint
     recorded-volatile h =
-        volatile-one (onWorking (recorded k bs) x) es (Logged (newRecord k bs (x .working)))
-        (rebuilt-same x (onWorking (recorded k bs) x) (onWorking-area (recorded k bs) x) es es refl)
+        volatile-one (onWorking (recorded k o bs) x) es (Logged (newRecord k o bs (x .working)))
+        (rebuilt-same x (onWorking (recorded k o bs) x) (onWorking-area (recorded k o bs) x) es es refl)
         recorded-trace
-        (omega (arith, v .rest, countSum-one (x .working .log .records) (newRecord k bs (x .working))))
+        (omega (arith, v .rest, countSum-one (x .working .log .records) (newRecord k o bs (x .working))))
         h
 
 -- ==== nothing volatile

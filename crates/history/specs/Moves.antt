@@ -43,6 +43,7 @@ use Rattle.model.specs.Laws.Keeps.Clauses.{fits, onBoard-keeps, up-below, up-no
 use Rattle.model.specs.Laws.Keeps.Rights.{right-from}
 use Rattle.model.specs.Laws.Keeps.Stores.{store-keeps, poweredOff-burnt}
 use Rattle.model.specs.Laws.Keeps.Checkpoint.{storedFrame-fits, storedHead-fits}
+use Rattle.model.specs.Laws.Keeps.Peers.{storedFrame-peers, storedHead-peers}
 use Rattle.model.specs.Laws.Moves.Formed.{FormedIn, FormedRun, formed-begun, selects-stores, run-formed, induct-formed}
 use Rattle.model.specs.Laws.Moves.Calls.{feeds, call-moves}
 use Rattle.model.specs.Laws.Codes.Ends.{power-lost}
@@ -287,16 +288,16 @@ giver-quiet k {h = h} o p q l r s c i =
       | inr held ↦ quiet-held (q .boards c i) p l o held
     ]
 
-note-frames : (b : ℕ) (kind : Kind) (bytes : List ℕ) (k : Bank) → SameFrames k (note b kind bytes k)
+note-frames : (b : ℕ) (kind : Kind) (peer : ℕ) (bytes : List ℕ) (k : Bank) → SameFrames k (note b kind peer bytes k)
 unfolding note onWorking recorded
-note-frames b kind bytes k c =
+note-frames b kind peer bytes k c =
     byEq c b
     (λ e.
     elim (decLt b (length (k .boards))) [
-      | yes l ↦ rw (e, boardAt-same b (onWorking (recorded kind bytes)) k l)
-      | no n ↦ rw (onBoard-out b (onWorking (recorded kind bytes)) k (omega arith))
+      | yes l ↦ rw (e, boardAt-same b (onWorking (recorded kind peer bytes)) k l)
+      | no n ↦ rw (onBoard-out b (onWorking (recorded kind peer bytes)) k (omega arith))
     ])
-    (λ n. rw (boardAt-other b (onWorking (recorded kind bytes)) k c n))
+    (λ n. rw (boardAt-other b (onWorking (recorded kind peer bytes)) k c n))
 
 -- ==== replays
 
@@ -473,12 +474,12 @@ copying {d} {p = p} k (behind {os} {ps} l) q =
     }
 
 -- the got joins what is pending
-copy-joins : {d : ℕ} {h : History} {a : Access} {p : ℕ} (k : Bank) (bytes : List ℕ) → Copying d h a p k → (ps : List Record)
+copy-joins : {d : ℕ} {h : History} {a : Access} {p : ℕ} (k : Bank) (o : ℕ) (bytes : List ℕ) → Copying d h a p k → (ps : List Record)
     → Each (λ (r : Record). pageOf (r .kind) < p) ps → (ps ≢ [] → boardAt k d .working .since ≡ 0)
-    → Joins (newRecord (Got GotCopy p) bytes (boardAt k d .working)) ps
+    → Joins (newRecord (Got GotCopy p) o bytes (boardAt k d .working)) ps
 unfolding Joins pageOf
-copy-joins k bytes c [] lower since = tt
-copy-joins k bytes c (q ∷ qs) lower since = (since (λ e. never (cc)), refl, lower)
+copy-joins k o bytes c [] lower since = tt
+copy-joins k o bytes c (q ∷ qs) lower since = (since (λ e. never (cc)), refl, lower)
 
 takes-now : {d o p : ℕ} {a : Access} {φ ψ : Phase} → TakesCopy a o p φ ψ → (f : Bank → Bank) (s : Run) → s .lost ≡ none → FormedRun d ψ (step f s)
     → WellFormed (f (s .bank))
@@ -495,12 +496,12 @@ module _ {d : ℕ} (h : History) (a : Access) (o p : ℕ) (k : Bank) (copy : tak
   copied c ps e =
       let qs : List Record = settledAs (c .ahead d) (boardAt k d) .pending in
       let bytes : List ℕ = frameOf k o p .bytes in
-      let own : Record = newRecord (Got GotCopy p) bytes (boardAt k d .working) in
+      let own : Record = newRecord (Got GotCopy p) o bytes (boardAt k d .working) in
       let i : o < length (k .boards) = up-below k o (g .secure .up) in
       record {
         ahead = readerAhead o d p k qs;
         holds =
-            giveCopy-invariant o d p k (c .holds) (c .only) u (g .page) none-yet (c .shows) (copy-joins k bytes c qs (c .lower) (c .since))
+            giveCopy-invariant o d p k (c .holds) (c .only) u (g .page) none-yet (c .shows) (copy-joins k o bytes c qs (c .lower) (c .since))
             (right-frame (c .holds .boards o i) (fits (c .holds .formed) o i) (g .secure .up) p (g .page) (g .right))
             (giver-quiet k o p (c .holds) (g .page) (g .right) (g .secure))
             formed;
@@ -531,17 +532,17 @@ module _ (d : ℕ) (h : History) {Again : Access → Type 0} (premise : (a : Acc
   move-holds : {χ ψ : Phase} (s : Run) (m : Move) → s .lost ≡ none → Guard d Again (s .bank) m χ ψ → FormedRun d χ s → FormedRun d ψ (does m s)
       → RunMeets (HoldsIn d h χ) h s → RunMeets (HoldsIn d h ψ) h (does m s)
   unfolding does HoldsIn FormedIn settle nobody fed lostAt frameOf storedFrame storedHead movedRecord onSpare Agrees Serves pageOf
-  move-holds s _ n (notesShown b p u m l) w v q = step-meets _ s q (λ e i. shown-invariant b p (s .bank) i u m l)
-  move-holds s _ n (notesGot o p u m l r) w v q =
+  move-holds s _ n (notesShown b p u m l x) w v q = step-meets _ s q (λ e i. shown-invariant b d p (s .bank) i u m l x)
+  move-holds s _ n (notesGot o p u m l r x) w v q =
       let k : Bank = s .bank in
       let bytes : List ℕ = frameOf k o p .bytes in
       step-meets _ s q
       (λ e i.
       record {
-        ahead = writerAhead d p bytes k;
-        holds = gotOwn-invariant d p bytes k i u l r (step-now _ s n v);
-        frames = rw (note-frames d (Got GotOwn p) bytes k d, note-frames d (Got GotOwn p) bytes k o);
-        got = newRecord (Got GotOwn p) bytes (boardAt k d .working);
+        ahead = writerAhead d p o bytes k;
+        holds = gotOwn-invariant d p o bytes k i u l r (step-now _ s n v);
+        frames = rw (note-frames d (Got GotOwn p) o bytes k d, note-frames d (Got GotOwn p) o bytes k o);
+        got = newRecord (Got GotOwn p) o bytes (boardAt k d .working);
         kind = refl;
         pending = refl;
       })
@@ -554,14 +555,16 @@ module _ (d : ℕ) (h : History) {Again : Access → Type 0} (premise : (a : Acc
       let k : Bank = s .bank in
       stored-meets b (storedFrame p) s n (run-formed o w) (up-below k b u) (λ y. refl) x
       (spare-invariant b (storedFrame p) k (x .holds) (frame-view p)
-      (onBoard-keeps b (storedFrame p) k (run-formed o w) (λ l f. storedFrame-fits (k .directory) b p (boardAt k b) f)))
+      (onBoard-keeps b (storedFrame p) k (run-formed o w) (λ l f. storedFrame-fits (k .directory) b p (boardAt k b) f)
+      (storedFrame-peers p (boardAt k b))))
   move-holds s _ n (storesHead b o u) w v q =
       let x : Opened d h b _ (s .bank) = opens (s .bank) o (q .going n) in
       let k : Bank = s .bank in
       let formed : WellFormed k = run-formed o w in
       stored-meets b storedHead s n formed (up-below k b u) (λ y. refl) x
       (spare-invariant b storedHead k (x .holds) head-view
-      (onBoard-keeps b storedHead k formed (λ l f. storedHead-fits (k .directory) b (boardAt k b) (formed .sizes .pages) f)))
+      (onBoard-keeps b storedHead k formed (λ l f. storedHead-fits (k .directory) b (boardAt k b) (formed .sizes .pages) f)
+      (storedHead-peers (boardAt k b))))
   move-holds s _ n (storesSelector b z u saved) w v q =
       let k : Bank = s .bank in
       let o : MayStore d b _ = selects-stores z in
@@ -594,8 +597,8 @@ module _ (d : ℕ) (h : History) {Again : Access → Type 0} (premise : (a : Acc
         pages = rw (i .pending, i .kind);
         since = taker-since o d p k l ∙ y .since;
       })
-  move-holds s _ n (dropsCopies p l m) w v q =
-      step-meets _ s q (λ e i. dropCopies-invariant p (s .bank) i l (λ c t. refl) (step-now _ s n v))
+  move-holds s _ n (dropsCopies p l own m) w v q =
+      step-meets _ s q (λ e i. dropCopies-invariant d p (s .bank) i l (λ c t. refl) (step-now _ s n v))
   move-holds s _ n (performs a z can has out) w v q =
       step-meets _ s q (λ e i. begins-over (s .bank) z i can has out (step-now _ s n v))
   move-holds s _ n (losesPower l) w v q =

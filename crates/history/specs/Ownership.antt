@@ -42,24 +42,24 @@ use Rattle.history.specs.Rights.{entry-invariant}
 -- ---- the writer logs its got
 
 -- what the writer's log explains then: the page is its own there, before the directory says so
-abbrev pub writerAhead : ℕ → ℕ → List ℕ → Bank → Rebuilt
-writerAhead w p bytes k =
+abbrev pub writerAhead : (w p o : ℕ) → List ℕ → Bank → Rebuilt
+writerAhead w p o bytes k =
     record {
       frames = set (boardAt k w .working .frames) p (record { right = Own; bytes = bytes });
-      pending = newRecord (Got GotOwn p) bytes (boardAt k w .working) ∷ [];
+      pending = newRecord (Got GotOwn p) o bytes (boardAt k w .working) ∷ [];
     }
 
 -- "writer records got own": an up board without the right own
-pub gotOwn-invariant : (w p : ℕ) (bytes : List ℕ) (k : Bank) {h : History} → Invariant nobody k h → boardAt k w .state ≡ Up → p < length (k .directory)
+pub gotOwn-invariant : (w p o : ℕ) (bytes : List ℕ) (k : Bank) {h : History} → Invariant nobody k h → boardAt k w .state ≡ Up → p < length (k .directory)
     → frameOf k w p .right ≢ Own
-    → WellFormed (note w (Got GotOwn p) bytes k)
-    → Invariant (onlyOf w (writerAhead w p bytes k)) (note w (Got GotOwn p) bytes k) h
+    → WellFormed (note w (Got GotOwn p) o bytes k)
+    → Invariant (onlyOf w (writerAhead w p o bytes k)) (note w (Got GotOwn p) o bytes k) h
 unfolding note nobody entryAt frameOf Accepts Joins MayLog LacksFor settledAs next logged rightGot
-gotOwn-invariant w p bytes k q u l lacks formed =
-    onBoard-invariant w (onWorking (recorded (Got GotOwn p) bytes)) k q formed (onlyOf-other w (writerAhead w p bytes k))
+gotOwn-invariant w p o bytes k q u l lacks formed =
+    onBoard-invariant w (onWorking (recorded (Got GotOwn p) o bytes)) k q formed (onlyOf-other w (writerAhead w p o bytes k))
     (λ i r.
-    rw (onlyOf-same w (writerAhead w p bytes k))
-    (got-holds r u GotOwn p bytes (tt, lacks) (not-owner (q .formed) w p u l lacks)))
+    rw (onlyOf-same w (writerAhead w p o bytes k))
+    (got-holds r u GotOwn p o bytes (tt, lacks) (not-owner (q .formed) w p u l lacks)))
 
 -- ---- the page passes
 
@@ -140,7 +140,7 @@ module _ (o w p : ℕ) (k : Bank) where
       rw (boardAt-passOwnership-other o w p k c m n, onlyOf-other w t c n)
       (cases (BoardInvariant (update p (ownedBy w) (k .directory)) h none c) (eqb c o || member c (entryAt k p .copies))
       (λ s.
-      lost-holds p (ownedBy w) z
+      lost-holds w p (ownedBy w) z
       (byBool (eqb c o) (λ a. rw (eqb-true c o a) up) (λ a. holder-up (q .formed) c p m l (rw a at s)))
       l (fits (q .formed) c m .alone .fields .working .frames .count) (λ a. n (sym a)) (member-none c) (still c m))
       (λ s.

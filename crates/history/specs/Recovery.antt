@@ -17,7 +17,6 @@ use Rattle.model.specs.Definitions.Replay.{loaded, recordsLeft, usedUp, replayO
 use Rattle.model.specs.Definitions.Calls.{Call, callBank}
 use Rattle.model.specs.Laws.Boards.{storedRecord-cases}
 use Rattle.model.specs.Laws.Fresh.{fresh-boards, fresh-board, fresh-wellFormed}
-use Rattle.model.specs.Laws.Runs.Stores.{recordsOf}
 use Rattle.model.specs.Laws.Keeps.Clauses.{up-not-replaying}
 use Rattle.model.specs.History.RecoveryStatement.{Change, Made, Stored, Selected, Lost, Accessed, Loaded, Took, Replayed, Settled, Quiet, Changes, unchanged}
 use Rattle.model.specs.History.RecoveryStatement.{next, Demand, noDemand, firstStored, demandAfter, demanded, reached}
@@ -30,6 +29,7 @@ use Rattle.history.specs.Counters.Spacing.{Spaced, Orderly}
 use Rattle.history.specs.Counters.BoardsInProgress.{changes-trans, Advance, Advances, Nobody}
 use Rattle.history.specs.Counters.Moves.{call-advances}
 use Rattle.model.specs.Laws.Moves.Calls.{call-keeps}
+use Rattle.model.specs.Contracts.{recordsOf}
 
 -- ==== the counters of every board, between calls
 
@@ -94,7 +94,7 @@ same-rises x y e = omega (arith, recoveryPoint-same x y e)
 
 change-rises : {x y : Board} → Change x y → Balanced x → recoveryPoint x ≤ recoveryPoint y
 unfolding onWorking poweredOff usedUp loaded replayed settled
-change-rises {x} {y} (Made kind bytes u e) h = same-rises x y (rw e)
+change-rises {x} {y} (Made kind peer bytes u e) h = same-rises x y (rw e)
 change-rises {x} {y} (Stored u e) h = rw e (stored-rises x)
 change-rises {x} {y} (Selected u n r e) h = rw (e, selected-point x n r) (omega (arith, h .up u))
 change-rises {x} {y} (Lost e) h = same-rises x y (rw e)
@@ -173,12 +173,12 @@ stored-met x d h =
     let f : firstStored d ≡ record { made = t .1; point = t .0 } = cc (t .2) in
     rw f (moved-met x r rs (t .0) (t .1) (t .3) (t .4)))
 
-made-met : (kind : Kind) (bytes : List ℕ) (x : Board) (d : Demand) → x .state ≡ Up → Balanced x → Met x d
-    → Met (onWorking (recorded kind bytes) x) (record { made = d .made ++ (x .working .number ∷ []); point = d .point })
+made-met : (kind : Kind) (peer : ℕ) (bytes : List ℕ) (x : Board) (d : Demand) → x .state ≡ Up → Balanced x → Met x d
+    → Met (onWorking (recorded kind peer bytes) x) (record { made = d .made ++ (x .working .number ∷ []); point = d .point })
 unfolding onWorking recorded appended
-made-met kind bytes x d u b h =
-    let y : Board = onWorking (recorded kind bytes) x in
-    let r : Record = record { count = x .working .since; kind = kind; bytes = bytes } in
+made-met kind peer bytes x d u b h =
+    let y : Board = onWorking (recorded kind peer bytes) x in
+    let r : Record = record { count = x .working .since; kind = kind; peer = peer; bytes = bytes } in
     let e : recoveryPoint y ≡ recoveryPoint x = recoveryPoint-same x y refl in
     record {
       point = h .point ∙ sym e;
@@ -196,7 +196,7 @@ lost-met x d h = record { point = h .point ∙ sym (recoveryPoint-same x (powere
 
 change-met : {x y : Board} (c : Change x y) (d : Demand) → Balanced x → Met x d → Met y (demandAfter c d)
 unfolding demandAfter onWorking accessed loaded usedUp replayed settled
-change-met {x} {y} (Made kind bytes u e) d b h = rw e (made-met kind bytes x d u b h)
+change-met {x} {y} (Made kind peer bytes u e) d b h = rw e (made-met kind peer bytes x d u b h)
 change-met {x} {y} (Stored u e) d b h = rw e (stored-met x d h)
 change-met {x} {y} (Selected u n r e) d b h = rw e (selected-met x n r)
 change-met {x} {y} (Lost e) d b h = rw e (lost-met x d h)

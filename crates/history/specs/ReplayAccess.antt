@@ -23,6 +23,7 @@ use Rattle.model.specs.Laws.Keeps.Clauses.{but, onBoard-but, isReplaying-replay
 use Rattle.model.specs.Contracts.{Fits, InReplay, WellFormedBut, Entered}
 use Rattle.model.specs.Laws.Keeps.Replay.{loaded-inReplay, usedUp-inReplay}
 use Rattle.model.specs.Laws.Keeps.Entered.{board-taken, entered, fitting, below-taken, taken-inReplay, replayed-keeps, live-can}
+use Rattle.model.specs.Laws.Keeps.Peers.{loaded-peers, usedUp-peers}
 use Rattle.model.specs.Laws.Moves.Calls.{ended-formed}
 use Rattle.history.specs.Bystanders.{endReplay-idle, live-idle}
 use Rattle.model.specs.Laws.Runs.{finished-run}
@@ -137,6 +138,7 @@ module _ (b : ℕ) (k : Bank) (l : b < length (k .boards)) (down : boardAt k b .
   restarted-inReplay w =
       onBoard-but b (λ x. usedUp (loaded x)) k (but {Kept = Fits} w (λ f. f))
       (λ i f. usedUp-inReplay (k .directory) b (loaded (boardAt k b)) (loaded-inReplay (k .directory) b (boardAt k b) f down))
+      (λ m. usedUp-peers (loaded (boardAt k b)) (loaded-peers (boardAt k b) m))
 
   -- it ended the replay at once
   pub restart-idle : WellFormed k → replayOver (boardAt (restartedIn b k) b) ≡ true → isReplaying (boardAt (restartBank b k .run .bank) b .state) ≡ false

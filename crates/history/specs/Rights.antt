@@ -170,27 +170,27 @@ module _ {d : List Entry} {h : History} {g : Option Rebuilt} {b : ℕ} {x : Boar
 -- ---- a page is dropped
 
 -- an up board logs a dropped and empties its frame, where the directory gives it no right
-dropped-holds : {d : List Entry} {h : History} {b : ℕ} {x : Board} (p : ℕ) → BoardInvariant d h none b x → x .state ≡ Up → p < length d
-    → length (x .working .frames) ≡ length d → entryIn d p .owner ≢ b → member b (entryIn d p .copies) ≡ false → BoardInvariant d h none b (dropped p x)
+dropped-holds : {d : List Entry} {h : History} {b : ℕ} {x : Board} (w p : ℕ) → BoardInvariant d h none b x → x .state ≡ Up → p < length d
+    → length (x .working .frames) ≡ length d → entryIn d p .owner ≢ b → member b (entryIn d p .copies) ≡ false → BoardInvariant d h none b (dropped w p x)
 unfolding dropped settledAs Accepts Joins MayLog next logged onWorking recorded withFrame onFrames pageOf
-dropped-holds {d} {h} {b} {x} p q u l s lost m =
-    let y : Board = onWorking (recorded (Dropped p) (zeros pageSize)) x in
+dropped-holds {d} {h} {b} {x} w p q u l s lost m =
+    let y : Board = onWorking (recorded (Dropped p) w (zeros pageSize)) x in
     let t : Rebuilt = record { frames = set (x .working .frames) p emptyFrame; pending = [] } in
     let r : BoardInvariant d h (some t) b y =
-    recorded-holds q u (Dropped p) (zeros pageSize) (tt, tt) (λ o. absurd (lost o)) refl
+    recorded-holds q u (Dropped p) w (zeros pageSize) (tt, tt) (λ o. absurd (lost o)) refl
     (λ c i j e o. cc (frameAt-other (x .working .frames) p c emptyFrame (λ n. lost (rw n at o)))) in
     settled-holds (framed-holds r u p emptyFrame l s (λ o. absurd (lost o)) (λ i. clash i m)) u refl
 
 -- The new entry gives the board no right, and the board drops the page, of which it has no unstable write.
-pub lost-holds : {d : List Entry} {h : History} {b : ℕ} {x : Board} (p : ℕ) (f : Entry → Entry) → BoardInvariant d h none b x → x .state ≡ Up → p < length d
+pub lost-holds : {d : List Entry} {h : History} {b : ℕ} {x : Board} (w p : ℕ) (f : Entry → Entry) → BoardInvariant d h none b x → x .state ≡ Up → p < length d
     → length (x .working .frames) ≡ length d
     → f (entryIn d p) .owner ≢ b
     → member b (f (entryIn d p) .copies) ≡ false
     → unstableWrite b (recoveryPoint x) p (h .entries) ≡ false
-    → BoardInvariant (update p f d) h none b (dropped p x)
-lost-holds {d} {b = b} p f q u l s other out quiet =
+    → BoardInvariant (update p f d) h none b (dropped w p x)
+lost-holds {d} {b = b} w p f q u l s other out quiet =
     let here : entryIn (update p f d) p ≡ f (entryIn d p) = getD-update-same p f d noEntry l in
-    dropped-holds p
+    dropped-holds w p
     (entry-holds q p l f (kept-on q p l (f (entryIn d p)) (λ o. absurd (other o)) (λ m. clash m out) (λ v. clash v quiet)))
     u (rw (length-update p f d) l) (rw (length-update p f d) s) (rw here other) (rw here out)
 
@@ -203,13 +203,13 @@ module _ {d : List Entry} {h : History} {g : Option Rebuilt} {b : ℕ} {x : Boar
   ahead-frame p l o = byOption g (λ e. rw e) (λ t e. rw e (q .ahead p t l u e o))
 
   -- a got that the board may log now, of a page that it doesn't own: its log is ahead of its frames
-  pub got-holds : (c : CopyOrOwn) (p : ℕ) (bytes : List ℕ) → Accepts (settledAs g x) (Logged (newRecord (Got c p) bytes (x .working)))
+  pub got-holds : (c : CopyOrOwn) (p from : ℕ) (bytes : List ℕ) → Accepts (settledAs g x) (Logged (newRecord (Got c p) from bytes (x .working)))
       → entryIn d p .owner ≢ b
-      → BoardInvariant d h (some (next (Logged (newRecord (Got c p) bytes (x .working))) (settledAs g x))) b (onWorking (recorded (Got c p) bytes) x)
+      → BoardInvariant d h (some (next (Logged (newRecord (Got c p) from bytes (x .working))) (settledAs g x))) b (onWorking (recorded (Got c p) from bytes) x)
   unfolding settledAs pageOf next
-  got-holds c p bytes a other =
-      let r : Record = newRecord (Got c p) bytes (x .working) in
-      recorded-holds q u (Got c p) bytes a (λ o. absurd (other o)) refl
+  got-holds c p from bytes a other =
+      let r : Record = newRecord (Got c p) from bytes (x .working) in
+      recorded-holds q u (Got c p) from bytes a (λ o. absurd (other o)) refl
       (λ i t j e o.
       cc (
         ahead-frame i j o,

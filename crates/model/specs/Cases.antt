@@ -5,6 +5,7 @@ pub mod Table
 pub mod Conversions
 pub mod Cells
 pub mod Holders
+pub mod Peers
 pub mod Worked
 pub mod Running
 pub mod Computed

@@ -1,29 +1,36 @@
 -- The words of contracts inside the engine: what a function asks of a bank, a board or an access, because the tests before it have shown it. Needed to read
--- those contracts. Of what a reader believes only the counts of records and the room for more are here (Laws/Codes/Statement says code 7 with them,
--- History/ServedStatement what a read needs). No law stands here.
+-- those contracts. Of what a reader believes only the records of a board, their counts and the room for more are here (Laws/Codes/Statement says code 7 with
+-- them, History/ServedStatement what a read needs, History/PeersStatement what an access logs). No law stands here.
 -- Assumes nothing.
 use mathlib.Core.Path.{_≡_}
 use mathlib.Core.Logic.{_≢_}
 use Prim.Native.Nat.{ℕ, _+_, _*_, _≤_, _<_}
-use mathlib.Core.Bool.{true, false}
-use mathlib.Core.List.{List, [], _∷_}
+use mathlib.Core.Bool.{true, false, Bool, _&&_}
+use mathlib.Core.List.{List, [], _∷_, _++_}
 use lib.ListN.{length}
+use lib.Dec.{eqb}
 use Rattle.words.specs.Bytes.{Each}
 use Rattle.types.specs.declared.CopyOrOwn.{CopyOrOwn}
 use Rattle.types.specs.declared.Kind.{Kind}
 use Rattle.types.specs.declared.State.the-variants.{Up, Down, Replaying}
-use Rattle.model.specs.Definitions.Parts.{member}
-use Rattle.model.specs.Definitions.Layout.{byteValues, mostPages, slotCount, lastSince, lastNumber}
+use Rattle.types.specs.declared.Record.{Record}
+use Rattle.model.specs.Definitions.Parts.{member, byteAt}
+use Rattle.model.specs.Definitions.Layout.{byteValues, mostPages, slotCount, lastSince, lastNumber, Form, volatileCountAtIn}
 use Rattle.model.specs.Definitions.Bank.{Entry, Board, Bank, boardAt, entryIn, frameAt}
 use Rattle.model.specs.Definitions.Codec.{encode, decode}
-use Rattle.model.specs.Definitions.WellFormed.{RecordOk, FieldsOk, FuseOk, RoomOk, PlaceOk, ReplayingOk, DownOk, rightIn, EntryOk, SizesOk}
+use Rattle.model.specs.Definitions.WellFormed.{RecordOk, FieldsOk, FuseOk, RoomOk, PlaceOk, ReplayingOk, DownOk, rightIn, EntryOk, SizesOk, PeersOk}
 use Rattle.model.specs.Definitions.Steps.{Access, cellsWritten, names, giver}
 use Rattle.model.specs.Definitions.Replay.{lacking}
 use Rattle.model.specs.Definitions.Calls.{fetchNeed}
+use Rattle.model.specs.Definitions.Check.{areaCount}
 
 -- ---- records
 
--- the records of a board's selected area, and of its volatile log
+-- all records of a board: the stored ones of the selected area, then the volatile ones
+unfoldable pub recordsOf : Board → List Record
+recordsOf x = x .stable .selected .log .records ++ x .working .log .records
+
+-- how many the selected area has, and how many the volatile log
 abbrev pub storedCount : Board → ℕ
 storedCount x = length (x .stable .selected .log .records)
 
@@ -38,9 +45,18 @@ Space x = volatileCount x < slotCount
 abbrev pub RoomFor : ℕ → Board → Type 0
 RoomFor n x = storedCount x + volatileCount x + n ≤ slotCount
 
--- a record of this kind with these bytes is valid, whatever its count
-abbrev pub Recordable : ℕ → Kind → List ℕ → Type 0
-Recordable pages kind bytes = (n : ℕ) → n ≤ lastSince → RecordOk pages (record { count = n; kind = kind; bytes = bytes })
+-- a record of this kind with this peer and these bytes is valid, whatever its count
+abbrev pub Recordable : ℕ → Kind → (peer : ℕ) → List ℕ → Type 0
+Recordable pages kind peer bytes = (n : ℕ) → n ≤ lastSince → RecordOk pages (record { count = n; kind = kind; peer = peer; bytes = bytes })
+
+-- a board of the bank that is another one than c: whom a record of c may name
+pub record Another (b c : ℕ) (k : Bank) : Type 0 where
+  pub board : b < length (k .boards)
+  pub other : b ≢ c
+
+-- all three counts of a block are zero
+unfoldable pub countsZero : Form → ℕ → List ℕ → Bool
+countsZero form pages l = eqb (byteAt l (volatileCountAtIn form)) 0 && (eqb (areaCount form pages 0 l) 0 && eqb (areaCount form pages 1 l) 0)
 
 -- ---- stores
 
@@ -76,7 +92,7 @@ pub record Agreed (d : List Entry) (b : ℕ) (x : Board) : Type 0 where
   pub rights : x .state ≡ Up → (p : ℕ) → p < length d → frameAt (x .working .frames) p .right ≡ rightIn (entryIn d p) b
   pub copies : x .state ≢ Up → (p : ℕ) → p < length d → member b (entryIn d p .copies) ≡ false
 
--- all clauses of board b
+-- all clauses of board b but whom its records name
 pub record Fits (d : List Entry) (b : ℕ) (x : Board) : Type 0 where
   pub alone : Alone (length d) x
   pub place : PlaceOk (x .state) x
@@ -89,12 +105,13 @@ pub record InReplay (d : List Entry) (b : ℕ) (x : Board) : Type 0 where
   pub place : x .working .place ≤ length (x .stable .selected .log .records)
   pub agreed : Agreed d b x
 
--- a well-formed bank but for board b, of which `Kept` holds instead
+-- a well-formed bank but for board b, of which `Kept` holds instead of what fits; whom records name is asked of every board
 pub record WellFormedBut (b : ℕ) (Kept : List Entry → ℕ → Board → Type 0) (k : Bank) : Type 0 where
   pub sizes : SizesOk (length (k .boards)) (length (k .directory))
   pub directory : Each (EntryOk (length (k .boards))) (k .directory)
   pub others : (c : ℕ) → c < length (k .boards) → c ≢ b → Fits (k .directory) c (boardAt k c)
   pub this : b < length (k .boards) → Kept (k .directory) b (boardAt k b)
+  pub peers : (c : ℕ) → c < length (k .boards) → PeersOk (length (k .boards)) c (boardAt k c)
 
 -- ---- an access, as far as its tests have passed
 

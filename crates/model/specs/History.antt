@@ -1,5 +1,6 @@
 -- Demand 3 and document 01's other claims: the history of a bank, what is claimed of it, executable tests of it, and how it runs on bytes; the proofs are the
--- crate history. What document 02 claims of a conversion, proved in Laws/Conversion.
+-- crate history. What document 02 claims of a conversion and of a bank taken over, proved in Laws/Conversion, and of
+-- what an access logs, proved in Laws/Logged.
 pub mod Statement
 pub mod Banks
 pub mod Tests
@@ -10,3 +11,4 @@ pub mod AloneStatement
 pub mod ConversionStatement
 pub mod CellsStatement
 pub mod ServedStatement
+pub mod PeersStatement

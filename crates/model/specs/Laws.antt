@@ -10,6 +10,7 @@ pub mod CodecAt
 pub mod Tests
 pub mod BoardTests
 pub mod ReadTests
+pub mod PeerTests
 pub mod WrittenTests
 pub mod CodecBankBack
 pub mod WellFormedTest
@@ -24,6 +25,7 @@ pub mod Keeps
 pub mod Moves
 pub mod Codes
 pub mod CellsRead
+pub mod Logged
 pub mod Served
 pub mod Refusals
 pub mod FewStores
@@ -40,4 +42,5 @@ pub mod EachFirst
 pub mod BankSteps
 pub mod BankLoops
 pub mod Likeness
+pub mod Counts
 pub mod Conversion

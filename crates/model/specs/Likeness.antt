@@ -1,12 +1,13 @@
--- When two banks are alike but for page bytes and slots that no call reads: one is the other with a function on every page byte, and in the slots at or past a
--- count stand any bytes, as many as one likes. Laws/Likeness proves that every move keeps banks alike, and every call if the function keeps bytes bytes (code
--- 2 tests a written value): page bytes are copied, zeroed, set and returned, and nothing else is decided by them. No law stands here. Assumes nothing.
-use mathlib.Core.Path.{_≡_}
+-- When two banks are alike but for page bytes, names of boards in records, and slots that no call reads: one is the other with a function on every page byte
+-- and names that are related, and in the slots at or past a count stand any bytes, as many as one likes. Laws/Likeness proves that every move keeps banks
+-- alike, and every call if the function keeps bytes bytes (code 2 tests a written value): page bytes are copied, zeroed, set and returned, names are copied,
+-- and nothing else is decided by them. No law stands here. Assumes nothing.
+use mathlib.Core.Path.{_≡_, refl}
 use Prim.Native.Nat.{ℕ}
 use mathlib.Core.List.{List, [], _∷_, map}
 use Rattle.types.specs.declared.Answer.{Answer}
 use Rattle.types.specs.declared.Answer.the-variants.{Done, Malformed, OutOfRange, WrongState, CountersFull, ReplayDiffers, OwnerNotUp, LogFull, PowerLost}
-use Rattle.types.specs.declared.Answer.the-variants.{WrongCells}
+use Rattle.types.specs.declared.Answer.the-variants.{WrongCells, HasRecords}
 use Rattle.types.specs.declared.Frame.{Frame}
 use Rattle.types.specs.declared.Record.{Record}
 use Rattle.model.specs.Definitions.Parts.{each}
@@ -23,17 +24,24 @@ pub data EachPair {A : Type 0} (R : A → A → Type 0) : List A → List A → 
 
 -- ---- banks
 
-module _ (f : ℕ → ℕ) where
+-- what two banks may differ in: a function on page bytes, and which names may stand for each other; every name may stand for itself
+pub record Change : Type 1 where
+  pub bytes : ℕ → ℕ
+  pub Peers : ℕ → ℕ → Type 0
+  pub same : (b : ℕ) → Peers b b
+
+module _ (f : Change) where
   -- f on the page bytes, the same right
   pub record FrameAlike (x y : Frame) : Type 0 where
     pub right : y .right ≡ x .right
-    pub bytes : y .bytes ≡ map f (x .bytes)
+    pub bytes : y .bytes ≡ map (f .bytes) (x .bytes)
 
-  -- f on the page bytes, the same count and kind
+  -- f on the page bytes, related names, the same count and kind
   pub record RecordAlike (x y : Record) : Type 0 where
     pub count : y .count ≡ x .count
     pub kind : y .kind ≡ x .kind
-    pub bytes : y .bytes ≡ map f (x .bytes)
+    pub peer : f .Peers (x .peer) (y .peer)
+    pub bytes : y .bytes ≡ map (f .bytes) (x .bytes)
 
   -- frames alike, page by page
   abbrev pub FramesAlike : List Frame → List Frame → Type 0
@@ -91,7 +99,7 @@ mappedAccess f (ReadCells cells outLength) = ReadCells cells outLength
 
 -- a move with f on the byte that its access writes
 unfoldable pub mapped : (ℕ → ℕ) → Move → Move
-mapped f (NoteShown b p) = NoteShown b p
+mapped f (NoteShown b t p) = NoteShown b t p
 mapped f (NoteGot b o p) = NoteGot b o p
 mapped f (StoreRecord b) = StoreRecord b
 mapped f (StoreFrame b p) = StoreFrame b p
@@ -99,7 +107,7 @@ mapped f (StoreHead b) = StoreHead b
 mapped f (StoreSelector b) = StoreSelector b
 mapped f (GiveCopy o b p) = GiveCopy o b p
 mapped f (PassOwnership o b p) = PassOwnership o b p
-mapped f (DropCopies p) = DropCopies p
+mapped f (DropCopies w p) = DropCopies w p
 mapped f (Perform b a) = Perform b (mappedAccess f a)
 mapped f (LosePower b) = LosePower b
 mapped f (SetFuse b n) = SetFuse b n
@@ -140,26 +148,35 @@ onValue g (OwnerNotUp b) = OwnerNotUp b
 onValue g (LogFull b) = LogFull b
 onValue g (PowerLost b) = PowerLost b
 onValue g WrongCells = WrongCells
+onValue g HasRecords = HasRecords
 
 -- the same answer but for g on its value, runs alike, f on the bytes that are given
-pub record ResultAlike (f g : ℕ → ℕ) (x y : Result) : Type 0 where
+pub record ResultAlike (f : Change) (g : ℕ → ℕ) (x y : Result) : Type 0 where
   pub answer : y .answer ≡ onValue g (x .answer)
   pub run : RunAlike f (x .run) (y .run)
-  pub given : y .given ≡ map f (x .given)
+  pub given : y .given ≡ map (f .bytes) (x .given)
 
--- ---- slots that are never read
+-- ---- names and slots that are never read
+
+-- the same page bytes, and names related in this way
+abbrev pub samePages : (Peers : ℕ → ℕ → Type 0) → ((b : ℕ) → Peers b b) → Change
+samePages Peers same = record { bytes = λ v. v; Peers = Peers; same = same }
 
 -- two banks that differ in no more than slots at or past a count
 abbrev pub SameBelowCounts : Bank → Bank → Type 0
-SameBelowCounts = Alike (λ v. v)
+SameBelowCounts = Alike (samePages (λ x y. y ≡ x) (λ b. refl))
 
--- the same answer, bytes given, stores and board lost, and banks that differ in no more than slots at or past a count
-pub record SameAnswer (x y : Result) : Type 0 where
+-- two banks that differ in no more than that, and in the boards that records name
+abbrev pub SameButNames : Bank → Bank → Type 0
+SameButNames = Alike (samePages (λ x y. Unit) (λ b. tt))
+
+-- the same answer, bytes given, stores and board lost, and banks that differ in no more than these may
+pub record SameAnswer (Same : Bank → Bank → Type 0) (x y : Result) : Type 0 where
   pub answer : y .answer ≡ x .answer
   pub given : y .given ≡ x .given
   pub stores : y .run .stores ≡ x .run .stores
   pub lost : y .run .lost ≡ x .run .lost
-  pub bank : SameBelowCounts (x .run .bank) (y .run .bank)
+  pub bank : Same (x .run .bank) (y .run .bank)
 
 -- a bank with these bytes in the slots past the counts of each board
 unfoldable pub slotsOver : (volatile selected spare : ℕ → List ℕ) → Bank → Bank

@@ -21,24 +21,24 @@ use Rattle.model.specs.Definitions.Steps.{Run, step, powerOff, withFuse,
 use Rattle.model.specs.Definitions.Steps.{restedWorking, Access, names, takes, readFrom, access, frameOf, giveCopy, dropCopies, passOwnership}
 use Rattle.model.specs.Definitions.Replay.{restarted, differs, tookDue, replayOver, replayed, settle}
 use Rattle.model.specs.Definitions.Calls.{lackingOf, copiesOut}
-use Rattle.model.specs.Contracts.{RoomFor, Entered, CanAccess}
+use Rattle.model.specs.Contracts.{Another, RoomFor, Entered, CanAccess}
 use Rattle.model.specs.History.Statement.{Event, Accessed, Restarted, LostPower, Nothing}
 
 -- ---- what a move does
 
 pub data Move : Type 0 where
-  -- a record noted: the giver's shown; the taker's got own, with the giver's bytes
-  NoteShown : (board page : ℕ) → Move
+  -- a record noted: the giver's shown, which names the taker; the taker's got own, which names the giver, with its bytes
+  NoteShown : (board taker page : ℕ) → Move
   NoteGot : (board giver page : ℕ) → Move
   -- a store: the first volatile record; a frame, the head, the selector of a checkpoint, with what follows the selector
   StoreRecord : (board : ℕ) → Move
   StoreFrame : (board page : ℕ) → Move
   StoreHead : (board : ℕ) → Move
   StoreSelector : (board : ℕ) → Move
-  -- a copy given, ownership passed, the copies of a page dropped
+  -- a copy given, ownership passed, the copies of a page dropped for its writer
   GiveCopy : (giver board page : ℕ) → Move
   PassOwnership : (owner board page : ℕ) → Move
-  DropCopies : (page : ℕ) → Move
+  DropCopies : (writer page : ℕ) → Move
   -- an access of an up board
   Perform : (board : ℕ) (access : Access) → Move
   -- power lost by a fuse of 0; a fuse set
@@ -52,15 +52,15 @@ pub data Move : Type 0 where
   Settle : (board : ℕ) → Move
 
 unfoldable pub does : Move → Run → Run
-does (NoteShown b p) r = step (note b (Shown p) (zeros pageSize)) r
-does (NoteGot b o p) r = step (λ k. note b (Got GotOwn p) (frameOf k o p .bytes) k) r
+does (NoteShown b t p) r = step (note b (Shown p) t (zeros pageSize)) r
+does (NoteGot b o p) r = step (λ k. note b (Got GotOwn p) o (frameOf k o p .bytes) k) r
 does (StoreRecord b) r = store b storedRecord r
 does (StoreFrame b p) r = store b (storedFrame p) r
 does (StoreHead b) r = store b storedHead r
 does (StoreSelector b) r = step (onBoard b (onWorking restedWorking)) (store b storedSelector r)
 does (GiveCopy o b p) r = step (giveCopy o b p) r
 does (PassOwnership o b p) r = step (passOwnership o b p) r
-does (DropCopies p) r = step (dropCopies p) r
+does (DropCopies w p) r = step (dropCopies w p) r
 does (Perform b a) r = step (access b a) r
 does (LosePower b) r = step (powerOff b) r
 does (SetFuse b n) r = step (onBoard b (withFuse n)) r
@@ -128,8 +128,9 @@ pub record Gives (o d p : ℕ) (k : Bank) : Type 0 where
 -- A move that a call of board d may make in this bank, and how far the call is before and after it. `Again a` is what a repeated access a needs beside the
 -- bank: that the premise of demand 3 speaks of it.
 pub data Guard (d : ℕ) (Again : Access → Type 0) (k : Bank) : Move → Phase → Phase → Type 0 where
-  notesShown : (b p : ℕ) → boardAt k b .state ≡ Up → RoomFor 1 (boardAt k b) → p < length (k .directory) → Guard d Again k (NoteShown b p) Begun Begun
-  notesGot : (o p : ℕ) → boardAt k d .state ≡ Up → RoomFor 1 (boardAt k d) → p < length (k .directory) → frameOf k d p .right ≢ Own
+  notesShown : (b p : ℕ) → boardAt k b .state ≡ Up → RoomFor 1 (boardAt k b) → p < length (k .directory) → Another d b k
+      → Guard d Again k (NoteShown b d p) Begun Begun
+  notesGot : (o p : ℕ) → boardAt k d .state ≡ Up → RoomFor 1 (boardAt k d) → p < length (k .directory) → frameOf k d p .right ≢ Own → Another o d k
       → Guard d Again k (NoteGot d o p) Begun (Noted o p)
   storesRecord : (b : ℕ) {φ : Phase} → MayStore d b φ → boardAt k b .state ≡ Up → Guard d Again k (StoreRecord b) φ φ
   storesFrame : (b p : ℕ) {φ : Phase} → MayStore d b φ → boardAt k b .state ≡ Up → Guard d Again k (StoreFrame b p) φ φ
@@ -140,8 +141,8 @@ pub data Guard (d : ℕ) (Again : Access → Type 0) (k : Bank) : Move → Phase
   passesOwnership : (a : Access) (o p : ℕ) → takes a ≡ GotOwn → names a p ≡ true → Gives o d p k → entryAt k p .owner ≡ o → Secure (boardAt k d)
       → ((c : ℕ) → c < length (k .boards) → c ≢ d → (eqb c o || member c (entryAt k p .copies)) ≡ true → RoomFor 1 (boardAt k c))
       → Guard d Again k (PassOwnership o d p) (Noted o p) (Fetched a (o ∷ []) (p ∷ []))
-  dropsCopies : (p : ℕ) → p < length (k .directory) → ((c : ℕ) → c < length (k .boards) → member c (entryAt k p .copies) ≡ true → RoomFor 1 (boardAt k c))
-      → Guard d Again k (DropCopies p) Begun Begun
+  dropsCopies : (p : ℕ) → p < length (k .directory) → entryAt k p .owner ≡ d
+      → ((c : ℕ) → c < length (k .boards) → member c (entryAt k p .copies) ≡ true → RoomFor 1 (boardAt k c)) → Guard d Again k (DropCopies d p) Begun Begun
   performs : (a : Access) {gave : List ℕ} {φ : Phase} → MayPerform a gave φ → CanAccess d a k → lackingOf d a k ≡ false → copiesOut a k ≡ false
       → Guard d Again k (Perform d a) φ (Finished (Accessed d a (readFrom a (boardAt k d .working .frames))) gave)
   losesPower : d < length (k .boards) → Guard d Again k (LosePower d) Begun (Finished (LostPower d) [])

@@ -22,7 +22,7 @@ use Rattle.model.specs.Definitions.Parts.{zeros, member}
 
 -- stands where there is none
 abbrev pub noRecord : Record
-noRecord = record { count = 0; kind = Shown 0; bytes = zeros pageSize }
+noRecord = record { count = 0; kind = Shown 0; peer = 0; bytes = zeros pageSize }
 
 -- the struct that stands for an option
 unfoldable pub stood : Option Record → NextRecord

@@ -33,6 +33,7 @@ pub fn no_record() -> NextRecord
     let value = Record {
         count: 0,
         kind: Kind::Shown(0),
+        peer: 0,
         bytes: [0u8; PAGE_SIZE],
     };
     NextRecord {

@@ -75,15 +75,15 @@ module _ {pages : ℕ} {l : List ℕ} (block : IsBlock pages l) where
   ok = block .fields
 
   -- a record noted: its slot, the count, since
-  pub record-bytes : (kind : Kind) (bytes : List ℕ) (count at : ℕ) → count ≡ numberOf (part l sinceAt sinceSize) → at ≡ volatileCount (boardOf pages l)
-      → Recordable pages kind bytes → at < slotCount
+  pub record-bytes : (kind : Kind) (peer : ℕ) (bytes : List ℕ) (count at : ℕ) → count ≡ numberOf (part l sinceAt sinceSize) → at ≡ volatileCount (boardOf pages l)
+      → Recordable pages kind peer bytes → at < slotCount
       → splice
-      (splice (splice l (slotsAt pages + at * slotSize) (encodeRecord (record { count = count; kind = kind; bytes = bytes }))) volatileCountAt ((at + 1) ∷ []))
+      (splice (splice l (slotsAt pages + at * slotSize) (encodeRecord (record { count = count; kind = kind; peer = peer; bytes = bytes }))) volatileCountAt ((at + 1) ∷ []))
       sinceAt (bytesOf sinceSize 0)
-      ≡ encodeBoard (onWorking (recorded kind bytes) (boardOf pages l))
-  record-bytes kind bytes count at p q v h =
+      ≡ encodeBoard (onWorking (recorded kind peer bytes) (boardOf pages l))
+  record-bytes kind peer bytes count at p q v h =
       let s : count ≡ x .working .since = p ∙ (rw (block .back) at (read-since pages x ok)) in
-      rw (s, q) (rw (block .back) at (recorded-bytes pages x ok kind bytes (v (x .working .since) (omega (arith, ok .working .since))) (omega arith)))
+      rw (s, q) (rw (block .back) at (recorded-bytes pages x ok kind peer bytes (v (x .working .since) (omega (arith, ok .working .since))) (omega arith)))
 
   -- a record stored: its slot of the selected area, the stored count
   pub append-bytes : (r : Record) (at : ℕ) → at ≡ storedCount (boardOf pages l) → RecordOk pages r → at < slotCount

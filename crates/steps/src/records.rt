@@ -54,14 +54,20 @@ pub fn room(block: &[u8], pages: usize, need: usize) -> bool
 
 // ---- one record more
 
-// "takes the board's since as its count, then since becomes 0. It enters the volatile log."
-pub fn record(block: &mut [u8], pages: usize, kind: Kind, bytes: [u8; PAGE_SIZE])
-    requires { ⌜ IsBlock pages (now block) × (volatileCount (boardOf pages (now block)) < slotCount) × Recordable pages kind bytes ⌝ }
-    ensures { λ _. ⌜ now (block .exit) ≡ encodeBoard (onWorking (recorded kind bytes) (boardOf pages (now (block .entry)))) ⌝ }
+// "takes the board's since as its count, then since becomes 0. It enters the volatile log."; the peer is whom it names (document 02, F-6).
+pub fn record(block: &mut [u8], pages: usize, kind: Kind, peer: u8, bytes: [u8; PAGE_SIZE])
+    requires { ⌜ IsBlock pages (now block) × (volatileCount (boardOf pages (now block)) < slotCount) × Recordable pages kind peer bytes ⌝ }
+    ensures { λ _. ⌜ now (block .exit) ≡ encodeBoard (onWorking (recorded kind peer bytes) (boardOf pages (now (block .entry)))) ⌝ }
 {
     let count = read_since(block);
     let at = read_volatile_count(block);
-    write_volatile(block, pages, at as usize, Record { count, kind, bytes });
+    let r = Record {
+        count,
+        kind,
+        peer,
+        bytes,
+    };
+    write_volatile(block, pages, at as usize, r);
     write_volatile_count(block, at + 1);
     write_since(block, 0);
 }

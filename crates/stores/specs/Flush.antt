@@ -163,20 +163,20 @@ module _ {pages : ℕ} {l : List ℕ} {n j : ℕ} {m : List ℕ} (v : Flushing p
 
 -- ---- a record noted, then the flush
 
-module _ {pages : ℕ} {l : List ℕ} (b : IsBlock pages l) (kind : Kind) (bytes : List ℕ) (room : RoomFor 1 (boardOf pages l))
-    (v : Recordable pages kind bytes) {m : List ℕ} (w : m ≡ encodeBoard (onWorking (recorded kind bytes) (boardOf pages l))) where
-  noted-ok : FieldsOk pages (onWorking (recorded kind bytes) (boardOf pages l))
-  noted-ok = recorded-fields (b .fields) kind bytes v (omega arith)
+module _ {pages : ℕ} {l : List ℕ} (b : IsBlock pages l) (kind : Kind) (peer : ℕ) (bytes : List ℕ) (room : RoomFor 1 (boardOf pages l))
+    (v : Recordable pages kind peer bytes) {m : List ℕ} (w : m ≡ encodeBoard (onWorking (recorded kind peer bytes) (boardOf pages l))) where
+  noted-ok : FieldsOk pages (onWorking (recorded kind peer bytes) (boardOf pages l))
+  noted-ok = recorded-fields (b .fields) kind peer bytes v (omega arith)
 
-  noted : boardOf pages m ≡ onWorking (recorded kind bytes) (boardOf pages l)
-  noted = board-written (onWorking (recorded kind bytes) (boardOf pages l)) (b .few) noted-ok w
+  noted : boardOf pages m ≡ onWorking (recorded kind peer bytes) (boardOf pages l)
+  noted = board-written (onWorking (recorded kind peer bytes) (boardOf pages l)) (b .few) noted-ok w
 
   pub noted-block : IsBlock pages m
-  noted-block = block-written (onWorking (recorded kind bytes) (boardOf pages l)) (b .few) noted-ok w
+  noted-block = block-written (onWorking (recorded kind peer bytes) (boardOf pages l)) (b .few) noted-ok w
 
   pub noted-room : RoomOk (boardOf pages m)
-  noted-room = rw noted (recorded-room kind bytes (boardOf pages l) room)
+  noted-room = rw noted (recorded-room kind peer bytes (boardOf pages l) room)
 
-  pub logged-ran : {o : List ℕ} {n : ℕ} {t : Bool} → Ran (flushOn (boardOf pages m)) o n t → Ran (loggedOn kind bytes (boardOf pages l)) o n t
+  pub logged-ran : {o : List ℕ} {n : ℕ} {t : Bool} → Ran (flushOn (boardOf pages m)) o n t → Ran (loggedOn kind peer bytes (boardOf pages l)) o n t
   unfolding loggedOn
   logged-ran u = rw noted at u

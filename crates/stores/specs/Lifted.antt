@@ -120,11 +120,11 @@ module _ (b n : ℕ) (k : Bank) (h : b < length (k .boards)) where
       let e : boardAt (lifted b n k (startOn x) .bank) b ≡ x = ap (λ (r : Run). boardAt (r .bank) b) (lifted-going b n k (startOn x) refl) ∙ here (startOn x) in
       rw e (stores-lifted (recordStores x) (startOn x))
 
-  pub logged-lifted : (kind : Kind) (bytes : List ℕ)
-      → flush b (step (note b kind bytes) (record { bank = k; stores = n; lost = none })) ≡ lifted b n k (loggedOn kind bytes (boardAt k b))
+  pub logged-lifted : (kind : Kind) (peer : ℕ) (bytes : List ℕ)
+      → flush b (step (note b kind peer bytes) (record { bank = k; stores = n; lost = none })) ≡ lifted b n k (loggedOn kind peer bytes (boardAt k b))
   unfolding note loggedOn stepOn startOn
-  logged-lifted kind bytes =
-      let f : Board → Board = onWorking (recorded kind bytes) in
+  logged-lifted kind peer bytes =
+      let f : Board → Board = onWorking (recorded kind peer bytes) in
       ap (λ (r : Run). flush b (step (onBoard b f) r)) begun-lifted ∙ ap (flush b) (step-lifted f (startOn (boardAt k b))) ∙ flush-begun (f (boardAt k b))
 
   pub checkpoint-lifted : checkpoint b (record { bank = k; stores = n; lost = none }) ≡ lifted b n k (checkpointOn (length (k .directory)) (boardAt k b))

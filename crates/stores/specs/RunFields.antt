@@ -18,11 +18,11 @@ use Rattle.model.specs.Laws.Lists.{foldl-keeps}
 use Rattle.model.specs.Laws.Boards.{storedRecord-cases}
 use Rattle.model.specs.Laws.Runs.{each-recordStores, each-checkpointStores}
 use Rattle.model.specs.Laws.WrittenTests.{log-count}
-use Rattle.model.specs.Laws.Runs.Stores.{recordsOf, burnt-working, burnt-stable, flushed-storedRecord}
+use Rattle.model.specs.Laws.Runs.Stores.{burnt-working, burnt-stable, flushed-storedRecord}
 use Rattle.model.specs.Laws.BlockFlush.{storedRecords, storedRecords-fields}
 use Rattle.model.specs.Laws.BoardFields.{recorded-fields, burnt-fields, poweredOff-fields, storedFrame-fields, storedHead-fields, storedSelector-fields}
 use Rattle.model.specs.Laws.BoardFields.{rested-fields}
-use Rattle.model.specs.Contracts.{RoomFor, Recordable}
+use Rattle.model.specs.Contracts.{RoomFor, Recordable, recordsOf}
 use Rattle.stores.specs.RunLaws.{stepOn-lost, stepOn-going}
 
 module _ {pages : ℕ} where
@@ -53,10 +53,10 @@ module _ {pages : ℕ} where
       (λ t. rw (stepOn-going (onWorking restedWorking) r t) (rested-fields pages (r .board) v))
 
 -- room for a record is taken by it
-pub recorded-room : (kind : Kind) (bytes : List ℕ) (x : Board) → RoomFor 1 x → RoomOk (onWorking (recorded kind bytes) x)
+pub recorded-room : (kind : Kind) (peer : ℕ) (bytes : List ℕ) (x : Board) → RoomFor 1 x → RoomOk (onWorking (recorded kind peer bytes) x)
 unfolding onWorking recorded appended
-recorded-room kind bytes x h =
-    let r : Record = record { count = x .working .since; kind = kind; bytes = bytes } in
+recorded-room kind peer bytes x h =
+    let r : Record = record { count = x .working .since; kind = kind; peer = peer; bytes = bytes } in
     rw (length-append (x .working .log .records) (r ∷ [])) (omega arith)
 
 -- stored and volatile together stay as many
@@ -99,8 +99,8 @@ module _ {pages : ℕ} where
       x)
       (startOn x) (ok, h) .0
 
-  pub loggedOn-fields : (kind : Kind) (bytes : List ℕ) (x : Board) → FieldsOk pages x → RoomFor 1 x → Recordable pages kind bytes
-      → FieldsOk pages (loggedOn kind bytes x .board)
+  pub loggedOn-fields : (kind : Kind) (peer : ℕ) (bytes : List ℕ) (x : Board) → FieldsOk pages x → RoomFor 1 x → Recordable pages kind peer bytes
+      → FieldsOk pages (loggedOn kind peer bytes x .board)
   unfolding loggedOn
-  loggedOn-fields kind bytes x ok h v =
-      flushOn-fields (onWorking (recorded kind bytes) x) (recorded-fields ok kind bytes v (omega arith)) (recorded-room kind bytes x h)
+  loggedOn-fields kind peer bytes x ok h v =
+      flushOn-fields (onWorking (recorded kind peer bytes) x) (recorded-fields ok kind peer bytes v (omega arith)) (recorded-room kind peer bytes x h)

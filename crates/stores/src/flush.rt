@@ -45,13 +45,19 @@ pub fn flush(block: &mut [u8], pages: usize) -> Stored
 }
 
 // A record noted, and the whole log flushed behind it.
-pub fn log_through(block: &mut [u8], pages: usize, kind: Kind, bytes: [u8; PAGE_SIZE]) -> Stored
-    requires { ⌜ IsBlock pages (now block) × RoomFor 1 (boardOf pages (now block)) × Recordable pages kind bytes ⌝ }
-    ensures run { λ r. ⌜ (now (block .exit) ≡ encodeBoard (loggedOn kind bytes (boardOf pages (now (block .entry))) .board))
-        × (r .stores ≡ loggedOn kind bytes (boardOf pages (now (block .entry))) .stores)
-        × (r .lost ≡ loggedOn kind bytes (boardOf pages (now (block .entry))) .lost) ⌝ }
+pub fn log_through(
+    block: &mut [u8],
+    pages: usize,
+    kind: Kind,
+    peer: u8,
+    bytes: [u8; PAGE_SIZE],
+) -> Stored
+    requires { ⌜ IsBlock pages (now block) × RoomFor 1 (boardOf pages (now block)) × Recordable pages kind peer bytes ⌝ }
+    ensures run { λ r. ⌜ (now (block .exit) ≡ encodeBoard (loggedOn kind peer bytes (boardOf pages (now (block .entry))) .board))
+        × (r .stores ≡ loggedOn kind peer bytes (boardOf pages (now (block .entry))) .stores)
+        × (r .lost ≡ loggedOn kind peer bytes (boardOf pages (now (block .entry))) .lost) ⌝ }
     ensures few { λ r. ⌜ r .stores ≤ slotCount ⌝ }
 {
-    record(block, pages, kind, bytes);
+    record(block, pages, kind, peer, bytes);
     flush(block, pages)
 }

@@ -29,10 +29,12 @@ pub enum Kind {
     Dropped(u8),
 }
 
-// "Each record is a count together with its kind"; the page bytes stand beside the kind, zero unless it is a got.
+// "Each record is a count together with its kind"; beside the kind the other party, whom document 02's F-6 names, and the page bytes, zero unless it is a
+// got.
 pub struct Record {
     pub count: u32,
     pub kind: Kind,
+    pub peer: u8,
     pub bytes: [u8; PAGE_SIZE],
 }
 
@@ -55,6 +57,7 @@ pub enum Answer {
     LogFull(u8),
     PowerLost(u8),
     WrongCells,
+    HasRecords,
 }
 
 // An answer, and beside it the stable stores made in the call.

@@ -1,6 +1,6 @@
 -- The whole test as the check follows it: the head, with the two numbers each in range, then what is left once the head is known; a block in the
 -- code's order; block and records board by board. Assumes nothing.
-use mathlib.Core.Path.{_≡_, refl, sym, ap, _∙_}
+use mathlib.Core.Path.{_≡_, refl, sym, ap, _∙_, fun-ext}
 use mathlib.Core.Logic.{_≢_}
 use Prim.Native.Nat.{ℕ, zero, suc, _+_, _-_, _*_, _≤_, _<_}
 use native.Mathlib.Nat.{add-zero}
@@ -19,8 +19,8 @@ use Rattle.model.specs.Definitions.Layout.{bankSizeIn, Form}
 use Rattle.model.specs.Definitions.Parts.{part, byteAt, every, everyFrom, everyBelow, member}
 use Rattle.model.specs.Definitions.Codec.{rightByte, decodeEntry, decodeFrame, stateByte, stateOf, selectorByte}
 use Rattle.model.specs.Definitions.Check.{isZero, frameValid, framesValid, pageAgrees, headValid, directoryValid, countsValid, allFramesValid, fieldsValid}
-use Rattle.model.specs.Definitions.Check.{selectedCount, isBlank, stateValid, boardValid, pageAgreesAt, pagesAgree, blockFits, recordsValid, directoryOf}
-use Rattle.model.specs.Definitions.Check.{blockOfIn, blocksFit, logsValid, wellFormedIn}
+use Rattle.model.specs.Definitions.Check.{selectedCount, isBlank, stateValid, boardValid, pageAgreesAt, pagesAgree, blockFits, slotValid, slotPeerValid, recordsPass, directoryOf}
+use Rattle.model.specs.Definitions.Check.{blockOfIn, blocksFit, logsValid, peersValid, wellFormedIn}
 use Rattle.words.specs.LittleEndian.{numberOf}
 use Rattle.model.specs.Laws.Logic.{byBool, and-left, and-right}
 use Rattle.model.specs.Laws.Lists.{each-of-getD, each-every, everyBelow-all}
@@ -29,8 +29,8 @@ use Rattle.model.specs.Laws.Tests.{zero-append}
 use Rattle.model.specs.Laws.CodecBank.{stateOf-stateByte}
 use Rattle.model.specs.Laws.CodecBankBack.{head-ok}
 use Rattle.validity.specs.Pieces.{holdsNone, Holders, frameAgrees, storedFramesValid, storedPageValid, fixedFieldsValid, blankFields, ownFramesValid}
-use Rattle.validity.specs.Pieces.{ownPageAgrees, ownPageZero, stateFieldsValid, boardFieldsValid, framesAgree, downFramesValid, framesFit}
-use Rattle.validity.specs.Search.{below-more, below-both}
+use Rattle.validity.specs.Pieces.{ownPageAgrees, ownPageZero, stateFieldsValid, boardFieldsValid, framesAgree, downFramesValid, framesFit, recordValid}
+use Rattle.validity.specs.Search.{below-more, below-both, records-both}
 use Rattle.validity.specs.Words.{zero-none, byte-alone}
 
 pub in-range-says : (n most : ℕ) → (ltb 0 n && leb n most) ≡ true → n ≤ most
@@ -50,17 +50,18 @@ module _ (form : Form) where
   pub no-head : (s : List ℕ) → length s < headSize → false ≡ headValid form s
   no-head s h = byBool (headValid form s) (λ t. absurd (omega (arith, head-ok s t .size))) (λ t. sym t)
 
-  pub not-well-formed : (s : List ℕ) → headValid form s ≡ false → wellFormedIn form s ≡ false
+  pub not-well-formed : (named : Bool) (s : List ℕ) → headValid form s ≡ false → wellFormedIn form named s ≡ false
   unfolding wellFormedIn
-  not-well-formed s head = rw (head, wellFormedIn)
+  not-well-formed named s head = rw (head, wellFormedIn)
 
   -- with the numbers of boards and pages as the check read them; every element of a slice is a byte
-  pub well-formed-left : (s : List ℕ) {boards pages : ℕ} → boards ≡ byteAt s boardsAt → pages ≡ byteAt s pagesAt
+  pub well-formed-left : (named : Bool) (s : List ℕ) {boards pages : ℕ} → boards ≡ byteAt s boardsAt → pages ≡ byteAt s pagesAt
       → ((i : ℕ) → i < length s → getD s i 0 < byteValues)
       → headValid form s ≡ true
-      → wellFormedIn form s ≡ (directoryValid boards pages (directoryOf pages s) && (blocksFit form boards pages s && logsValid form boards pages s))
+      → wellFormedIn form named s ≡ (directoryValid boards pages (directoryOf pages s)
+      && (blocksFit form boards pages s && (logsValid form boards pages s && peersValid form named boards pages s)))
   unfolding wellFormedIn
-  well-formed-left s p q bytes head =
+  well-formed-left named s p q bytes head =
       let all = each-every (λ b. ltb b byteValues) s (λ b h. lt-ltb b byteValues h) (each-of-getD s 0 bytes) in
       rw (head, wellFormedIn, all, ← p, ← q)
 
@@ -243,11 +244,25 @@ module _ (form : Form) (pages : ℕ) (directory l : List ℕ) (b : ℕ) where
 
 -- ---- all boards: block and records of each
 
-module _ (form : Form) (pages : ℕ) (s : List ℕ) where
-  unfoldable pub boardFits : ℕ → Bool
-  boardFits b = blockFits form pages (directoryOf pages s) (blockOfIn form pages s b) b && recordsValid form pages (blockOfIn form pages s b)
+module _ (form : Form) (named : Bool) (boards pages : ℕ) (s : List ℕ) where
+  abbrev fitsIn : ℕ → Bool
+  fitsIn b = blockFits form pages (directoryOf pages s) (blockOfIn form pages s b) b
 
-  pub boards-fit : (boards : ℕ) → everyBelow boards boardFits ≡ (blocksFit form boards pages s && logsValid form boards pages s)
-  unfolding boardFits blocksFit logsValid
-  boards-fit boards =
-      below-both (λ b. blockFits form pages (directoryOf pages s) (blockOfIn form pages s b) b) (λ b. recordsValid form pages (blockOfIn form pages s b)) boards
+  unfoldable pub boardFits : ℕ → Bool
+  boardFits b =
+      blockFits form pages (directoryOf pages s) (blockOfIn form pages s b) b
+      && recordsPass form (recordValid form named boards pages b) pages (blockOfIn form pages s b)
+
+  -- a board's records by their slots, and by whom they name
+  both-parts : (b : ℕ) → recordsPass form (recordValid form named boards pages b) pages (blockOfIn form pages s b)
+      ≡ (recordsPass form (slotValid form pages) pages (blockOfIn form pages s b) && recordsPass form (slotPeerValid named boards b) pages (blockOfIn form pages s b))
+  unfolding recordValid
+  both-parts b = records-both form (slotValid form pages) (slotPeerValid named boards b) pages (blockOfIn form pages s b)
+
+  pub boards-fit : everyBelow boards boardFits ≡ (blocksFit form boards pages s && (logsValid form boards pages s && peersValid form named boards pages s))
+  unfolding boardFits blocksFit logsValid peersValid
+  boards-fit =
+      let slots : ℕ → Bool = λ b. recordsPass form (slotValid form pages) pages (blockOfIn form pages s b) in
+      let peers : ℕ → Bool = λ b. recordsPass form (slotPeerValid named boards b) pages (blockOfIn form pages s b) in
+      below-both fitsIn (λ b. recordsPass form (recordValid form named boards pages b) pages (blockOfIn form pages s b)) boards
+      ∙ ap (λ (t : Bool). everyBelow boards fitsIn && t) (ap (everyBelow boards) (fun-ext both-parts) ∙ below-both slots peers boards)

@@ -14,7 +14,7 @@ use Rattle.model.specs.Definitions.Layout.{slotCount, noFuse, fuseSize, numberS
 use Rattle.model.specs.Definitions.Layout.{fuseAt, numberAt, sinceAt, Form, slotSizeIn, placeAtIn, volatileCountAtIn, framesAtIn, slotsAtIn, areaAtIn}
 use Rattle.model.specs.Definitions.Codec.{decodeEntry, decodeFrame, stateByte, stateOf, selectorByte}
 use Rattle.model.specs.Definitions.Check.{isZero, frameValid, framesValid, pageAgrees, areaCount, countsValid, selectedCount, stateValid, pagesAgree}
-use Rattle.model.specs.Definitions.Check.{slotValid}
+use Rattle.model.specs.Definitions.Check.{slotValid, slotPeerValid}
 
 -- a word: two numbers side by side
 abbrev pub wordSize : ℕ
@@ -101,15 +101,19 @@ module _ (form : Form) where
   unfoldable pub downFramesValid : ℕ → List ℕ → Bool
   downFramesValid pages l = everyBelow pages (λ p. ownPageZero l p && storedPageValid pages l p)
 
-  -- how many records a log holds, where its slots stand, and whether the record of an index, and all of them, are valid
+  -- how many records a log holds, where its slots stand, and whether the record of an index, and all of them, pass a test
   unfoldable pub logCount : ℕ → List ℕ → ℕ → ℕ
   logCount pages l log = elim (eqb log volatileLog) [ true ↦ byteAt l (volatileCountAtIn form) | false ↦ areaCount form pages log l ]
 
   unfoldable pub logSlotsAt : ℕ → ℕ → ℕ
   logSlotsAt pages log = elim (eqb log volatileLog) [ true ↦ slotsAtIn form pages | false ↦ areaAtIn form pages log + areaSlotsAt pages ]
 
-  unfoldable pub recordValidIn : ℕ → List ℕ → ℕ → ℕ → Bool
-  recordValidIn pages l log i = slotValid form pages (part l (logSlotsAt pages log + i * slotSizeIn form) (slotSizeIn form))
+  unfoldable pub recordPassesIn : (List ℕ → Bool) → ℕ → List ℕ → ℕ → ℕ → Bool
+  recordPassesIn test pages l log i = test (part l (logSlotsAt pages log + i * slotSizeIn form) (slotSizeIn form))
 
-  unfoldable pub logValid : ℕ → List ℕ → ℕ → Bool
-  logValid pages l log = everyBelow (logCount pages l log) (recordValidIn pages l log)
+  unfoldable pub logPasses : (List ℕ → Bool) → ℕ → List ℕ → ℕ → Bool
+  logPasses test pages l log = everyBelow (logCount pages l log) (recordPassesIn test pages l log)
+
+  -- the test of a record of board b: its slot, and whom it names
+  unfoldable pub recordValid : (named : Bool) (boards pages b : ℕ) → List ℕ → Bool
+  recordValid named boards pages b slot = slotValid form pages slot && slotPeerValid named boards b slot

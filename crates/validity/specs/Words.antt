@@ -15,12 +15,12 @@ use borrow.Author.Tests.{ltb-true, ltb-false, lt-ltb, leb-true, eq-eqb, ne-eqb, 
 use Rattle.words.specs.LittleEndian.{numberOf}
 use Rattle.types.specs.declared.Right.{Right}
 use Rattle.types.specs.declared.Right.the-variants.{None, Own}
-use Rattle.model.specs.Definitions.Layout.{mostPages, byteValues, numberSize, pageSize, entrySize, copiesAt, rightAt, frameBytesAt, frameSize, mark0At}
-use Rattle.model.specs.Definitions.Layout.{mark1At, slotPageAt, slotZeroAt, letterG, letterS, letterH, letterD, letterR, Form, slotBytesAtIn}
+use Rattle.model.specs.Definitions.Layout.{byteValues, numberSize, pageSize, entrySize, copiesAt, rightAt, frameBytesAt, frameSize, mark0At}
+use Rattle.model.specs.Definitions.Layout.{mark1At, slotPageAt, letterG, letterS, letterH, letterD, letterR, Form, slotBytesAtIn}
 use Rattle.model.specs.Definitions.Parts.{part, byteAt, every, everyFrom, everyBelow, member}
 use Rattle.model.specs.Definitions.Codec.{rightByte, rightOf, decodeEntry}
-use Rattle.model.specs.Definitions.Check.{isZero, frameValid, gotMark, bareMark, markFits, slotValid, sameRight}
-use Rattle.model.specs.Laws.Logic.{clash, byBool, byEq, and-left, and-right, and-both}
+use Rattle.model.specs.Definitions.Check.{isZero, frameValid, gotMark, bareMark, markFits, peerAllowed, slotValid, sameRight}
+use Rattle.model.specs.Laws.Logic.{clash, byBool, byEq, and-left, and-right}
 use Rattle.model.specs.Laws.Parts.{length-part, part-all, part-join, part-part, byte-rest, byteAt-part}
 use Rattle.model.specs.Laws.Codec.{rightOf-rightByte}
 use Rattle.model.specs.Laws.Sets.{member-none}
@@ -144,34 +144,25 @@ bare-not-got : (m0 m1 : ℕ) → bareMark m0 m1 ≡ true → gotMark m0 m1 ≡ f
 unfolding bareMark gotMark
 bare-not-got m0 m1 h = byEq m0 letterG (λ e. clash (rw e at h) refl) (λ n. rw (ne-eqb m0 letterG n))
 
--- ---- a slot, its page and zero byte by one comparison
+-- ---- a slot: its page, then its mark
 
-module _ (pages page zeroByte : ℕ) where
-  pair-in : pages ≤ mostPages → page + 256 * zeroByte < pages → (ltb page pages && eqb zeroByte 0) ≡ true
-  pair-in few h = and-both (lt-ltb page pages (omega arith)) (eq-eqb zeroByte 0 (omega arith))
-
-  pair-out : pages ≤ page + 256 * zeroByte → (ltb page pages && eqb zeroByte 0) ≡ false
-  pair-out h =
-      byBool (ltb page pages && eqb zeroByte 0)
-      (λ t.
-      let p : page < pages = ltb-true page pages (and-left _ _ t) in
-      let z : zeroByte ≡ 0 = eqb-true zeroByte 0 (and-right (ltb page pages) _ t) in
-      absurd (omega arith))
-      (λ t. t)
+-- a number at or past a limit
+not-below : (limit n : ℕ) → limit ≤ n → ltb n limit ≡ false
+not-below limit n h = byBool (ltb n limit) (λ t. absurd (omega (arith, ltb-true n limit t))) (λ t. t)
 
 module _ (form : Form) (pages : ℕ) (l : List ℕ) where
   abbrev marked : Bool
   marked = markFits (byteAt l mark0At) (byteAt l mark1At) (isZero (part l (slotBytesAtIn form) pageSize))
 
-  pub slot-out : pages ≤ byteAt l slotPageAt + 256 * byteAt l slotZeroAt → false ≡ slotValid form pages l
+  pub slot-out : pages ≤ byteAt l slotPageAt → false ≡ slotValid form pages l
   unfolding slotValid
-  slot-out h = rw (pair-out pages (byteAt l slotPageAt) (byteAt l slotZeroAt) h) (sym (and-false marked))
+  slot-out h = rw (not-below pages (byteAt l slotPageAt) h) (sym (and-false marked))
 
-  -- page and zero byte in range: a mark without page bytes asks for zeros, any other has to be a got's
-  module _ (few : pages ≤ mostPages) (h : byteAt l slotPageAt + 256 * byteAt l slotZeroAt < pages) where
+  -- the page in range: a mark without page bytes asks for zeros, any other has to be a got's
+  module _ (h : byteAt l slotPageAt < pages) where
     slot-in : marked ≡ slotValid form pages l
     unfolding slotValid
-    slot-in = rw (pair-in pages (byteAt l slotPageAt) (byteAt l slotZeroAt) few h, and-true)
+    slot-in = rw (lt-ltb (byteAt l slotPageAt) pages h, and-true)
 
     pub slot-bare : bareMark (byteAt l mark0At) (byteAt l mark1At) ≡ true → isZero (part l (slotBytesAtIn form) pageSize) ≡ slotValid form pages l
     unfolding markFits
@@ -180,6 +171,23 @@ module _ (form : Form) (pages : ℕ) (l : List ℕ) where
     pub slot-other : bareMark (byteAt l mark0At) (byteAt l mark1At) ≡ false → gotMark (byteAt l mark0At) (byteAt l mark1At) ≡ slotValid form pages l
     unfolding markFits
     slot-other t = rw (← slot-in, t, and-false, or-false)
+
+-- ---- whom a record names
+
+pub peer-zero : (named : Bool) (boards b peer : ℕ) → not named ≡ true → eqb peer 0 ≡ peerAllowed named boards b peer
+unfolding peerAllowed
+peer-zero true boards b peer h = clash h refl
+peer-zero false boards b peer h = refl
+
+pub peer-out : (named : Bool) (boards b peer : ℕ) → not named ≡ false → boards ≤ peer → false ≡ peerAllowed named boards b peer
+unfolding peerAllowed
+peer-out true boards b peer h l = rw (not-below boards peer l)
+peer-out false boards b peer h l = clash refl h
+
+pub peer-other : (named : Bool) (boards b peer : ℕ) → not named ≡ false → peer < boards → not (eqb peer b) ≡ peerAllowed named boards b peer
+unfolding peerAllowed
+peer-other true boards b peer h l = rw (lt-ltb peer boards l)
+peer-other false boards b peer h l = clash refl h
 
 -- ---- sets joined
 

@@ -4,7 +4,7 @@ use crate::block::block_fits;
 use crate::block::volatile_count;
 use crate::parts::all_holders;
 use crate::parts::directory_valid;
-use crate::parts::slot_valid;
+use crate::parts::record_valid;
 use fields::bytes::wide;
 use fields::widths::SINCE_SIZE;
 use format::layout::BOARDS_AT;
@@ -29,7 +29,7 @@ ghost use mathlib.Core.Bool.{_&&_};
 ghost use Prim.Native.Nat.{_≤_, _<_};
 ghost use lib.Dec.{ltb, leb};
 ghost use Rattle.model.specs.Definitions.Layout.{mostPages, formOf, sinceSize};
-ghost use Rattle.model.specs.Definitions.Check.{headValid, blocksFit, logsValid, wellFormedIn, wellFormed};
+ghost use Rattle.model.specs.Definitions.Check.{headValid, blocksFit, logsValid, peersValid, wellFormedIn, wellFormed};
 ghost use Rattle.validity.specs.Sizes.{BlockSized, BankSized};
 ghost use Rattle.validity.specs.Pieces.{logs, logCount, logSlotsAt};
 
@@ -101,9 +101,10 @@ fn log_slots_at(since: usize, pages: usize, log: usize) -> usize
 
 // "The search for a malformed slot, board by board and slot by slot, ends at the first": whether it comes to its end. A board's block is tested
 // before its slots. Where block and log stand is worked out once for each, outside the loop over slots.
-fn boards_valid(bank: &[u8], since: usize, boards: usize, pages: usize) -> bool
+fn boards_valid(bank: &[u8], since: usize, named: bool, boards: usize, pages: usize) -> bool
     requires { ⌜ BankSized since boards pages (now bank) ⌝ }
-    ensures { λ r. ⌜ r ≡ (blocksFit (formOf since) boards pages (now (bank .entry)) && logsValid (formOf since) boards pages (now (bank .entry))) ⌝ }
+    ensures { λ r. ⌜ r ≡ (blocksFit (formOf since) boards pages (now (bank .entry))
+        && (logsValid (formOf since) boards pages (now (bank .entry)) && peersValid (formOf since) named boards pages (now (bank .entry)))) ⌝ }
 {
     let n = pages * ENTRY_SIZE;
     let directory = &bank[HEAD_SIZE..HEAD_SIZE + n];
@@ -123,7 +124,14 @@ fn boards_valid(bank: &[u8], since: usize, boards: usize, pages: usize) -> bool
             let end = at + log_count(block, since, pages, log) * slot;
             let mut from = at;
             while from < end {
-                if !slot_valid(&block[from..from + slot], since, pages) {
+                if !record_valid(
+                    &block[from..from + slot],
+                    since,
+                    named,
+                    boards,
+                    pages,
+                    board,
+                ) {
                     break 'search;
                 }
                 from += slot;
@@ -137,10 +145,10 @@ fn boards_valid(bank: &[u8], since: usize, boards: usize, pages: usize) -> bool
 
 // ---- the whole
 
-// "Well formed means: ..", of any slice in a form: the answer is the definition's.
-pub fn well_formed_in(bank: &[u8], since: usize) -> bool
+// "Well formed means: ..", of any slice in a form, in which records name a board or don't: the answer is the definition's.
+pub fn well_formed_in(bank: &[u8], since: usize, named: bool) -> bool
     requires { ⌜ since ≤ sinceSize ⌝ }
-    ensures { λ r. ⌜ r ≡ wellFormedIn (formOf since) (now (bank .entry)) ⌝ }
+    ensures { λ r. ⌜ r ≡ wellFormedIn (formOf since) named (now (bank .entry)) ⌝ }
 {
     if !head_valid(bank, since) {
         return false;
@@ -151,12 +159,12 @@ pub fn well_formed_in(bank: &[u8], since: usize) -> bool
     if !directory_valid(&bank[HEAD_SIZE..HEAD_SIZE + n], boards, pages) {
         return false;
     }
-    boards_valid(bank, since, boards, pages)
+    boards_valid(bank, since, named, boards, pages)
 }
 
-// The same in today's form.
+// The same in today's form, in which they do.
 pub fn well_formed(bank: &[u8]) -> bool
     ensures { λ r. ⌜ r ≡ wellFormed (now (bank .entry)) ⌝ }
 {
-    well_formed_in(bank, SINCE_SIZE)
+    well_formed_in(bank, SINCE_SIZE, true)
 }

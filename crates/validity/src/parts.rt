@@ -16,7 +16,7 @@ use fields::widths::MARK1_AT;
 use fields::widths::NUMBER_SIZE;
 use fields::widths::RIGHT_AT;
 use fields::widths::SLOT_PAGE_AT;
-use fields::widths::SLOT_ZERO_AT;
+use fields::widths::SLOT_PEER_AT;
 use format::layout::COPIES_AT;
 use format::layout::ENTRY_SIZE;
 use format::layout::OWNER_AT;
@@ -31,8 +31,8 @@ ghost use Rattle.model.specs.Definitions.Parts.{part};
 ghost use Rattle.model.specs.Definitions.Layout.{mostBoards, mostPages, byteValues, lastNumber, numberSize, entrySize, pageSize, frameSize, formOf, sinceSize};
 ghost use Rattle.model.specs.Definitions.Layout.{slotSizeIn};
 ghost use Rattle.model.specs.Definitions.Codec.{decodeEntry};
-ghost use Rattle.model.specs.Definitions.Check.{isZero, frameValid, framesValid, gotMark, bareMark, slotValid, entryValid, directoryValid};
-ghost use Rattle.validity.specs.Pieces.{wordSize, pageBits, Holders};
+ghost use Rattle.model.specs.Definitions.Check.{isZero, frameValid, framesValid, gotMark, bareMark, slotValid, peerAllowed, entryValid, directoryValid};
+ghost use Rattle.validity.specs.Pieces.{wordSize, pageBits, Holders, recordValid};
 
 // The `n` bytes at a place are all zero: no bit is set in any, which takes no branch for each byte. For since, whose width is the form's.
 pub fn zero_run(s: &[u8], at: usize, n: usize) -> bool
@@ -191,18 +191,49 @@ fn bare_mark(m0: u8, m1: u8) -> bool
     m == DROPPED
 }
 
-// A slot below a count holds a record: a mark, a page of the bank, the zero byte, and no page bytes unless it is a got, whose page is not looked at.
-pub fn slot_valid(slot: &[u8], since: usize, pages: usize) -> bool
+// A slot below a count holds a record: a mark, a page of the bank, and no page bytes unless it is a got, whose page is not looked at.
+fn slot_valid(slot: &[u8], since: usize, pages: usize) -> bool
     requires { ⌜ (since ≤ sinceSize) × (length (now slot) ≡ slotSizeIn (formOf since)) × (pages ≤ mostPages) ⌝ }
     ensures { λ r. ⌜ r ≡ slotValid (formOf since) pages (now (slot .entry)) ⌝ }
 {
-    if pages <= pair(slot[SLOT_PAGE_AT], slot[SLOT_ZERO_AT]) {
+    if pages <= wide(slot[SLOT_PAGE_AT]) {
         return false;
     }
     if bare_mark(slot[MARK0_AT], slot[MARK1_AT]) {
         return zero_page(slot, slot_bytes_at_in(since));
     }
     got_mark(slot[MARK0_AT], slot[MARK1_AT])
+}
+
+// "this board below N and different from the log's own" (document 02, F-6); where no record names a board it is a zero byte.
+fn peer_allowed(peer: u8, named: bool, boards: usize, board: usize) -> bool
+    ensures { λ r. ⌜ r ≡ peerAllowed named boards board peer ⌝ }
+{
+    if !named {
+        return peer == 0;
+    }
+    if boards <= wide(peer) {
+        return false;
+    }
+    wide(peer) != board
+}
+
+// A record of a board's log: whom it names, and the rest of its slot.
+pub fn record_valid(
+    slot: &[u8],
+    since: usize,
+    named: bool,
+    boards: usize,
+    pages: usize,
+    board: usize,
+) -> bool
+    requires { ⌜ (since ≤ sinceSize) × (length (now slot) ≡ slotSizeIn (formOf since)) × (pages ≤ mostPages) ⌝ }
+    ensures { λ r. ⌜ r ≡ recordValid (formOf since) named boards pages board (now (slot .entry)) ⌝ }
+{
+    if !peer_allowed(slot[SLOT_PEER_AT], named, boards, board) {
+        return false;
+    }
+    slot_valid(slot, since, pages)
 }
 
 // A directory entry names a board of the bank, and copy holders that are boards and not the owner.

@@ -1,8 +1,9 @@
-//! Both engines on the same bytes: the archive by its eight C names, the second engine in place.
+//! Both engines on the same bytes: the archive by its nine C names, the second engine in place.
 //! An answer is the number that C gets: code + 2^8 who + 2^16 stores + 2^32 value.
 
+use second::adopt;
 use second::calls::{self, Answer, Call};
-use second::check::well_formed;
+use second::check::passes;
 use second::convert;
 use second::fault::Fault;
 use second::layout::{Form, NEWEST, OLDER};
@@ -30,6 +31,7 @@ extern "C" {
         out_len: usize,
     ) -> u64;
     fn bank_convert(old: *const u8, old_len: usize, new: *mut u8, new_len: usize) -> u64;
+    fn bank_adopt(bank: *mut u8, len: usize) -> u64;
 }
 
 /// A call of the archive that is lent the bank alone, as all are that the runner has a line for.
@@ -81,6 +83,13 @@ pub fn archive_convert(old: &mut [u8], new: &mut [u8]) -> u64 {
     unsafe { bank_convert(old.as_mut_ptr(), old.len(), new.as_mut_ptr(), new.len()) }
 }
 
+/// An adoption by the archive. It writes nothing; the bank is lent for writing so that the caller may look.
+#[allow(dead_code)]
+pub fn archive_adopt(bank: &mut [u8]) -> u64 {
+    // Safe as the header asks: the pointer is valid for its length, and the borrow keeps others away.
+    unsafe { bank_adopt(bank.as_mut_ptr(), bank.len()) }
+}
+
 pub fn packed(answer: &Answer) -> u64 {
     answer.code as u64
         + ((answer.who as u64) << 8)
@@ -98,9 +107,9 @@ pub fn unpacked(answer: u64) -> Answer {
     }
 }
 
-/// The second engine's notes about a bank; none about bytes that are no bank.
-fn watch_of(bank: &[u8]) -> Watch {
-    match well_formed(bank) {
+/// The second engine's notes about a bank; none about bytes that it takes for no bank.
+fn watch_of(bank: &[u8], fault: Fault) -> Watch {
+    match passes::<NEWEST>(bank, fault) {
         true => Watch::of::<NEWEST>(bank),
         false => Watch::new(),
     }
@@ -108,7 +117,7 @@ fn watch_of(bank: &[u8]) -> Watch {
 
 /// How the two engines differed.
 pub struct Difference {
-    /// As a script has it; a conversion in words.
+    /// As a script has it; a conversion or an adoption in words.
     pub call: String,
     pub answers: [u64; 2],
     pub buffers: Vec<Buffer>,
@@ -141,7 +150,7 @@ impl Pair {
             archive: bytes.into(),
             second: bytes.into(),
             before: bytes.into(),
-            watch: watch_of(bytes),
+            watch: watch_of(bytes, fault),
             fault,
             random: Random::new(bytes.len() as u64),
         }
@@ -175,7 +184,7 @@ impl Pair {
     fn take_second(&mut self, line: &Line, out: &mut [u8]) -> u64 {
         if let Line::Make { boards, pages } = line {
             let answer = calls::make(&mut self.second, *boards, *pages);
-            self.watch = watch_of(&self.second);
+            self.watch = watch_of(&self.second, self.fault);
             return packed(&answer);
         }
         let call = call_for(line, self.fault).expect("every line but a making asks for a call");
@@ -271,5 +280,29 @@ pub fn convert_both(old: &[u8], target: &[u8], fault: Fault) -> Result<u64, Box<
         call: "conversion".into(),
         answers: [answer, other],
         buffers: vec![source, target],
+    }))
+}
+
+/// One adoption by both, each buffer an allocation of exactly its length; its packed answer if all agrees. The bank must
+/// stay as it is.
+pub fn adopt_both(bank: &[u8], fault: Fault) -> Result<u64, Box<Difference>> {
+    let mut archive: Box<[u8]> = bank.into();
+    let mut second: Box<[u8]> = bank.into();
+    let answer = archive_adopt(&mut archive);
+    let other = packed(&adopt::adopt(&mut second, fault));
+    if answer == other && archive == second && *archive == *bank {
+        return Ok(answer);
+    }
+    let bank = Buffer {
+        name: "bank",
+        form: Some(NEWEST),
+        before: bank.into(),
+        archive,
+        second,
+    };
+    Err(Box::new(Difference {
+        call: "adoption".into(),
+        answers: [answer, other],
+        buffers: vec![bank],
     }))
 }

@@ -7,7 +7,7 @@ mod engines;
 mod met;
 mod place;
 
-use engines::{convert_both, unpacked, Buffer, Difference, Pair};
+use engines::{adopt_both, convert_both, unpacked, Buffer, Difference, Pair};
 use met::{Met, Source};
 use second::asked;
 use second::calls::Answer;
@@ -15,7 +15,7 @@ use second::damage;
 use second::fault::{self, Fault, FAULTS};
 use second::fetches::Fetch;
 use second::gen::{Generator, LONG_SCRIPT};
-use second::layout::{Layout, NEWEST, OLDER};
+use second::layout::{Layout, EARLIER, NEWEST, OLDER};
 use second::line::Line;
 use second::made;
 use second::random::Random;
@@ -58,12 +58,15 @@ impl Comparing {
         while self.left() > 0 {
             match self.random.below(100) {
                 0..=4 => self.script()?,
-                5..=59 => self.made()?,
-                60..=74 => self.conversions()?,
+                5..=52 => self.made()?,
+                53..=64 => self.conversions()?,
+                65..=74 => self.adoptions()?,
                 _ if self.fault.trusts_its_bank() => self.made()?,
-                75..=92 => self.damaged()?,
-                93..=95 => self.wrong_length()?,
-                96 | 97 => self.old_form()?,
+                75..=85 => self.damaged()?,
+                86..=92 => self.misnamed()?,
+                93 | 94 => self.wrong_length()?,
+                95 => self.old_form()?,
+                96 => self.unnamed()?,
                 _ => self.making()?,
             }
         }
@@ -106,6 +109,14 @@ impl Comparing {
         if self.left() > 0 {
             let answer = convert_both(old, target, self.fault)?;
             self.met.conversion(source, answer);
+        }
+        Ok(())
+    }
+
+    fn adopt(&mut self, source: Source, bank: &[u8]) -> Found {
+        if self.left() > 0 {
+            let answer = adopt_both(bank, self.fault)?;
+            self.met.adoption(source, answer);
         }
         Ok(())
     }
@@ -176,6 +187,21 @@ impl Comparing {
         Ok(())
     }
 
+    /// A bank made by hand in which one record, of any log, names another board: mostly one that it may not name.
+    fn misnamed(&mut self) -> Found {
+        let good = made::bank::<NEWEST>(&mut self.random);
+        let layout = Layout::of(&good);
+        for _ in 0..4 {
+            let mut bank = good.clone();
+            damage::name::<NEWEST>(&mut self.random, &mut bank);
+            let mut pair = self.pair(Source::Misnamed, &bank);
+            self.met.misnamed(&good, &bank);
+            let line = asked::any(&mut self.random, layout, 970);
+            self.take(Source::Misnamed, &mut pair, &line)?;
+        }
+        Ok(())
+    }
+
     fn wrong_length(&mut self) -> Found {
         let good = self.any_bank();
         let layout = Layout::of(&good);
@@ -189,18 +215,48 @@ impl Comparing {
         Ok(())
     }
 
-    /// A well-formed old bank: fresh, reached or made by hand.
+    /// A well-formed old bank without records: fresh, reached and settled, or made by hand.
     fn old_bank(&mut self) -> Vec<u8> {
         match self.random.below(10) {
             0 => made::fresh(made::size::<OLDER>(&mut self.random)),
-            1..=3 => made::reached_old(&mut self.random),
+            1 => made::settled_old(&mut self.random),
+            _ => made::without_records::<OLDER>(&mut self.random),
+        }
+    }
+
+    /// One with records: reached or made by hand, in any logs or in one.
+    fn old_bank_with_records(&mut self) -> Vec<u8> {
+        match self.random.below(10) {
+            0 | 1 => made::reached_old(&mut self.random),
+            2..=5 => made::with_one_log::<OLDER>(&mut self.random),
             _ => made::bank::<OLDER>(&mut self.random),
+        }
+    }
+
+    /// A bank of the earlier form without records.
+    fn earlier_bank(&mut self) -> Vec<u8> {
+        match self.random.below(10) {
+            0 => made::fresh(made::size::<EARLIER>(&mut self.random)),
+            1 => made::settled(&mut self.random),
+            _ => made::without_records::<EARLIER>(&mut self.random),
+        }
+    }
+
+    /// One with records, whose byte 3 is zero.
+    fn earlier_bank_with_records(&mut self) -> Vec<u8> {
+        match self.random.below(10) {
+            0 | 1 => made::unnamed(&made::reached(&mut self.random)),
+            2..=5 => made::with_one_log::<EARLIER>(&mut self.random),
+            _ => made::bank::<EARLIER>(&mut self.random),
         }
     }
 
     /// An old bank, which the calls that know the newest form alone take for no bank.
     fn old_form(&mut self) -> Found {
-        let old = self.old_bank();
+        let old = match self.random.below(2) {
+            0 => self.old_bank(),
+            _ => self.old_bank_with_records(),
+        };
         let mut pair = self.pair(Source::OldForm, &old);
         for _ in 0..4 {
             let line = asked::any(&mut self.random, Layout::of(&old), 970);
@@ -209,20 +265,80 @@ impl Comparing {
         Ok(())
     }
 
-    /// Conversions of one old bank: as it is, damaged, of another length, and into targets of another length.
+    /// A bank of the earlier form that wasn't adopted: one with records may look well formed, since a zero byte names
+    /// board 0.
+    fn unnamed(&mut self) -> Found {
+        let bank = self.earlier_bank_with_records();
+        let mut pair = self.pair(Source::Unnamed, &bank);
+        for _ in 0..4 {
+            let line = asked::any(&mut self.random, Layout::of(&bank), 970);
+            self.take(Source::Unnamed, &mut pair, &line)?;
+        }
+        Ok(())
+    }
+
+    /// Adoptions: of earlier banks without and with records, of banks with names, damaged, of another length.
+    fn adoptions(&mut self) -> Found {
+        let (empty, logged) = (self.earlier_bank(), self.earlier_bank_with_records());
+        self.adopt(Source::Adopted, &empty)?;
+        self.adopt(Source::AdoptedRecords, &logged)?;
+        let named = self.named_bank();
+        self.adopt(Source::AdoptedNamed, &named)?;
+        for _ in 0..4 {
+            let mut damaged = match self.random.below(3) {
+                0 => empty.clone(),
+                _ => logged.clone(),
+            };
+            damage::bytes::<EARLIER>(&mut self.random, &mut damaged);
+            self.adopt(Source::AdoptedDamaged, &damaged)?;
+        }
+        let other = self.other_length(logged);
+        self.adopt(Source::AdoptedLength, &other)
+    }
+
+    /// A bank of the newest form; with few boards all its records may name board 0.
+    fn named_bank(&mut self) -> Vec<u8> {
+        match self.random.below(4) {
+            0 => made::reached(&mut self.random),
+            1 => made::with_one_log::<NEWEST>(&mut self.random),
+            _ => made::bank::<NEWEST>(&mut self.random),
+        }
+    }
+
+    /// What is no earlier bank by its length: shorter, longer, nothing, or an old bank.
+    fn other_length(&mut self, mut bank: Vec<u8>) -> Vec<u8> {
+        match self.random.below(6) {
+            0 => bank.clear(),
+            1 => bank = self.old_bank(),
+            _ => damage::length::<EARLIER>(&mut self.random, &mut bank),
+        }
+        bank
+    }
+
+    /// Conversions of an old bank without records and of one with some: as they are, damaged, of another length, and into
+    /// targets of another length.
     fn conversions(&mut self) -> Found {
         let old = self.old_bank();
         let target = self.target(&old);
         self.convert(Source::Converted, &old, &target)?;
-        for _ in 0..4 {
-            let mut damaged = old.clone();
+        self.refused_conversions(&old)?;
+        let old = self.old_bank_with_records();
+        let target = self.target(&old);
+        self.convert(Source::ConvertedRecords, &old, &target)?;
+        self.refused_conversions(&old)
+    }
+
+    /// Those of one old bank that mostly get code 1.
+    fn refused_conversions(&mut self, old: &[u8]) -> Found {
+        for _ in 0..2 {
+            let mut damaged = old.to_vec();
             damage::bytes::<OLDER>(&mut self.random, &mut damaged);
-            let target = self.target(&old);
+            let target = self.target(old);
             self.convert(Source::ConvertedDamaged, &damaged, &target)?;
         }
-        let (other, target) = (self.other_source(&old), self.target(&old));
+        let (other, target) = (self.other_source(old), self.target(old));
         self.convert(Source::ConvertedLength, &other, &target)?;
-        let (source, target) = (self.any_source(&old), self.other_target(&old));
+        let (source, target) = (self.any_source(old), self.other_target(old));
         self.convert(Source::Target, &source, &target)
     }
 

@@ -4,6 +4,7 @@ use crate::engines::unpacked;
 use second::calls::Call;
 use second::cases::Cases;
 use second::fetches::{self, Fetch};
+use second::layout::{Layout, Log, SLOT_BOARD};
 use second::line::Line;
 use second::shelves::{self, Shelf};
 
@@ -12,30 +13,54 @@ pub enum Source {
     Script,
     Made,
     Damaged,
+    Misnamed,
     Length,
     OldForm,
+    Unnamed,
     Making,
     Converted,
+    ConvertedRecords,
     ConvertedDamaged,
     ConvertedLength,
     Target,
+    Adopted,
+    AdoptedRecords,
+    AdoptedNamed,
+    AdoptedDamaged,
+    AdoptedLength,
 }
 
-const SOURCES: [&str; 10] = [
+const SOURCES: [&str; 18] = [
     "random scripts from a fresh bank",
     "well-formed banks made by hand",
     "banks with damaged bytes",
+    "banks in which one record names another board",
     "banks of a wrong length",
     "old banks, not converted",
+    "earlier banks, not adopted",
     "makings in any buffer",
-    "conversions of well-formed old banks",
+    "conversions of old banks without records",
+    "conversions of old banks with records",
     "conversions of damaged old banks",
     "conversions of old banks of a wrong length",
     "conversions into a target of a wrong length",
+    "adoptions of earlier banks without records",
+    "adoptions of earlier banks with records",
+    "adoptions of banks of the newest form",
+    "adoptions of damaged earlier banks",
+    "adoptions of banks of another length",
+];
+
+/// The logs in which one record names another board, and what that is.
+const LOGS: [&str; 3] = ["volatile log", "selected area", "spare area"];
+const NAMED: [&str; 3] = [
+    "its own board",
+    "a board at or past N",
+    "a board that it may name",
 ];
 
 /// The scripts' letters, a fuse of 0 apart from the others, and which codes each call can answer.
-const KINDS: [(&str, &[usize]); 9] = [
+const KINDS: [(&str, &[usize]); 10] = [
     ("N", &[0, 1, 2]),
     ("R", &[0, 1, 2, 3, 4, 5, 6, 7, 8]),
     ("W", &[0, 1, 2, 3, 4, 5, 6, 7, 8]),
@@ -44,11 +69,13 @@ const KINDS: [(&str, &[usize]); 9] = [
     ("F 0", &[0, 1, 2, 3]),
     ("F", &[0, 1, 2, 3]),
     ("S", &[0, 1, 2, 3]),
-    ("convert", &[0, 1]),
+    ("convert", &[0, 1, 11]),
+    ("adopt", &[0, 1, 11]),
 ];
-const CODES: [usize; 10] = [0, 1, 2, 3, 4, 5, 6, 7, 8, 10];
-const MOST_CODE: usize = 10;
+const CODES: [usize; 11] = [0, 1, 2, 3, 4, 5, 6, 7, 8, 10, 11];
+const MOST_CODE: usize = 11;
 const CONVERT: usize = 8;
+const ADOPT: usize = 9;
 
 /// The two sources whose fetches are looked at.
 const FETCH_SOURCES: [&str; 2] = ["random scripts", "made by hand"];
@@ -61,6 +88,8 @@ pub struct Met {
     shelves: Cases<Shelf>,
     /// In random scripts, and in banks made by hand.
     fetches: [Cases<Fetch>; 2],
+    /// Banks in which one record names another board, by its log and that board.
+    misnamed: [[u64; NAMED.len()]; LOGS.len()],
 }
 
 fn kind_of(line: &Line) -> usize {
@@ -84,7 +113,38 @@ impl Met {
             sources: Default::default(),
             shelves: shelves::all(),
             fetches: [fetches::cases(), fetches::cases()],
+            misnamed: Default::default(),
         }
+    }
+
+    /// The record in whose byte 3 two banks differ: which log it is in, and whom it names now.
+    pub fn misnamed(&mut self, good: &[u8], bank: &[u8]) {
+        let layout = Layout::of(bank);
+        let differs = |slot: usize| good[slot + SLOT_BOARD] != bank[slot + SLOT_BOARD];
+        let records = |log: Log| layout.records(bank, log).map(move |slot| (log, slot));
+        let Some((log, slot)) = layout
+            .logs()
+            .flat_map(records)
+            .find(|(_, slot)| differs(*slot))
+        else {
+            return;
+        };
+        let selected = bank[layout.selector(log.board)] as usize;
+        let which = log.area.map_or(0, |area| 1 + (area != selected) as usize);
+        let named = match bank[slot + SLOT_BOARD] as usize {
+            board if board == log.board => 0,
+            board if board >= layout.boards => 1,
+            _ => 2,
+        };
+        self.misnamed[which][named] += 1;
+    }
+
+    fn misnamed_rows(&self) -> impl Iterator<Item = (String, u64)> + '_ {
+        let rows = LOGS.iter().zip(&self.misnamed);
+        rows.flat_map(|(log, counts)| {
+            let row = move |(named, count): (&&str, &u64)| (format!("{log}, {named}"), *count);
+            NAMED.iter().zip(counts).map(row)
+        })
     }
 
     pub fn shelf(&mut self, shelf: &Shelf, answer: u64) {
@@ -109,6 +169,11 @@ impl Met {
         self.count(source, CONVERT, answer);
     }
 
+    pub fn adoption(&mut self, source: Source, answer: u64) {
+        self.bank(source);
+        self.count(source, ADOPT, answer);
+    }
+
     fn count(&mut self, source: Source, kind: usize, answer: u64) {
         let code = unpacked(answer).code as usize;
         self.calls += 1;
@@ -128,6 +193,9 @@ impl Met {
         for (name, [banks, calls, refused]) in SOURCES.iter().zip(&self.sources) {
             println!("{name}: {banks} banks, {calls} calls, {refused} of them with code 1");
         }
+        println!("one record names another board:");
+        self.misnamed_rows()
+            .for_each(|(name, count)| println!("  {name}: {count}"));
         self.shelves.print();
         for (fetches, source) in self.fetches.iter().zip(FETCH_SOURCES) {
             print!("{source}: ");
@@ -136,7 +204,7 @@ impl Met {
         println!("never met: {}", self.never_met());
     }
 
-    /// Calls with a code that they can answer and didn't, and cases of shelf calls and of fetches that didn't come.
+    /// Calls with a code that they can answer and didn't, and cases of names, shelf calls and fetches that didn't come.
     fn never_met(&self) -> String {
         let mut missing: Vec<String> = KINDS
             .iter()
@@ -148,6 +216,8 @@ impl Met {
                     .map(move |code| format!("{kind} with {code}"))
             })
             .collect();
+        let misnamed = self.misnamed_rows().filter(|(_, count)| *count == 0);
+        missing.extend(misnamed.map(|(name, _)| name));
         missing.extend(self.shelves.missing().map(String::from));
         for (fetches, source) in self.fetches.iter().zip(FETCH_SOURCES) {
             let rows = fetches.missing().map(|row| format!("{source}: {row}"));

@@ -70,6 +70,7 @@ fn slot<const FORM: Form>(from: usize) -> String {
     let field = match from % size {
         0 | 1 => "mark",
         SLOT_PAGE => "page",
+        SLOT_BOARD if Layout::<FORM>::NAMES_BOARD => "board",
         SLOT_ZERO => "zero byte",
         at if at < Layout::<FORM>::SLOT_BYTES => "count",
         _ => "page bytes",

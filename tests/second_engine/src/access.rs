@@ -162,7 +162,7 @@ impl<const FORM: Form> Engine<'_, FORM> {
         let gifts = &self.gifts(access, &pages)?[..];
         self.room(&self.reading_needs(access, gifts))?;
         for (place, gift) in gifts.iter().enumerate() {
-            self.show_to_reader(gifts, place)?;
+            self.show_to_reader(access.board, gifts, place)?;
             if self.fault == Fault::CopiesOneByOne {
                 self.take_copies(access.board, &[*gift]);
             }
@@ -204,16 +204,18 @@ impl<const FORM: Form> Engine<'_, FORM> {
     }
 
     /// The giver of the page at a place in the list records shown and flushes.
-    fn show_to_reader(&mut self, gifts: &[Gift], place: usize) -> Step {
+    fn show_to_reader(&mut self, reader: usize, gifts: &[Gift], place: usize) -> Step {
         let Gift { page, giver } = gifts[place];
         let now = match self.fault {
             Fault::ShowTogether if place == 0 => gifts,
             Fault::ShowTogether => &[],
             _ => &gifts[place..=place],
         };
-        for Gift { page, giver } in now {
-            if self.fault != Fault::HolderUnshown || *giver == self.owner(*page) {
-                self.record(*giver, SHOWN, *page, [0; PAGE]);
+        for gift in now {
+            let Gift { page, giver } = *gift;
+            if self.fault != Fault::HolderUnshown || giver == self.owner(page) {
+                let named = self.named_by_shown(gift, reader);
+                self.record(giver, SHOWN, page, named, [0; PAGE]);
             }
         }
         let turn = match place {
@@ -230,10 +232,31 @@ impl<const FORM: Form> Engine<'_, FORM> {
         self.flush(giver, Flush::ShowsReader(kind, turn))
     }
 
+    /// A shown names the taker.
+    fn named_by_shown(&self, gift: &Gift, taker: usize) -> usize {
+        let owner = self.owner(gift.page);
+        match self.fault {
+            Fault::ShownNamesGiver => gift.giver,
+            Fault::ShownNamesOwner if gift.giver != owner => owner,
+            _ => taker,
+        }
+    }
+
+    /// A got names the giver, which is not always the owner.
+    fn named_by_got(&self, gift: &Gift, taker: usize, gifts: &[Gift]) -> usize {
+        match self.fault {
+            Fault::GotNamesOwner => self.owner(gift.page),
+            Fault::GotNamesTaker => taker,
+            Fault::GotNamesFirst => gifts[0].giver,
+            _ => gift.giver,
+        }
+    }
+
     /// The reader's gots follow each other, so that all but the first have count 0. No store is made.
     fn take_copies(&mut self, reader: usize, gifts: &[Gift]) {
         let since = self.since(reader);
-        for Gift { page, giver } in gifts {
+        for gift in gifts {
+            let Gift { page, giver } = gift;
             let owner = self.owner(*page);
             let bytes = match self.fault {
                 Fault::OwnersBytes => self.page_bytes(owner, *page),
@@ -242,7 +265,8 @@ impl<const FORM: Form> Engine<'_, FORM> {
             if self.fault == Fault::GotsKeepCount {
                 self.put_since(reader, since);
             }
-            self.record(reader, GOT_COPY, *page, bytes);
+            let named = self.named_by_got(gift, reader, gifts);
+            self.record(reader, GOT_COPY, *page, named, bytes);
             self.set_frame(reader, *page, COPY, bytes);
             let copies = self.layout.copies(*page);
             if self.fault != Fault::CopyUnlisted || *giver == owner {
@@ -253,7 +277,8 @@ impl<const FORM: Form> Engine<'_, FORM> {
     }
 
     fn write_fetch(&mut self, access: &Access, pages: &[usize]) -> Step {
-        let Gift { page, giver } = self.gifts(access, pages)?[0];
+        let gift = self.gifts(access, pages)?[0];
+        let Gift { page, giver } = gift;
         let writer = access.board;
         // Only a wrong engine's giver is in the copy-set.
         let others = self.copies(page) & !(1 << writer) & !(1 << giver);
@@ -262,24 +287,27 @@ impl<const FORM: Form> Engine<'_, FORM> {
         needs[giver] += 2;
         Self::holders(others).for_each(|holder| needs[holder] += 1);
         self.room(&needs)?;
-        self.show_to_writer(giver, page)?;
+        self.show_to_writer(&gift, writer)?;
         let bytes = self.page_bytes(giver, page);
         if self.fault == Fault::EarlyOwner {
             self.name_owner(page, writer);
         }
-        self.record(writer, GOT_OWN, page, bytes);
+        let named = self.named_by_got(&gift, writer, &[gift]);
+        self.record(writer, GOT_OWN, page, named, bytes);
         self.flush(writer, Flush::Writer)?;
         self.pass_ownership(giver, others, writer, page, bytes);
         self.watch.givers.push(giver);
         Ok(())
     }
 
-    fn show_to_writer(&mut self, owner: usize, page: usize) -> Step {
-        self.record(owner, SHOWN, page, [0; PAGE]);
+    fn show_to_writer(&mut self, gift: &Gift, writer: usize) -> Step {
+        let Gift { page, giver } = *gift;
+        let named = self.named_by_shown(gift, writer);
+        self.record(giver, SHOWN, page, named, [0; PAGE]);
         if self.fault == Fault::EarlyDropped {
-            self.record(owner, DROPPED, page, [0; PAGE]);
+            self.record(giver, DROPPED, page, writer, [0; PAGE]);
         }
-        self.flush(owner, Flush::OwnerShowsWriter)
+        self.flush(giver, Flush::OwnerShowsWriter)
     }
 
     /// The writer's got is stored, so the page may pass: all that the others lose goes together.
@@ -294,9 +322,13 @@ impl<const FORM: Form> Engine<'_, FORM> {
         if self.fault == Fault::EarlyDropped {
             self.clear_frame(owner, page);
         } else {
-            self.drop_right(owner, page);
+            self.drop_right(owner, page, writer);
         }
-        Self::holders(others).for_each(|holder| self.drop_right(holder, page));
+        let named = match self.fault {
+            Fault::DroppedNamesOldOwner => owner,
+            _ => writer,
+        };
+        Self::holders(others).for_each(|holder| self.drop_right(holder, page, named));
         self.set_frame(writer, page, OWN, bytes);
         self.name_owner(page, writer);
         self.bank[self.layout.copies(page)] = 0;
@@ -312,13 +344,25 @@ impl<const FORM: Form> Engine<'_, FORM> {
         let mut needs = Needs::default();
         Self::holders(copies).for_each(|holder| needs[holder] += 1);
         self.room(&needs)?;
-        Self::holders(copies).for_each(|holder| self.drop_right(holder, page));
+        let writer = self.owner(page);
+        for holder in Self::holders(copies) {
+            let named = match self.fault {
+                Fault::RecallNamesDropper => holder,
+                _ => writer,
+            };
+            self.drop_right(holder, page, named);
+        }
         self.bank[self.layout.copies(page)] = 0;
         Ok(())
     }
 
-    fn drop_right(&mut self, board: usize, page: usize) {
-        self.record(board, DROPPED, page, [0; PAGE]);
+    /// A dropped names the writer.
+    fn drop_right(&mut self, board: usize, page: usize, writer: usize) {
+        let named = match self.fault {
+            Fault::DroppedNamesDropper => board,
+            _ => writer,
+        };
+        self.record(board, DROPPED, page, named, [0; PAGE]);
         self.clear_frame(board, page);
     }
 

@@ -2,7 +2,7 @@
 //! A call never fails otherwise than by its code.
 
 use crate::access::{Access, Cell, Deed};
-use crate::check::fits;
+use crate::check::passes;
 use crate::engine::{Engine, Refusal, Step};
 use crate::fault::Fault;
 use crate::layout::*;
@@ -184,7 +184,8 @@ pub fn make(buffer: &mut [u8], boards: u32, pages: u32) -> Answer {
     make_in::<NEWEST>(buffer, boards, pages)
 }
 
-/// The same in a form: the older one's fresh banks are what the tests begin with.
+/// The same in a form: fresh banks of the others are what the tests begin with. They have no record, so the forms of a
+/// width have the same.
 pub fn make_in<const FORM: Form>(buffer: &mut [u8], boards: u32, pages: u32) -> Answer {
     if !(1..=MAX_BOARDS as u32).contains(&boards) || !(1..=MAX_PAGES as u32).contains(&pages) {
         return Answer::refused(2);
@@ -223,8 +224,8 @@ pub fn call(
     call_in::<NEWEST>(bank, call, out, fault, watch)
 }
 
-/// The same in a form. In the older one it is what an old bank would answer, were it not converted: the rules of the
-/// day on its own bytes, with its own largest since.
+/// The same in a form. With the older places, narrow, it is what an old bank would answer, were it not converted: the
+/// rules of the day on its own bytes, with its own largest since.
 pub fn call_in<const FORM: Form>(
     bank: &mut [u8],
     call: &Call,
@@ -233,7 +234,7 @@ pub fn call_in<const FORM: Form>(
     watch: &mut Watch,
 ) -> Answer {
     watch.begin_call();
-    if !fault.trusts_its_bank() && !fits::<FORM>(bank) {
+    if !fault.trusts_its_bank() && !passes::<FORM>(bank, fault) {
         return Answer::refused(1);
     }
     if let Some(code) = misasked(call, Layout::<FORM>::named_by(bank), out.len(), fault) {

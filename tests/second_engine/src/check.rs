@@ -1,6 +1,7 @@
 //! Whether a buffer is a well-formed bank.
 //! Slots at or past a count may hold anything, so only records below one are looked at.
 
+use crate::fault::Fault;
 use crate::layout::*;
 
 /// Whether a buffer is a bank that the calls take.
@@ -10,11 +11,51 @@ pub fn well_formed(bank: &[u8]) -> bool {
 
 /// The rules for a form. Those of the older one are document 01's for ever: a rule that moves asks for the form.
 pub fn fits<const FORM: Form>(bank: &[u8]) -> bool {
+    passes::<FORM>(bank, Fault::None)
+}
+
+/// The same, as an engine with a fault has it.
+pub fn passes<const FORM: Form>(bank: &[u8], fault: Fault) -> bool {
     if !head_fits::<FORM>(bank) {
         return false;
     }
     let layout = Layout::<FORM>::named_by(bank);
-    Check { bank, layout }.all()
+    let check = Check {
+        bank,
+        layout,
+        fault,
+    };
+    check.all()
+}
+
+/// Which counts code 11 looks at: all, but in a wrong engine.
+#[derive(Clone, Copy)]
+pub enum Counts {
+    All,
+    Selected,
+    Stored,
+    Volatile,
+    None,
+}
+
+/// Whether some count isn't zero: of a volatile log or of either area, of any board. The bank has its form's length.
+pub fn has_records<const FORM: Form>(bank: &[u8]) -> bool {
+    has_records_in::<FORM>(bank, Counts::All)
+}
+
+/// The same, of the counts that are looked at.
+pub fn has_records_in<const FORM: Form>(bank: &[u8], counts: Counts) -> bool {
+    let layout = Layout::<FORM>::named_by(bank);
+    let selected = |log: &Log| bank[layout.selector(log.board)] as usize;
+    let looked_at = |log: &Log| match counts {
+        Counts::All => true,
+        Counts::Selected => log.area.is_none_or(|area| area == selected(log)),
+        Counts::Stored => log.area.is_some(),
+        Counts::Volatile => log.area.is_none(),
+        Counts::None => false,
+    };
+    let mut logs = layout.logs().filter(looked_at);
+    logs.any(|log| bank[log.count] != 0)
 }
 
 /// The head's letters and numbers, and the length that follows from them.
@@ -32,6 +73,7 @@ pub fn head_fits<const FORM: Form>(bank: &[u8]) -> bool {
 struct Check<'a, const FORM: Form> {
     bank: &'a [u8],
     layout: Layout<FORM>,
+    fault: Fault,
 }
 
 impl<const FORM: Form> Check<'_, FORM> {
@@ -48,11 +90,10 @@ impl<const FORM: Form> Check<'_, FORM> {
 
     fn block_fits(&self, board: usize) -> bool {
         let layout = self.layout;
-        let volatile = self.bank[layout.volatile(board)];
         self.fields_fit(board)
             && self.frames_fit(layout.frame(board, 0))
-            && self.records_fit(layout.volatile_slot(board, 0), volatile)
-            && (0..2).all(|which| self.area_fits(layout.area(board, which)))
+            && self.records_fit(layout.log(board, None))
+            && (0..2).all(|which| self.area_fits(board, which))
             && match self.bank[layout.state(board)] {
                 UP => self.up_fits(board),
                 DOWN => self.down_fits(board),
@@ -62,7 +103,7 @@ impl<const FORM: Form> Check<'_, FORM> {
 
     /// Ranges of a block's small fields, and room for both its logs in one area.
     fn fields_fit(&self, board: usize) -> bool {
-        let Check { bank, layout } = self;
+        let Check { bank, layout, .. } = self;
         if bank[layout.state(board)] > REPLAYING || bank[layout.selector(board)] > 1 {
             return false;
         }
@@ -75,11 +116,11 @@ impl<const FORM: Form> Check<'_, FORM> {
         self.bank[self.layout.stored(self.layout.selected(self.bank, board))]
     }
 
-    fn area_fits(&self, area: usize) -> bool {
-        let stored = self.bank[self.layout.stored(area)];
-        stored as usize <= SLOTS
+    fn area_fits(&self, board: usize, which: usize) -> bool {
+        let area = self.layout.area(board, which);
+        self.bank[self.layout.stored(area)] as usize <= SLOTS
             && self.frames_fit(self.layout.area_frame(area, 0))
-            && self.records_fit(self.layout.area_slot(area, 0), stored)
+            && self.records_fit(self.layout.log(board, Some(which)))
     }
 
     fn frames_fit(&self, first: usize) -> bool {
@@ -93,8 +134,9 @@ impl<const FORM: Form> Check<'_, FORM> {
         }
     }
 
-    fn records_fit(&self, first: usize, count: u8) -> bool {
-        (0..count as usize).all(|slot| self.record_fits(first + Layout::<FORM>::SLOT * slot))
+    fn records_fit(&self, log: Log) -> bool {
+        let mut records = self.layout.records(self.bank, log);
+        records.all(|slot| self.record_fits(slot) && self.byte_3_fits(log, slot))
     }
 
     fn record_fits(&self, slot: usize) -> bool {
@@ -104,9 +146,29 @@ impl<const FORM: Form> Check<'_, FORM> {
             SHOWN | DROPPED => page_at(self.bank, bytes) == [0; PAGE],
             _ => false,
         };
-        bytes_fit
-            && (self.bank[slot + SLOT_PAGE] as usize) < self.layout.pages
-            && self.bank[slot + SLOT_ZERO] == 0
+        bytes_fit && (self.bank[slot + SLOT_PAGE] as usize) < self.layout.pages
+    }
+
+    /// A record names a board of the bank that isn't the log's own; in a form without names the byte is zero.
+    fn byte_3_fits(&self, log: Log, slot: usize) -> bool {
+        let named = self.bank[slot + SLOT_BOARD] as usize;
+        if !Layout::<FORM>::NAMES_BOARD || self.fault == Fault::CheckZeroByte {
+            return named == 0;
+        }
+        let is_board = named < self.layout.boards || self.fault == Fault::CheckAnyBoard;
+        let is_other = named != log.board || self.fault == Fault::CheckOwnBoard;
+        is_board && is_other || self.passed_over(log)
+    }
+
+    /// A wrong check leaves the names of some logs open.
+    fn passed_over(&self, log: Log) -> bool {
+        let selected = self.bank[self.layout.selector(log.board)] as usize;
+        match (self.fault, log.area) {
+            (Fault::CheckStoredOnly, area) => area.is_none(),
+            (Fault::CheckVolatileOnly, area) => area.is_some(),
+            (Fault::CheckSelectedOnly, Some(area)) => area != selected,
+            _ => false,
+        }
     }
 
     /// An up board's rights are those the directory gives it.
@@ -126,7 +188,7 @@ impl<const FORM: Form> Check<'_, FORM> {
     }
 
     fn down_fits(&self, board: usize) -> bool {
-        let Check { bank, layout } = *self;
+        let Check { bank, layout, .. } = *self;
         let frames = layout.frame(board, 0)..layout.frame(board, layout.pages);
         bank[layout.place(board)] == 0
             && get32(bank, layout.number(board)) == 0
@@ -153,8 +215,8 @@ mod tests {
     use super::*;
     use crate::calls::{make, make_in};
 
-    /// Each test for the newest form, and for the older one, whose verdicts are never to change.
-    macro_rules! in_both_forms {
+    /// Each test for every form; the verdicts of the older and the earlier one are never to change.
+    macro_rules! in_every_form {
         ($($test:ident)*) => {
             mod newest {
                 $(#[test] fn $test() { super::$test::<{ super::NEWEST }>() })*
@@ -162,16 +224,23 @@ mod tests {
             mod older {
                 $(#[test] fn $test() { super::$test::<{ super::OLDER }>() })*
             }
+            mod earlier {
+                $(#[test] fn $test() { super::$test::<{ super::EARLIER }>() })*
+            }
+            mod narrow {
+                $(#[test] fn $test() { super::$test::<{ super::NARROW }>() })*
+            }
         };
     }
 
-    in_both_forms! {
+    in_every_form! {
         fresh_banks_fit
         heads_and_lengths_that_do_not_fit
         directories_that_do_not_fit
         small_fields
         frames
         records
+        names_of_records
         counts_of_records
         slots_past_the_counts
         boards_that_are_down
@@ -211,13 +280,24 @@ mod tests {
             bank[l.state(1)] = REPLAYING;
             let area = l.area(1, 0);
             bank[l.stored(area)] = 1;
-            put_record(bank, l.area_slot(area, 0), SHOWN);
+            put_record(bank, l, l.log(1, Some(0)), 0, SHOWN);
             change(bank, l)
         })
     }
 
-    fn put_record(bank: &mut [u8], slot: usize, kind: Kind) {
+    /// A record that names the other one of two boards, if it is to name one.
+    fn put_record<const FORM: Form>(
+        bank: &mut [u8],
+        _: Layout<FORM>,
+        log: Log,
+        slot: usize,
+        kind: Kind,
+    ) {
+        let slot = log.first + Layout::<FORM>::SLOT * slot;
         bank[slot..slot + 2].copy_from_slice(&kind);
+        if Layout::<FORM>::NAMES_BOARD {
+            bank[slot + SLOT_BOARD] = 1 - log.board as u8;
+        }
     }
 
     #[test]
@@ -243,8 +323,10 @@ mod tests {
             for pages in 1..=MAX_PAGES {
                 let bank = fresh::<FORM>(boards, pages);
                 assert!(fits::<FORM>(&bank));
-                assert_eq!(fits::<NEWEST>(&bank), FORM == NEWEST);
-                assert_eq!(fits::<OLDER>(&bank), FORM == OLDER);
+                let wide = matches!(FORM, NEWEST | EARLIER);
+                assert_eq!([fits::<NEWEST>(&bank), fits::<EARLIER>(&bank)], [wide; 2]);
+                assert_eq!([fits::<OLDER>(&bank), fits::<NARROW>(&bank)], [!wide; 2]);
+                assert!(!has_records::<FORM>(&bank));
             }
         }
     }
@@ -314,16 +396,15 @@ mod tests {
         let with = |kind: Kind, at: usize, byte: u8| {
             changed::<FORM>(|bank, l| {
                 bank[l.volatile(0)] = 1;
-                let slot = l.volatile_slot(0, 0);
-                put_record(bank, slot, kind);
-                bank[slot + at] = byte;
+                let log = l.log(0, None);
+                put_record(bank, l, log, 0, kind);
+                bank[log.first + at] = byte;
             })
         };
         let (count, bytes) = (Layout::<FORM>::SLOT_COUNT, Layout::<FORM>::SLOT_BYTES);
         for kind in [GOT_COPY, GOT_OWN, SHOWN, DROPPED] {
             assert!(with(kind, SLOT_PAGE, 1));
             assert!(!with(kind, SLOT_PAGE, 2));
-            assert!(!with(kind, SLOT_ZERO, 1));
             assert!(with(kind, count, 255));
             assert!(with(kind, bytes - 1, 255));
             assert!(!with(kind, 1, b'X'));
@@ -332,14 +413,49 @@ mod tests {
         assert!(!with(SHOWN, bytes + 15, 1) && !with(DROPPED, bytes, 1));
     }
 
+    /// Byte 3 of a record, by its log: another board below N, or zero in a form without names.
+    fn names_of_records<const FORM: Form>() {
+        let named = |board: usize, area: Option<usize>, byte: u8| {
+            changed::<FORM>(|bank, l| {
+                let log = l.log(board, area);
+                bank[log.count] = 2;
+                (0..2).for_each(|s| put_record(bank, l, log, s, DROPPED));
+                bank[log.first + Layout::<FORM>::SLOT + SLOT_BOARD] = byte;
+            })
+        };
+        for (board, area) in (0..2).flat_map(|b| [None, Some(0), Some(1)].map(|area| (b, area))) {
+            let fit = (0..=255).filter(|byte| named(board, area, *byte));
+            let wanted = match Layout::<FORM>::NAMES_BOARD {
+                true => 1 - board as u8,
+                false => 0,
+            };
+            assert_eq!(fit.collect::<Vec<u8>>(), [wanted]);
+        }
+    }
+
+    /// With one board there is nobody to name.
+    #[test]
+    fn one_board_has_no_record() {
+        let with = |byte: u8| {
+            let mut bank = fresh::<NEWEST>(1, 1);
+            let log = Layout::of(&bank).log(0, None);
+            bank[log.count] = 1;
+            bank[log.first..log.first + 4].copy_from_slice(&[b'D', b'R', 0, byte]);
+            [fits::<NEWEST>(&bank), fits::<EARLIER>(&bank)]
+        };
+        assert_eq!(with(0), [false, true]);
+        (1..=255).for_each(|byte| assert_eq!(with(byte), [false, false]));
+    }
+
     fn counts_of_records<const FORM: Form>() {
         let filled = |which: usize, stored: usize, volatile: usize| {
             changed::<FORM>(|bank, l| {
                 let area = l.area(0, which);
                 bank[l.stored(area)] = stored as u8;
                 bank[l.volatile(0)] = volatile as u8;
-                (0..stored.min(SLOTS)).for_each(|s| put_record(bank, l.area_slot(area, s), SHOWN));
-                (0..volatile).for_each(|s| put_record(bank, l.volatile_slot(0, s), SHOWN));
+                let logs = [l.log(0, Some(which)), l.log(0, None)];
+                (0..stored.min(SLOTS)).for_each(|s| put_record(bank, l, logs[0], s, SHOWN));
+                (0..volatile).for_each(|s| put_record(bank, l, logs[1], s, SHOWN));
             })
         };
         assert!(filled(0, 31, 1) && filled(0, 32, 0) && filled(0, 0, 32));
@@ -372,7 +488,7 @@ mod tests {
         assert!(!changed_down::<FORM>(|bank, l| bank[l.place(1)] = 1));
         assert!(!changed_down::<FORM>(|bank, l| {
             bank[l.volatile(1)] = 1;
-            put_record(bank, l.volatile_slot(1, 0), SHOWN);
+            put_record(bank, l, l.log(1, None), 0, SHOWN);
         }));
     }
 
@@ -391,7 +507,7 @@ mod tests {
         assert!(!changed_replaying::<FORM>(|bank, l| bank[l.copies(0)] = 2));
         assert!(!changed_replaying::<FORM>(|bank, l| {
             bank[l.volatile(1)] = 1;
-            put_record(bank, l.volatile_slot(1, 0), SHOWN);
+            put_record(bank, l, l.log(1, None), 0, SHOWN);
         }));
     }
 }

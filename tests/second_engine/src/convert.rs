@@ -2,32 +2,58 @@
 //! Fields that the old form hasn't are zero, and so are all slots at or past a count.
 
 use crate::calls::Answer;
-use crate::check;
+use crate::check::{self, has_records_in, Counts};
 use crate::fault::Fault;
 use crate::layout::*;
 use crate::older;
 
-/// Code 1 for an old bank that isn't well formed by document 01's rule and for a target of a wrong length; then
-/// nothing is written. Else code 0, and every byte of the target is written, whatever stood there.
+/// Code 1 for an old bank that isn't well formed by document 01's rule and for a target of a wrong length; then code 11
+/// for one that has a record, since it names no board. Under both nothing is written. Else code 0, and every byte of the
+/// target is written, whatever stood there.
 pub fn convert(old: &[u8], new: &mut [u8], fault: Fault) -> Answer {
     if fault == Fault::ConvertBeforeRefusal {
         new.fill(0);
     }
-    if !accepted(old, fault) || new.len() != Layout::of(old).length() {
-        return Answer::refused(1);
+    if let Some(code) = refusal(old, new.len(), fault) {
+        return Answer::refused(code);
     }
     carry::<OLDER, NEWEST>(old, new, fault);
     Answer::default()
 }
 
+/// Code 1, then code 11.
+fn refusal(old: &[u8], length: usize, fault: Fault) -> Option<u8> {
+    if !accepted(old, fault) {
+        return Some(1);
+    }
+    let misfit = length != Layout::of(old).length();
+    let has_records = has_records_in::<OLDER>(old, counts(fault));
+    match fault {
+        Fault::ConvertElevenFirst if has_records => Some(11),
+        _ if misfit => Some(1),
+        _ => has_records.then_some(11),
+    }
+}
+
 fn accepted(old: &[u8], fault: Fault) -> bool {
     match fault {
         Fault::ConvertUnchecked => check::head_fits::<OLDER>(old),
+        Fault::ConvertTodaysRule => check::fits::<NARROW>(old),
         _ => older::well_formed(old),
     }
 }
 
-/// Writes a well-formed bank in another form; the target has the right length. False if a number has no room there.
+fn counts(fault: Fault) -> Counts {
+    match fault {
+        Fault::ConvertAnyCounts => Counts::None,
+        Fault::ConvertSelectedOnly => Counts::Selected,
+        Fault::ConvertStoredOnly => Counts::Stored,
+        _ => Counts::All,
+    }
+}
+
+/// Writes a well-formed bank in another form; the target has the right length. Records keep the boards that they name if
+/// both forms have them. False if a number has no room there.
 pub fn carry<const FROM: Form, const TO: Form>(old: &[u8], new: &mut [u8], fault: Fault) -> bool {
     new.fill(0);
     let mut carrier = Carrier {
@@ -88,19 +114,17 @@ impl<const FROM: Form, const TO: Form> Carrier<'_, FROM, TO> {
     fn since(&mut self, board: usize) {
         let (from, to) = (self.from.since(board), self.to.since(board));
         self.count(from, to);
-        if self.fault == Fault::ConvertSinceAtEnd {
-            self.new[to..to + 4].rotate_right(2);
+        match self.fault {
+            Fault::ConvertSinceAtEnd => self.new[to..to + 4].rotate_right(2),
+            Fault::ConvertLowByte => self.new[to + 1] = 0,
+            _ => (),
         }
     }
 
     fn area(&mut self, board: usize, which: usize) {
         let (from, to) = (self.from.area(board, which), self.to.area(board, which));
-        let spare = which != self.old[self.from.selector(board)] as usize;
         self.bytes(from, to, 4);
         self.frames(self.from.area_frame(from, 0), self.to.area_frame(to, 0));
-        if spare && self.fault == Fault::ConvertSelectedOnly {
-            return;
-        }
         self.bytes(self.from.stored(from), self.to.stored(to), 1);
         let records = self.old[self.from.stored(from)];
         let slots = (self.from.area_slot(from, 0), self.to.area_slot(to, 0));
@@ -128,12 +152,11 @@ impl<const FROM: Form, const TO: Form> Carrier<'_, FROM, TO> {
     fn record(&mut self, from: usize, to: usize) {
         self.bytes(from, to, 2);
         self.bytes(from + SLOT_PAGE, to + SLOT_PAGE, 1);
-        self.bytes(from + SLOT_ZERO, to + SLOT_ZERO, 1);
+        if Layout::<FROM>::NAMES_BOARD && Layout::<TO>::NAMES_BOARD {
+            self.bytes(from + SLOT_BOARD, to + SLOT_BOARD, 1);
+        }
         let count = to + Layout::<TO>::SLOT_COUNT;
         self.count(from + Layout::<FROM>::SLOT_COUNT, count);
-        if self.fault == Fault::ConvertLowByte {
-            self.new[count + 1] = 0;
-        }
         self.bytes(
             from + Layout::<FROM>::SLOT_BYTES,
             to + Layout::<TO>::SLOT_BYTES,
@@ -180,10 +203,61 @@ mod tests {
         }
     }
 
-    /// Two boards, one page, all offsets by their numbers: board 0 is up and has records in its volatile log and in
-    /// both areas, board 1 replays. The old bank has leftovers behind each log.
+    /// Two boards, one page, all offsets by their numbers: board 0 is up, board 1 has no power. Every count is zero, and
+    /// behind each there are leftovers, in board 0's volatile log a record.
     #[test]
     fn a_bank_made_by_hand() {
+        let (page, other) = ([9; PAGE], [200; PAGE]);
+        let head: &[u8] = &[66, 75, 2, 1, 0, 0];
+        let old = bytes_at(
+            6 + 2 * 2_185,
+            &[
+                (0, head),
+                // Board 0: up, selector 1, fuse 300, number 70,000, since 65,535, place 0, no volatile record.
+                (6, &[0, 1, 44, 1, 112, 17, 1, 0, 255, 255, 0, 0, 2]),
+                (6 + 13, &page),
+                (6 + 29, b"GC\0\0\xff\xff"),
+                (6 + 29 + 22, &[170; 31 * 22]),
+                (6 + 733, &[5, 0, 0, 0, 0, 2]),
+                (6 + 733 + 6, &other),
+                (6 + 755, &[187; 32 * 22]),
+                (6 + 1_459, &[0, 0, 1, 0, 0, 0]),
+                (6 + 1_481, &[204; 32 * 22]),
+                // Board 1: without power, selector 0, no fuse.
+                (2_191, &[1, 0, 255, 255]),
+                (2_191 + 29, &[221; 32 * 22]),
+                (2_191 + 733, &[2, 0, 0, 0, 0, 0]),
+                (2_191 + 755, &[238; 32 * 22]),
+                (2_191 + 1_459, &[255, 255, 255, 255, 0, 1]),
+                (2_191 + 1_481, &[255; 32 * 22]),
+            ],
+        );
+        let new = bytes_at(
+            6 + 2 * 2_379,
+            &[
+                (0, head),
+                (6, &[0, 1, 44, 1, 112, 17, 1, 0, 255, 255, 0, 0, 0, 0, 2]),
+                (6 + 15, &page),
+                (6 + 799, &[5, 0, 0, 0, 0, 2]),
+                (6 + 799 + 6, &other),
+                (6 + 1_589, &[0, 0, 1, 0, 0, 0]),
+                (2_385, &[1, 0, 255, 255]),
+                (2_385 + 799, &[2, 0, 0, 0, 0, 0]),
+                (2_385 + 1_589, &[255, 255, 255, 255, 0, 1]),
+            ],
+        );
+        assert!(older::well_formed(&old));
+        for before in [0, 1, 255] {
+            assert!(converted(&old, before) == new);
+        }
+        let again = older::narrowed(&new, |run| run.fill(7));
+        assert!(again.is_some_and(|old| converted(&old, 7) == new));
+    }
+
+    /// Both forms with records that name a board, all offsets by their numbers: board 0 is up and has records in its
+    /// volatile log and in both areas, board 1 replays. Such an old bank isn't converted.
+    #[test]
+    fn records_made_by_hand() {
         let (page, other) = ([9; PAGE], [200; PAGE]);
         let head: &[u8] = &[66, 75, 2, 1, 0, 0];
         let old = bytes_at(
@@ -193,16 +267,16 @@ mod tests {
                 // Board 0: up, selector 1, fuse 300, number 70,000, since 65,535, place 0, one volatile record.
                 (6, &[0, 1, 44, 1, 112, 17, 1, 0, 255, 255, 0, 1, 2]),
                 (6 + 13, &page),
-                (6 + 29, b"GC\0\0\xff\xff"),
+                (6 + 29, b"GC\0\x01\xff\xff"),
                 (6 + 29 + 6, &other),
                 (6 + 29 + 22, &[170; 31 * 22]),
                 (6 + 733, &[5, 0, 0, 0, 2, 2]),
                 (6 + 733 + 6, &other),
-                (6 + 755, b"SH\0\0\0\x01"),
-                (6 + 755 + 22, b"DR\0\0\x01\0"),
+                (6 + 755, b"SH\0\x01\0\x01"),
+                (6 + 755 + 22, b"DR\0\x01\x01\0"),
                 (6 + 755 + 44, &[187; 30 * 22]),
                 (6 + 1_459, &[0, 0, 1, 0, 1, 0]),
-                (6 + 1_481, b"GO\0\0\xff\xff"),
+                (6 + 1_481, b"GO\0\x01\xff\xff"),
                 (6 + 1_481 + 6, &page),
                 (6 + 1_481 + 22, &[204; 31 * 22]),
                 // Board 1: replaying, selector 0, no fuse, number 3, since 256, place 1, no volatile record.
@@ -224,14 +298,14 @@ mod tests {
                 (0, head),
                 (6, &[0, 1, 44, 1, 112, 17, 1, 0, 255, 255, 0, 0, 0, 1, 2]),
                 (6 + 15, &page),
-                (6 + 31, b"GC\0\0\xff\xff\0\0"),
+                (6 + 31, b"GC\0\x01\xff\xff\0\0"),
                 (6 + 31 + 8, &other),
                 (6 + 799, &[5, 0, 0, 0, 2, 2]),
                 (6 + 799 + 6, &other),
-                (6 + 821, b"SH\0\0\0\x01\0\0"),
-                (6 + 821 + 24, b"DR\0\0\x01\0\0\0"),
+                (6 + 821, b"SH\0\x01\0\x01\0\0"),
+                (6 + 821 + 24, b"DR\0\x01\x01\0\0\0"),
                 (6 + 1_589, &[0, 0, 1, 0, 1, 0]),
-                (6 + 1_611, b"GO\0\0\xff\xff\0\0"),
+                (6 + 1_611, b"GO\0\x01\xff\xff\0\0"),
                 (6 + 1_611 + 8, &page),
                 (2_385, &[2, 0, 255, 255, 3, 0, 0, 0, 0, 1, 0, 0, 1, 0, 1]),
                 (2_385 + 15, &other),
@@ -242,13 +316,32 @@ mod tests {
                 (2_385 + 1_589, &[255, 255, 255, 255, 0, 1]),
             ],
         );
-        assert!(older::well_formed(&old));
-        for before in [0, 1, 255] {
-            assert!(converted(&old, before) == new);
+        assert!(check::fits::<NARROW>(&old) && well_formed(&new));
+        let mut carried = vec![7; new.len()];
+        assert!(carry::<NARROW, NEWEST>(&old, &mut carried, Fault::None) && carried == new);
+        // The names go where the older form has none; then the counts are left to refuse it.
+        refused(&old, new.len());
+        let zero = older::narrowed(&new, |run| run.fill(7)).unwrap();
+        assert!(older::well_formed(&zero));
+        assert_eq!((zero[6 + 29 + 3], zero[6 + 755 + 3]), (0, 0));
+        refused_with(11, &zero, new.len());
+        refused(&zero, new.len() + 1);
+    }
+
+    /// A record in any of the three logs of any board, with nothing else in the bank.
+    #[test]
+    fn one_record_is_enough() {
+        for (board, area) in (0..3).flat_map(|b| [None, Some(0), Some(1)].map(|area| (b, area))) {
+            let mut old = fresh::<OLDER>(3, 1);
+            let log = older::Layout::named_by(&old).log(board, area);
+            old[log.count] = 1;
+            refused(&old, 6 + 3 * 2_379);
+            old[log.first..log.first + 2].copy_from_slice(&SHOWN);
+            refused_with(11, &old, 6 + 3 * 2_379);
+            refused(&old, 6 + 3 * 2_379 - 1);
+            old[log.first + SLOT_ZERO] = 1;
+            refused(&old, 6 + 3 * 2_379);
         }
-        assert!(
-            older::narrowed(&new, |run| run.fill(7)).is_some_and(|old| converted(&old, 7) == new)
-        );
     }
 
     /// A number that two bytes have no room for can't go back.
@@ -267,8 +360,12 @@ mod tests {
 
     /// Code 1, and the target stays as it is.
     fn refused(old: &[u8], length: usize) {
+        refused_with(1, old, length);
+    }
+
+    fn refused_with(code: u8, old: &[u8], length: usize) {
         let mut new = vec![7; length];
-        assert_eq!(convert(old, &mut new, Fault::None), Answer::refused(1));
+        assert_eq!(convert(old, &mut new, Fault::None), Answer::refused(code));
         assert!(new == vec![7; length]);
     }
 
@@ -316,7 +413,7 @@ mod tests {
         let mut early = converted(&old, 7);
         let mut watch = Watch::new();
         let mut read_old =
-            |old: &mut [u8]| call_in::<OLDER>(old, &READ, &mut [], Fault::None, &mut watch);
+            |old: &mut [u8]| call_in::<NARROW>(old, &READ, &mut [], Fault::None, &mut watch);
         let mut watch = Watch::new();
         let mut read = |bank: &mut [u8]| call(bank, &READ, &mut [], Fault::None, &mut watch);
         for _ in 0..65_535 {

@@ -9,6 +9,8 @@ use crate::fetches::{self, Fetch};
 use crate::given::{Before, Given};
 use crate::layout::*;
 use crate::line::Line;
+use crate::named::{LOGS, RECORDS};
+use crate::passages::Passages;
 use crate::shelves::{self, Shelf};
 use crate::trial::Trial;
 use crate::watch::{phase_name, phases, PHASES};
@@ -126,6 +128,10 @@ pub struct Counters {
     single_at_group: u64,
     fetches: Cases<Fetch>,
     given: Given,
+    /// Records by whom they name, and logs that were held against each other.
+    records: [u64; RECORDS.len()],
+    logs: [u64; LOGS.len()],
+    passages: Passages,
 }
 
 fn last_index(last: Last) -> usize {
@@ -155,6 +161,9 @@ impl Counters {
             single_at_group: 0,
             fetches: fetches::cases(),
             given: Given::default(),
+            records: Default::default(),
+            logs: Default::default(),
+            passages: Passages::default(),
         }
     }
 
@@ -195,11 +204,14 @@ impl Counters {
         }
     }
 
-    /// Counts those of a whole script.
-    pub fn count_wide_records(&mut self, trial: &Trial) {
+    /// Counts what a trial has counted itself, over a whole script.
+    pub fn count_script(&mut self, trial: &Trial) {
         let watch = &trial.session.watch;
         self.wide_records[0] += watch.wide_records_made;
         self.wide_records[1] += watch.wide_records_used;
+        add(&mut self.records, &trial.names.records);
+        add(&mut self.logs, &trial.names.logs);
+        self.passages.add(&trial.passages);
     }
 
     fn count_zero_fuse(&mut self, zero_fuse: &ZeroFuse, code: u8) {
@@ -235,6 +247,9 @@ impl Counters {
             + (self.single_at_group == 0) as usize
             + self.fetches.missing().count()
             + self.given.never_met()
+            + self.records.iter().filter(|count| **count == 0).count()
+            + self.logs.iter().filter(|count| **count == 0).count()
+            + self.passages.never_met()
     }
 
     pub fn print(&self) {
@@ -274,6 +289,21 @@ impl Counters {
         );
         self.fetches.print();
         self.given.print();
+        println!("records by whom they name:");
+        print_rows(&RECORDS, &self.records);
+        println!("logs of two boards, never cut nor checkpointed, held against each other where");
+        print_rows(&LOGS, &self.logs);
+        self.passages.print();
         println!("never met: {}", self.never_met());
     }
+}
+
+fn add(counts: &mut [u64], others: &[u64]) {
+    let pairs = counts.iter_mut().zip(others);
+    pairs.for_each(|(count, other)| *count += other);
+}
+
+fn print_rows(names: &[&str], counts: &[u64]) {
+    let rows = names.iter().zip(counts);
+    rows.for_each(|(name, count)| println!("  {name}: {count}"));
 }

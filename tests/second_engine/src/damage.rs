@@ -11,7 +11,7 @@ fn ruled_place<const FORM: Form>(random: &mut Random, layout: Layout<FORM>) -> u
     let slot = random.below(SLOTS as u32) as usize;
     let area = layout.area(board, random.below(2) as usize);
     let (bytes, end) = (Layout::<FORM>::SLOT_BYTES, Layout::<FORM>::SLOT);
-    let in_slot = random.pick(&[0, 1, SLOT_PAGE, SLOT_ZERO, bytes, end - 1]);
+    let in_slot = random.pick(&[0, 1, SLOT_PAGE, SLOT_BOARD, bytes, end - 1]);
     let in_frame = random.pick(&[0, 0, 1, FRAME - 1]);
     let fixed = (layout.frame(board, 0) - layout.block(board)) as u32;
     match random.below(8) {
@@ -32,8 +32,36 @@ fn ruled_place<const FORM: Form>(random: &mut Random, layout: Layout<FORM>) -> u
     }
 }
 
-/// Changes one byte or a few of a bank that has a form's length.
+/// Changes byte 3 of one record, in any of the logs: mostly to a board that it may not name. False if there is no record.
+pub fn name<const FORM: Form>(random: &mut Random, bank: &mut [u8]) -> bool {
+    let layout = Layout::<FORM>::named_by(bank);
+    let logs: Vec<Log> = layout.logs().filter(|log| bank[log.count] > 0).collect();
+    if logs.is_empty() {
+        return false;
+    }
+    let log = random.pick(&logs);
+    let records: Vec<usize> = layout.records(bank, log).collect();
+    let slot = match random.below(3) {
+        0 => records[0],
+        1 => records[records.len() - 1],
+        _ => random.pick(&records),
+    };
+    let boards = layout.boards as u8;
+    bank[slot + SLOT_BOARD] = match random.below(6) {
+        0 | 1 => log.board as u8,
+        2 => boards,
+        3 => random.pick(&[0, boards - 1, boards + 1, 8, 128, 255]),
+        4 => random.below(boards as u32) as u8,
+        _ => random.below(256) as u8,
+    };
+    true
+}
+
+/// Changes one byte or a few of a bank that has a form's length; sometimes just the board that one record names.
 pub fn bytes<const FORM: Form>(random: &mut Random, bank: &mut [u8]) {
+    if random.permille(120) && name::<FORM>(random, bank) {
+        return;
+    }
     let layout = Layout::<FORM>::named_by(bank);
     let times = random.pick(&[1, 1, 1, 2, 3, 8]);
     for _ in 0..times {

@@ -15,7 +15,7 @@ pub struct Refusal {
 
 pub type Step<T = ()> = Result<T, Refusal>;
 
-/// The engine on a bank of either form; the calls know the newest alone.
+/// The engine on a bank of a form whose records name a board; the calls know the newest alone.
 pub struct Engine<'a, const FORM: Form = NEWEST> {
     pub bank: &'a mut [u8],
     pub layout: Layout<FORM>,
@@ -110,8 +110,15 @@ impl<'a, const FORM: Form> Engine<'a, FORM> {
         (0..MAX_BOARDS).filter(move |board| copies >> board & 1 == 1)
     }
 
-    /// Puts a record into the volatile log; the caller has made sure that there is room.
-    pub fn record(&mut self, board: usize, kind: Kind, page: usize, bytes: [u8; PAGE]) {
+    /// Puts a record into the volatile log, which names the other party; the caller has made sure that there is room.
+    pub fn record(
+        &mut self,
+        board: usize,
+        kind: Kind,
+        page: usize,
+        other: usize,
+        bytes: [u8; PAGE],
+    ) {
         let count = self.bank[self.layout.volatile(board)] as usize;
         let slot = self.layout.volatile_slot(board, count);
         let since = match self.fault {
@@ -120,7 +127,10 @@ impl<'a, const FORM: Form> Engine<'a, FORM> {
         };
         self.bank[slot..slot + 2].copy_from_slice(&kind);
         self.bank[slot + SLOT_PAGE] = page as u8;
-        self.bank[slot + SLOT_ZERO] = 0;
+        self.bank[slot + SLOT_BOARD] = match self.fault {
+            Fault::NamesNobody => 0,
+            _ => other as u8,
+        };
         self.layout
             .put_count(self.bank, slot + Layout::<FORM>::SLOT_COUNT, since);
         self.bank[slot + Layout::<FORM>::SLOT_BYTES..slot + Layout::<FORM>::SLOT]

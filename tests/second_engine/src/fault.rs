@@ -1,7 +1,8 @@
 //! The wrong engines: each has one fault, and each must be caught.
 //! The first five are the faults a bench sale would hide, the next six must not satisfy any contract, the next five
-//! get a fuse of 0 wrong, the next two a wide since, the next six a conversion, the next eighteen a shelf call, and the
-//! rest a page that a holder gives while its owner isn't up.
+//! get a fuse of 0 wrong, the next two a wide since, the next ten a conversion, the next eighteen a shelf call, the next
+//! eleven a page that a holder gives while its owner isn't up, the next ten the board that a record names, the next six
+//! whether a bank is well formed, and the rest an adoption.
 
 #[derive(Clone, Copy, PartialEq, Eq, Debug)]
 pub enum Fault {
@@ -30,6 +31,10 @@ pub enum Fault {
     ConvertUnchecked,
     ConvertLowByte,
     ConvertSinceAtEnd,
+    ConvertAnyCounts,
+    ConvertStoredOnly,
+    ConvertElevenFirst,
+    ConvertTodaysRule,
     CopiesOneByOne,
     ShowTogether,
     FetchAsAsked,
@@ -59,6 +64,30 @@ pub enum Fault {
     ReplayingGives,
     OwnersBytes,
     CopyUnlisted,
+    GotNamesOwner,
+    GotNamesTaker,
+    GotNamesFirst,
+    ShownNamesGiver,
+    ShownNamesOwner,
+    DroppedNamesDropper,
+    DroppedNamesOldOwner,
+    RecallNamesDropper,
+    NamesNobody,
+    ReplayAsksGiver,
+    CheckOwnBoard,
+    CheckAnyBoard,
+    CheckStoredOnly,
+    CheckVolatileOnly,
+    CheckSelectedOnly,
+    CheckZeroByte,
+    AdoptSelectedOnly,
+    AdoptStoredOnly,
+    AdoptVolatileOnly,
+    AdoptTodaysRule,
+    AdoptUnchecked,
+    AdoptElevenFirst,
+    AdoptNamesBoard,
+    AdoptWrites,
 }
 
 /// What must catch a fault.
@@ -72,19 +101,27 @@ pub enum Catcher {
     Pairs,
     /// The right engine beside it, on the same random scripts: the claim leaves open what it gets wrong.
     Beside,
+    /// The right engine beside it, on banks made by hand in which a record names a wrong board.
+    Verdicts,
+    /// The banks that are adopted, or refused.
+    Adoptions,
 }
 
 impl Fault {
-    /// Whether the conversion is wrong, and the engine right.
-    pub fn is_in_conversion(self) -> bool {
-        FAULTS
-            .iter()
-            .any(|kind| kind.fault == self && kind.caught_by == Catcher::Pairs)
+    fn kind(self) -> Option<&'static FaultKind> {
+        FAULTS.iter().find(|kind| kind.fault == self)
     }
 
-    /// A wrong engine takes its own bank as well formed, or code 1 would hide what it did.
+    /// A wrong engine takes its own bank as well formed, or code 1 would hide what it did. Not so where its steps are
+    /// right: in a wrong conversion or adoption, or where the verdict itself is wrong.
     pub fn trusts_its_bank(self) -> bool {
-        self != Fault::None && !self.is_in_conversion()
+        let steps_are_wrong = |kind: &FaultKind| {
+            matches!(
+                kind.caught_by,
+                Catcher::Claim | Catcher::Outputs | Catcher::Beside
+            )
+        };
+        self != Fault::None && self.kind().is_some_and(steps_are_wrong)
     }
 }
 
@@ -109,7 +146,7 @@ const fn kind(
     }
 }
 
-pub const FAULTS: [FaultKind; 53] = [
+pub static FAULTS: [FaultKind; 81] = [
     kind(
         Fault::KeepCopy,
         "keep-copy",
@@ -228,7 +265,7 @@ pub const FAULTS: [FaultKind; 53] = [
         Fault::ConvertSelectedOnly,
         "convert-selected-only",
         Catcher::Pairs,
-        "a conversion that loses the spare area's records",
+        "a conversion whose code 11 looks at the selected area's count alone",
     ),
     kind(
         Fault::ConvertBeforeRefusal,
@@ -246,13 +283,37 @@ pub const FAULTS: [FaultKind; 53] = [
         Fault::ConvertLowByte,
         "convert-low-byte",
         Catcher::Pairs,
-        "a conversion that takes the low byte of a record's count alone",
+        "a conversion that takes the low byte of since alone",
     ),
     kind(
         Fault::ConvertSinceAtEnd,
         "convert-since-at-end",
         Catcher::Pairs,
         "a conversion that puts since's bytes at the wrong end of the field",
+    ),
+    kind(
+        Fault::ConvertAnyCounts,
+        "convert-any-counts",
+        Catcher::Pairs,
+        "a conversion that doesn't test code 11",
+    ),
+    kind(
+        Fault::ConvertStoredOnly,
+        "convert-stored-only",
+        Catcher::Pairs,
+        "a conversion whose code 11 looks at stored counts alone",
+    ),
+    kind(
+        Fault::ConvertElevenFirst,
+        "convert-eleven-first",
+        Catcher::Pairs,
+        "a conversion that tests code 11 before the target's length",
+    ),
+    kind(
+        Fault::ConvertTodaysRule,
+        "convert-todays-rule",
+        Catcher::Pairs,
+        "a conversion that asks an old bank's records to name a board",
     ),
     kind(
         Fault::CopiesOneByOne,
@@ -427,6 +488,150 @@ pub const FAULTS: [FaultKind; 53] = [
         "copy-unlisted",
         Catcher::Claim,
         "a copy that a holder gave is not in the copy-set",
+    ),
+    kind(
+        Fault::GotNamesOwner,
+        "got-names-owner",
+        Catcher::Claim,
+        "a got names the page's owner although a holder gave",
+    ),
+    kind(
+        Fault::GotNamesTaker,
+        "got-names-taker",
+        Catcher::Claim,
+        "a got names the board that took",
+    ),
+    kind(
+        Fault::GotNamesFirst,
+        "got-names-first",
+        Catcher::Claim,
+        "a shelf call whose gots all name the giver of its first page",
+    ),
+    kind(
+        Fault::ShownNamesGiver,
+        "shown-names-giver",
+        Catcher::Claim,
+        "a shown names the board that gave",
+    ),
+    kind(
+        Fault::ShownNamesOwner,
+        "shown-names-owner",
+        Catcher::Claim,
+        "a holder's shown names the page's owner",
+    ),
+    kind(
+        Fault::DroppedNamesDropper,
+        "dropped-names-dropper",
+        Catcher::Claim,
+        "a dropped names the board that lost its right",
+    ),
+    kind(
+        Fault::DroppedNamesOldOwner,
+        "dropped-names-old-owner",
+        Catcher::Claim,
+        "in a write fetch a holder's dropped names the owner before the write",
+    ),
+    kind(
+        Fault::RecallNamesDropper,
+        "recall-names-dropper",
+        Catcher::Claim,
+        "in an own write a holder's dropped names the holder",
+    ),
+    kind(
+        Fault::NamesNobody,
+        "names-nobody",
+        Catcher::Claim,
+        "a record's byte 3 is zero, as it was in the earlier form",
+    ),
+    kind(
+        Fault::ReplayAsksGiver,
+        "replay-asks-giver",
+        Catcher::Claim,
+        "a replay that uses a got only while the board that it names is up",
+    ),
+    kind(
+        Fault::CheckOwnBoard,
+        "check-own-board",
+        Catcher::Verdicts,
+        "a record that names its own log's board is well formed",
+    ),
+    kind(
+        Fault::CheckAnyBoard,
+        "check-any-board",
+        Catcher::Verdicts,
+        "a record that names a board at or past N is well formed",
+    ),
+    kind(
+        Fault::CheckStoredOnly,
+        "check-stored-only",
+        Catcher::Verdicts,
+        "a volatile record may name any board",
+    ),
+    kind(
+        Fault::CheckVolatileOnly,
+        "check-volatile-only",
+        Catcher::Verdicts,
+        "a stored record may name any board",
+    ),
+    kind(
+        Fault::CheckSelectedOnly,
+        "check-selected-only",
+        Catcher::Verdicts,
+        "a record of the spare area may name any board",
+    ),
+    kind(
+        Fault::CheckZeroByte,
+        "check-zero-byte",
+        Catcher::Verdicts,
+        "well formed still asks a record's byte 3 to be zero",
+    ),
+    kind(
+        Fault::AdoptSelectedOnly,
+        "adopt-selected-only",
+        Catcher::Adoptions,
+        "an adoption whose code 11 looks at no spare area's count",
+    ),
+    kind(
+        Fault::AdoptStoredOnly,
+        "adopt-stored-only",
+        Catcher::Adoptions,
+        "an adoption whose code 11 looks at stored counts alone",
+    ),
+    kind(
+        Fault::AdoptVolatileOnly,
+        "adopt-volatile-only",
+        Catcher::Adoptions,
+        "an adoption whose code 11 looks at volatile counts alone",
+    ),
+    kind(
+        Fault::AdoptTodaysRule,
+        "adopt-todays-rule",
+        Catcher::Adoptions,
+        "an adoption that takes a bank by today's rule",
+    ),
+    kind(
+        Fault::AdoptUnchecked,
+        "adopt-unchecked",
+        Catcher::Adoptions,
+        "an adoption that looks at no more than head, length and counts",
+    ),
+    kind(
+        Fault::AdoptElevenFirst,
+        "adopt-eleven-first",
+        Catcher::Adoptions,
+        "an adoption that tests code 11 before code 1",
+    ),
+    kind(
+        Fault::AdoptNamesBoard,
+        "adopt-names-board",
+        Catcher::Adoptions,
+        "an adoption whose code 11 names the first board with a record",
+    ),
+    kind(
+        Fault::AdoptWrites,
+        "adopt-writes",
+        Catcher::Adoptions,
+        "an adoption that clears the slots past a count",
     ),
 ];
 

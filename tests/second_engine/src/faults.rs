@@ -1,6 +1,8 @@
 //! Runs every wrong engine and says what catches it. The claim is tried on random scripts, the answers on the stored
-//! scripts and, where these can't show it, on random ones, against the right engine's; a wrong conversion on pairs.
+//! scripts and, where these can't show it, on random ones, against the right engine's; a wrong conversion on pairs, a wrong
+//! adoption on banks to adopt, and a wrong rule for banks on those in which a record names a wrong board.
 
+use crate::adoptions::{self, AdoptionCounters};
 use crate::counters::Counters;
 use crate::fault::{Catcher, Fault, FaultKind, FAULTS};
 use crate::fuzz::search;
@@ -9,13 +11,15 @@ use crate::pair_counters::PairCounters;
 use crate::pairs;
 use crate::runner::{run, Session};
 use crate::trial::Trial;
+use crate::verdicts;
 use std::fs;
 use std::io;
 use std::path::{Path, PathBuf};
 
-/// How many random scripts, or pairs, a fault may take to show.
+/// How many random scripts, pairs or banks a fault may take to show.
 const SCRIPTS: u64 = 1_000;
 const PAIRS: u64 = 1_000;
+const BANKS: u64 = 1_000;
 const BESIDE_LINES: u32 = 300;
 
 /// A script of the corpus and what the right engine prints.
@@ -61,8 +65,11 @@ fn differs(case: &Case, fault: Fault) -> bool {
 /// Prints what catches one fault; false if what must catch it doesn't.
 fn try_fault(kind: &FaultKind, corpus: &[Case]) -> bool {
     println!("{}: {}", kind.name, kind.what);
-    if kind.caught_by == Catcher::Pairs {
-        return pairs_differ(kind.fault);
+    match kind.caught_by {
+        Catcher::Pairs => return pairs_differ(kind.fault),
+        Catcher::Verdicts => return verdicts_differ(kind.fault),
+        Catcher::Adoptions => return adoptions_differ(kind.fault),
+        _ => (),
     }
     let (claim, outputs) = (claim_breaks(kind.fault), outputs_differ(kind.fault, corpus));
     match kind.caught_by {
@@ -101,6 +108,24 @@ fn pairs_differ(fault: Fault) -> bool {
     match &failure {
         Some(failure) => println!("  pairs differ at seed {}: {}", failure.seed, failure.why),
         None => println!("  {PAIRS} pairs agree"),
+    }
+    failure.is_some()
+}
+
+fn verdicts_differ(fault: Fault) -> bool {
+    let found = (1..=BANKS).find_map(|seed| Some((seed, verdicts::differs(seed, fault)?)));
+    match &found {
+        Some((seed, call)) => println!("  verdicts differ at seed {seed}: {call}"),
+        None => println!("  the verdicts on {BANKS} banks agree"),
+    }
+    found.is_some()
+}
+
+fn adoptions_differ(fault: Fault) -> bool {
+    let failure = adoptions::search(1, BANKS, fault, &mut AdoptionCounters::default());
+    match &failure {
+        Some(failure) => println!("  adoption wrong at seed {}: {}", failure.seed, failure.why),
+        None => println!("  {BANKS} adoptions are right"),
     }
     failure.is_some()
 }

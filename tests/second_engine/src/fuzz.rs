@@ -1,6 +1,7 @@
-//! Many random scripts under the claim, with counters of what they met.
+//! Many random scripts under the claim, with counters of what they met; then pairs and adoptions.
 //! A script that breaks the claim is made smaller and printed.
 
+use crate::adoptions::adoptions;
 use crate::check::well_formed;
 use crate::claim::Verdict;
 use crate::counters::{Asked, Counters};
@@ -67,7 +68,7 @@ fn try_seed(seed: u64, fault: Fault, counters: &mut Counters) -> Result<(), Fail
             }
         }
     }
-    counters.count_wide_records(&trial);
+    counters.count_script(&trial);
     let fits = trial
         .session
         .bank
@@ -158,14 +159,15 @@ fn shrink(mut script: Vec<ScriptLine>, fault: Fault) -> Vec<ScriptLine> {
     script
 }
 
-/// The whole command: the scripts, then as many pairs. False if the claim broke or a pair differed.
+/// The whole command: the scripts, then as many pairs and adoptions. False if the claim broke, a pair differed or an
+/// adoption answered wrongly.
 pub fn fuzz(seed: u64, count: u64, fault: Fault) -> io::Result<bool> {
     let mut counters = Counters::new();
     let failure = search(seed, count, fault, &mut counters);
     counters.print();
     let Some(failure) = failure else {
         println!("claim held");
-        return Ok(pairs(seed, count, fault));
+        return Ok(pairs(seed, count, fault) & adoptions(seed, count, fault));
     };
     let Failure {
         seed,

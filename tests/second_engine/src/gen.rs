@@ -326,7 +326,7 @@ impl Generator {
     }
 
     /// Mostly what the premise asks or the due got needs; else a stray access or a break.
-    fn replaying_access(
+    pub fn replaying_access(
         &mut self,
         trial: &Trial,
         bank: &[u8],

@@ -29,15 +29,22 @@ pub const GOT_OWN: Kind = *b"GO";
 pub const SHOWN: Kind = *b"SH";
 pub const DROPPED: Kind = *b"DR";
 
-/// Which form a bank has. A parameter of types, so that layout, rules and engine are written once for both.
+/// Which form a bank has: where its fields lie, and whether its records name a board. A parameter of types, so that
+/// layout, rules and engine are written once for all.
 pub type Form = u8;
 /// The form that every call works on.
 pub const NEWEST: Form = 0;
 /// Document 01's own form, which a conversion reads.
 pub const OLDER: Form = 1;
+/// The newest places, with a zero byte in place of the board: what is adopted.
+pub const EARLIER: Form = 2;
+/// The older places under the rules of the day: what an old bank is as long as it isn't converted.
+pub const NARROW: Form = 3;
 
 /// The places and widths in which forms differ, or may come to differ.
 pub struct Places {
+    /// Whether byte 3 of a record names a board; else it is zero.
+    pub names_board: bool,
     /// How many bytes since and a record's count have.
     pub count_width: usize,
     // Inside a block.
@@ -54,6 +61,7 @@ pub struct Places {
 }
 
 const NEWEST_PLACES: Places = Places {
+    names_board: true,
     count_width: 4,
     since: 8,
     place: 12,
@@ -63,6 +71,16 @@ const NEWEST_PLACES: Places = Places {
     slot_count: 4,
     slot_bytes: 8,
     slot: 24,
+};
+
+const EARLIER_PLACES: Places = Places {
+    names_board: false,
+    ..NEWEST_PLACES
+};
+
+const NARROW_PLACES: Places = Places {
+    names_board: true,
+    ..older::PLACES
 };
 
 const COUNT_OF_BOARDS: usize = 2;
@@ -83,7 +101,10 @@ pub const FRAME: usize = 1 + PAGE;
 
 // Inside a slot; the last three in the newest form.
 pub const SLOT_PAGE: usize = 2;
-pub const SLOT_ZERO: usize = 3;
+/// The board that a record names: the other party.
+pub const SLOT_BOARD: usize = 3;
+/// The same byte, in forms whose records name none.
+pub const SLOT_ZERO: usize = SLOT_BOARD;
 pub const SLOT_COUNT: usize = NEWEST_PLACES.slot_count;
 pub const SLOT_BYTES: usize = NEWEST_PLACES.slot_bytes;
 pub const SLOT: usize = NEWEST_PLACES.slot;
@@ -105,8 +126,13 @@ impl Layout {
 impl<const FORM: Form> Layout<FORM> {
     const PLACES: Places = match FORM {
         OLDER => older::PLACES,
+        EARLIER => EARLIER_PLACES,
+        NARROW => NARROW_PLACES,
         _ => NEWEST_PLACES,
     };
+
+    /// Whether a record of this form names a board.
+    pub const NAMES_BOARD: bool = Self::PLACES.names_board;
 
     // Inside a slot of this form.
     pub const SLOT_COUNT: usize = Self::PLACES.slot_count;
@@ -228,21 +254,49 @@ impl<const FORM: Form> Layout<FORM> {
         SLOTS.saturating_sub(stored + bank[self.volatile(board)] as usize)
     }
 
+    /// The log of an area, or the volatile one.
+    pub fn log(self, board: usize, area: Option<usize>) -> Log {
+        let stored = area.map(|which| self.area(board, which));
+        Log {
+            board,
+            area,
+            count: stored.map_or(self.volatile(board), |area| self.stored(area)),
+            first: stored.map_or(self.volatile_slot(board, 0), |area| self.area_slot(area, 0)),
+        }
+    }
+
+    /// Every log of every board.
+    pub fn logs(self) -> impl Iterator<Item = Log> {
+        let of_board =
+            move |board: usize| [None, Some(0), Some(1)].map(|area| self.log(board, area));
+        (0..self.boards).flat_map(of_board)
+    }
+
+    /// The slots of a log's records.
+    pub fn records(self, bank: &[u8], log: Log) -> impl Iterator<Item = usize> {
+        let count = (bank[log.count] as usize).min(SLOTS);
+        (0..count).map(move |slot| log.first + Self::SLOT * slot)
+    }
+
     /// The slots at or past a count, of all logs: one run of bytes for each log.
     pub fn past_counts(self, bank: &[u8]) -> Vec<Range<usize>> {
-        let past = |first: usize, count: usize| {
-            first + Self::SLOT * (bank[count] as usize).min(SLOTS)..first + Self::SLOT * SLOTS
+        let past = |log: Log| {
+            let count = (bank[log.count] as usize).min(SLOTS);
+            log.first + Self::SLOT * count..log.first + Self::SLOT * SLOTS
         };
-        let of_board = |board: usize| {
-            let areas = [0, 1].map(|which| self.area(board, which));
-            [
-                past(self.volatile_slot(board, 0), self.volatile(board)),
-                past(self.area_slot(areas[0], 0), self.stored(areas[0])),
-                past(self.area_slot(areas[1], 0), self.stored(areas[1])),
-            ]
-        };
-        (0..self.boards).flat_map(of_board).collect()
+        self.logs().map(past).collect()
     }
+}
+
+/// One of a board's three logs.
+#[derive(Clone, Copy, PartialEq, Eq, Debug)]
+pub struct Log {
+    pub board: usize,
+    /// Which area it is of; none for the volatile log.
+    pub area: Option<usize>,
+    /// Where its count stands, and where its first slot begins.
+    pub count: usize,
+    pub first: usize,
 }
 
 pub fn get16(bank: &[u8], at: usize) -> u16 {
@@ -315,7 +369,48 @@ mod tests {
         assert_eq!(l.area(1, 1) - l.area(1, 0), 5 + 51 + 768);
         assert_eq!((l.stored(7), l.area_frame(7, 1)), (11, 29));
         assert_eq!(l.area_slot(7, 1), 7 + 5 + 51 + 24);
-        assert_eq!([SLOT_PAGE, SLOT_ZERO, SLOT_COUNT, SLOT_BYTES], [2, 3, 4, 8]);
+        assert_eq!(
+            [SLOT_PAGE, SLOT_BOARD, SLOT_COUNT, SLOT_BYTES],
+            [2, 3, 4, 8]
+        );
         assert_eq!(<Layout>::MOST, 4_294_967_295);
+    }
+
+    /// Two widths of since, each with and without names.
+    #[test]
+    fn four_forms() {
+        fn form<const FORM: Form>() -> (usize, bool) {
+            let layout = Layout::<FORM> {
+                boards: 1,
+                pages: 1,
+            };
+            (layout.length(), Layout::<FORM>::NAMES_BOARD)
+        }
+        assert_eq!(form::<NEWEST>(), (2_385, true));
+        assert_eq!(form::<EARLIER>(), (2_385, false));
+        assert_eq!(form::<OLDER>(), (2_191, false));
+        assert_eq!(form::<NARROW>(), (2_191, true));
+    }
+
+    /// Three logs for each board: the volatile one and those of both areas.
+    #[test]
+    fn logs_of_a_bank() {
+        let l: Layout = Layout {
+            boards: 2,
+            pages: 3,
+        };
+        let logs: Vec<Log> = l.logs().collect();
+        assert_eq!(logs.len(), 6);
+        assert_eq!(logs[3], l.log(1, None));
+        assert_eq!(
+            (logs[3].count, logs[3].first),
+            (l.volatile(1), l.volatile_slot(1, 0))
+        );
+        let area = l.area(1, 1);
+        assert_eq!(logs[5], l.log(1, Some(1)));
+        assert_eq!(
+            (logs[5].count, logs[5].first),
+            (l.stored(area), l.area_slot(area, 0))
+        );
     }
 }

@@ -1,12 +1,15 @@
-//! Random well-formed banks: reached by a script, or made by hand, in either form, which no run need ever reach, with
+//! Random well-formed banks: reached by a script, or made by hand, in any form, which no run need ever reach, with
 //! fields in their ranges, often at a limit. Slots at or past a count are anything: any bytes, zero or records.
+//! Records name any board but their own, where the form has names; with one board there are none then.
 
 use crate::calls::make_in;
+use crate::check::has_records;
 use crate::fault::Fault;
 use crate::gen::Generator;
 use crate::layout::*;
 use crate::older;
 use crate::random::Random;
+use crate::settle;
 use crate::trial::Trial;
 
 /// The smallest and largest sizes often, the others sometimes.
@@ -32,6 +35,19 @@ pub fn fill(random: &mut Random, bytes: &mut [u8]) {
 
 /// The bank that a random script leaves.
 pub fn reached(random: &mut Random) -> Vec<u8> {
+    let bank = script(random, 0);
+    bank.unwrap_or_else(|| fresh(size::<NEWEST>(random)))
+}
+
+/// The same, led on to where every count is zero.
+pub fn settled(random: &mut Random) -> Vec<u8> {
+    let bank = script(random, settle::MOST_LINES);
+    let bank = bank.filter(|bank| !has_records::<NEWEST>(bank));
+    bank.unwrap_or_else(|| fresh(size::<NEWEST>(random)))
+}
+
+/// A random script and at most so many lines more, on the way to a bank without records.
+fn script(random: &mut Random, settling: usize) -> Option<Vec<u8>> {
     let lines = random.between(20, 300);
     let mut generator = Generator::with_shelves(random.below(u32::MAX) as u64, lines);
     let mut trial = Trial::new(Fault::None);
@@ -39,15 +55,19 @@ pub fn reached(random: &mut Random) -> Vec<u8> {
         let line = generator.next(&trial).read();
         trial.take(line);
     }
-    let bank = trial.session.bank;
-    bank.unwrap_or_else(|| fresh(size::<NEWEST>(random)))
+    for _ in 0..settling {
+        let Some(line) = settle::next(&mut generator, &trial) else {
+            break;
+        };
+        trial.take(Some(line));
+    }
+    trial.session.bank
 }
 
-/// The same in the older form, with any leftovers or none; a short script has no count that it lacks room for.
-pub fn reached_old(random: &mut Random) -> Vec<u8> {
-    let bank = reached(random);
+/// A bank in the older form, with any leftovers or none; a short script has no count that it lacks room for.
+fn old_form(random: &mut Random, bank: &[u8]) -> Vec<u8> {
     let leftovers = random.permille(700);
-    let old = older::narrowed(&bank, |run| {
+    let old = older::narrowed(bank, |run| {
         if leftovers {
             fill(random, run);
         }
@@ -55,8 +75,52 @@ pub fn reached_old(random: &mut Random) -> Vec<u8> {
     old.unwrap_or_else(|| fresh(size::<OLDER>(random)))
 }
 
+/// What a script leaves, in the older form: mostly with records.
+pub fn reached_old(random: &mut Random) -> Vec<u8> {
+    let bank = reached(random);
+    old_form(random, &bank)
+}
+
+/// The same with every count zero.
+pub fn settled_old(random: &mut Random) -> Vec<u8> {
+    let bank = settled(random);
+    old_form(random, &bank)
+}
+
+/// A bank of the newest form in the earlier one: every record has a zero byte in place of the board that it names.
+pub fn unnamed(bank: &[u8]) -> Vec<u8> {
+    let mut earlier = bank.to_vec();
+    let layout = Layout::of(bank);
+    for slot in layout.logs().flat_map(|log| layout.records(bank, log)) {
+        earlier[slot + SLOT_ZERO] = 0;
+    }
+    earlier
+}
+
+/// Which logs of a bank have records.
+#[derive(Clone, Copy, PartialEq, Eq)]
+enum Logged {
+    Any,
+    One,
+    None,
+}
+
 /// A bank made by hand.
 pub fn bank<const FORM: Form>(random: &mut Random) -> Vec<u8> {
+    by_hand::<FORM>(random, Logged::Any)
+}
+
+/// One with every count zero.
+pub fn without_records<const FORM: Form>(random: &mut Random) -> Vec<u8> {
+    by_hand::<FORM>(random, Logged::None)
+}
+
+/// One with records in one log alone, of any board: the volatile one, the selected area's or the spare one's.
+pub fn with_one_log<const FORM: Form>(random: &mut Random) -> Vec<u8> {
+    by_hand::<FORM>(random, Logged::One)
+}
+
+fn by_hand<const FORM: Form>(random: &mut Random, logged: Logged) -> Vec<u8> {
     let layout = size::<FORM>(random);
     let mut bank = fresh(layout);
     let first_block = layout.block(0);
@@ -66,10 +130,12 @@ pub fn bank<const FORM: Form>(random: &mut Random) -> Vec<u8> {
     let records_past = random.permille(400);
     let at_limits = random.pick(&[0, 100, 300, 300, 300]);
     let groups = random.pick(&[0, 200, 500]);
+    let nobody_to_name = Layout::<FORM>::NAMES_BOARD && layout.boards == 1;
     let mut making = Making {
         random,
         bank,
         layout,
+        logged: logged == Logged::Any && !nobody_to_name,
         records_past,
         at_limits,
         groups,
@@ -78,6 +144,9 @@ pub fn bank<const FORM: Form>(random: &mut Random) -> Vec<u8> {
     making.states();
     making.directory();
     (0..layout.boards).for_each(|board| making.block(board));
+    if logged == Logged::One && !nobody_to_name {
+        making.one_log();
+    }
     making.bank
 }
 
@@ -92,6 +161,8 @@ struct Making<'a, const FORM: Form> {
     random: &'a mut Random,
     bank: Vec<u8>,
     layout: Layout<FORM>,
+    /// Whether counts may be other than zero.
+    logged: bool,
     /// Whether there are records past the counts too.
     records_past: bool,
     /// How often since, a record's count or an access number is near its largest, in thousandths.
@@ -107,6 +178,8 @@ impl<const FORM: Form> Making<'_, FORM> {
         let mostly_up = self.random.permille(600);
         for board in 0..self.layout.boards {
             let state = match mostly_up {
+                // A board that replays has records.
+                _ if !self.logged => self.random.pick(&[UP, UP, UP, DOWN]),
                 true => self.random.pick(&[UP, UP, UP, UP, UP, UP, DOWN, REPLAYING]),
                 false => self.random.pick(&[UP, UP, DOWN, REPLAYING, REPLAYING]),
             };
@@ -151,7 +224,7 @@ impl<const FORM: Form> Making<'_, FORM> {
         self.bare = self.random.pick(&[500, 500, 800, 950]);
         for which in 0..2 {
             let least = (state == REPLAYING) as u8;
-            self.area(layout.area(board, which), least);
+            self.area(board, which, least);
         }
         self.frames(board, state);
         let selected = layout.selected(&self.bank, board);
@@ -178,16 +251,15 @@ impl<const FORM: Form> Making<'_, FORM> {
         put32(&mut self.bank, layout.number(board), number);
         layout.put_count(&mut self.bank, layout.since(board), since);
         self.bank[layout.place(board)] = place;
-        self.bank[layout.volatile(board)] = volatile;
-        self.records(layout.volatile_slot(board, 0), volatile);
+        self.records(layout.log(board, None), volatile);
     }
 
-    fn area(&mut self, area: usize, least: u8) {
+    fn area(&mut self, board: usize, which: usize, least: u8) {
+        let area = self.layout.area(board, which);
         let number = self.number();
         put32(&mut self.bank, area, number);
         let stored = self.count(SLOTS as u8).max(least);
-        self.bank[self.layout.stored(area)] = stored;
-        self.records(self.layout.area_slot(area, 0), stored);
+        self.records(self.layout.log(board, Some(which)), stored);
         for page in 0..self.layout.pages {
             let right = self.right();
             self.frame(self.layout.area_frame(area, page), right);
@@ -216,8 +288,21 @@ impl<const FORM: Form> Making<'_, FORM> {
         }
     }
 
-    /// Valid records in the first slots of a log.
-    fn records(&mut self, first: usize, count: u8) {
+    /// Some records in one log; a board without power has no volatile ones.
+    fn one_log(&mut self) {
+        let down = |log: &Log| self.bank[self.layout.state(log.board)] == DOWN;
+        let logs = self.layout.logs();
+        let logs: Vec<Log> = logs
+            .filter(|log| log.area.is_some() || !down(log))
+            .collect();
+        let log = self.random.pick(&logs);
+        let count = self.random.pick(&[1, 1, 2, 3, SLOTS as u8]);
+        self.records(log, count);
+    }
+
+    /// Sets the count of a log, with valid records in its first slots.
+    fn records(&mut self, log: Log, count: u8) {
+        self.bank[log.count] = count;
         let count = if self.records_past {
             SLOTS
         } else {
@@ -232,8 +317,20 @@ impl<const FORM: Form> Making<'_, FORM> {
         }
         // The count may cut a group off.
         for (place, record) in records.into_iter().take(count).enumerate() {
-            self.record(first + Layout::<FORM>::SLOT * place, record);
+            self.record(log.first + Layout::<FORM>::SLOT * place, record);
+            let named = self.other_than(log.board);
+            self.bank[log.first + Layout::<FORM>::SLOT * place + SLOT_BOARD] = named;
         }
+    }
+
+    /// A board that a record of this board may name; zero in a form without names, and where there is no other board.
+    fn other_than(&mut self, board: usize) -> u8 {
+        let others = self.layout.boards as u32 - 1;
+        if !Layout::<FORM>::NAMES_BOARD || others == 0 {
+            return 0;
+        }
+        let other = self.random.below(others) as u8;
+        other + (other as usize >= board) as u8
     }
 
     /// Many have count 0, so that several are due at once.
@@ -277,7 +374,6 @@ impl<const FORM: Form> Making<'_, FORM> {
         let Record { kind, page, count } = record;
         self.bank[slot..slot + 2].copy_from_slice(&kind);
         self.bank[slot + SLOT_PAGE] = page;
-        self.bank[slot + SLOT_ZERO] = 0;
         let (at, bytes) = (Layout::<FORM>::SLOT_COUNT, Layout::<FORM>::SLOT_BYTES);
         self.layout.put_count(&mut self.bank, slot + at, count);
         let bytes = &mut self.bank[slot + bytes..slot + Layout::<FORM>::SLOT];
@@ -297,6 +393,7 @@ impl<const FORM: Form> Making<'_, FORM> {
     fn count(&mut self, most: u8) -> u8 {
         let most = most as u32;
         match self.random.below(6) {
+            _ if !self.logged => 0,
             0 | 1 => 0,
             2 => most,
             3 => most - self.random.below(most.min(3) + 1),
@@ -347,6 +444,7 @@ impl<const FORM: Form> Making<'_, FORM> {
 mod tests {
     use super::*;
     use crate::absent::{pages, Page};
+    use crate::check::fits;
 
     /// Of a thousand banks made by hand, how many are so.
     fn many<const FORM: Form>(fits: impl Fn(&[u8], Layout<FORM>) -> bool) -> usize {
@@ -364,5 +462,61 @@ mod tests {
         let read = |bank: &[u8], layout: Layout| pages(bank, layout).any(|page| lacking(&page));
         assert!(many(held) > 340);
         assert!(many(read) > 150);
+    }
+
+    /// Every bank made by hand is well formed, and its counts are as they were asked for.
+    fn made_as_asked<const FORM: Form>() {
+        let mut random = Random::new(2);
+        for _ in 0..500 {
+            assert!(fits::<FORM>(&bank::<FORM>(&mut random)));
+            let empty = without_records::<FORM>(&mut random);
+            assert!(fits::<FORM>(&empty) && !has_records::<FORM>(&empty));
+            let one = with_one_log::<FORM>(&mut random);
+            let counts = Layout::<FORM>::named_by(&one)
+                .logs()
+                .map(|log| one[log.count]);
+            let wanted = !(Layout::<FORM>::NAMES_BOARD && one[2] == 1) as usize;
+            assert!(fits::<FORM>(&one));
+            assert_eq!(counts.filter(|count| *count > 0).count(), wanted);
+        }
+    }
+
+    #[test]
+    fn banks_are_as_asked() {
+        made_as_asked::<NEWEST>();
+        made_as_asked::<OLDER>();
+        made_as_asked::<EARLIER>();
+        made_as_asked::<NARROW>();
+    }
+
+    /// All boards are named, in every log; without their names they are of the earlier form.
+    #[test]
+    fn records_name_every_board() {
+        let mut random = Random::new(3);
+        let mut named = [[0; MAX_BOARDS]; MAX_BOARDS];
+        for _ in 0..1_000 {
+            let bank = bank::<NEWEST>(&mut random);
+            let layout = Layout::of(&bank);
+            for log in layout.logs() {
+                let records = layout.records(&bank, log);
+                records.for_each(|slot| named[log.board][bank[slot + SLOT_BOARD] as usize] += 1);
+            }
+            assert!(fits::<EARLIER>(&unnamed(&bank)));
+        }
+        for (board, counts) in named.iter().enumerate() {
+            assert!((0..MAX_BOARDS).all(|other| (counts[other] > 0) == (other != board)));
+        }
+    }
+
+    /// A script's bank can mostly be led to where it has no record, with bytes in its frames.
+    #[test]
+    fn scripts_settle() {
+        let mut random = Random::new(4);
+        let banks: Vec<Vec<u8>> = (0..100).map(|_| settled(&mut random)).collect();
+        assert!(banks
+            .iter()
+            .all(|bank| fits::<NEWEST>(bank) && !has_records::<NEWEST>(bank)));
+        let fresh = |bank: &[u8]| *bank == fresh(Layout::of(bank));
+        assert!(banks.iter().filter(|bank| !fresh(bank)).count() > 80);
     }
 }

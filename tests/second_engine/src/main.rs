@@ -1,8 +1,10 @@
 //! The second engine: the bank, line runner and claim of documents 01 and 02, worked on plain bytes.
-//! Commands: run, dump, gen, claim, fuzz, pairs, faults.
+//! Commands: run, dump, gen, claim, fuzz, pairs, adoptions, faults.
 
 mod absent;
 mod access;
+mod adopt;
+mod adoptions;
 mod asked;
 mod calls;
 mod cases;
@@ -22,23 +24,29 @@ mod history;
 mod layout;
 mod line;
 mod made;
+mod named;
 mod noise;
 mod older;
 mod pair_counters;
 mod pairs;
+mod passages;
 mod profile;
 mod random;
 mod replay;
 mod runner;
 mod script_line;
 mod served;
+mod settle;
 mod shelves;
 mod trial;
+mod verdicts;
 mod watch;
 #[cfg(test)]
 mod worked;
 #[cfg(test)]
 mod worked_givers;
+#[cfg(test)]
+mod worked_names;
 
 use fault::Fault;
 use std::io::{self, stdin, stdout};
@@ -47,7 +55,7 @@ use std::process::ExitCode;
 
 const USAGE: &str = "usage: second run|dump|claim [--fault NAME] < SCRIPT
        second gen SEED LINES
-       second fuzz|pairs SEED COUNT [--fault NAME]
+       second fuzz|pairs|adoptions SEED COUNT [--fault NAME]
        second faults
        second test";
 
@@ -73,6 +81,9 @@ fn command(arguments: &[&str], fault: Fault) -> Option<io::Result<bool>> {
         }
         ["fuzz", seed, count] => fuzz::fuzz(number(seed)?, number(count)?, fault),
         ["pairs", seed, count] => Ok(pairs::pairs(number(seed)?, number(count)?, fault)),
+        ["adoptions", seed, count] => {
+            Ok(adoptions::adoptions(number(seed)?, number(count)?, fault))
+        }
         ["faults", folder] => faults::faults(Path::new(folder)),
         _ => return None,
     })

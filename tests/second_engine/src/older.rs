@@ -7,6 +7,7 @@ use crate::fault::Fault;
 use crate::layout::{self, Places, NEWEST, OLDER};
 
 pub const PLACES: Places = Places {
+    names_board: false,
     count_width: 2,
     since: 8,
     place: 10,
@@ -31,7 +32,8 @@ pub fn well_formed(bank: &[u8]) -> bool {
     check::fits::<OLDER>(bank)
 }
 
-/// The old bank with all numbers of a well-formed one of the newest form; none if a number has no room in it.
+/// The old bank with all numbers of a well-formed one of the newest form, but for the boards that its records name; none
+/// if a number has no room in it.
 /// `leftovers` is lent every run of slots at or past a count, all zero, to write there what it likes.
 pub fn narrowed(bank: &[u8], mut leftovers: impl FnMut(&mut [u8])) -> Option<Vec<u8>> {
     if !check::well_formed(bank) {
@@ -78,7 +80,7 @@ mod tests {
         assert_eq!((l.stored(7), l.area_frame(7, 1)), (11, 29));
         assert_eq!(l.area_slot(7, 1), 7 + 5 + 51 + 22);
         assert_eq!((Layout::SLOT_COUNT, Layout::SLOT_BYTES), (4, 6));
-        assert_eq!(Layout::MOST, 65_535);
+        assert_eq!((Layout::MOST, Layout::NAMES_BOARD), (65_535, false));
     }
 
     /// For one number of boards and pages the two lengths never agree.

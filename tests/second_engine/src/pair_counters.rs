@@ -8,7 +8,7 @@ use crate::watch::{phase_name, phases, Watch, PHASES};
 /// A counter is near its limit if so many more accesses, or fewer, fill it.
 const NEAR: u32 = 5;
 
-/// Where an old bank comes from.
+/// Where an old bank without records comes from.
 #[derive(Clone, Copy)]
 pub enum Source {
     Reached,
@@ -17,8 +17,8 @@ pub enum Source {
 }
 
 const SOURCES: [&str; 3] = [
-    "reached by calls",
-    "reached, and a board reads on and on",
+    "reached by calls and settled",
+    "reached and settled, and a board reads on and on",
     "made by hand",
 ];
 
@@ -29,18 +29,37 @@ pub enum Refusal {
     Length,
     Newest,
     Target,
+    Named,
+    Records,
+    OneLog,
+    Reached,
+    TargetToo,
+    DamagedToo,
 }
 
-const REFUSALS: [&str; 4] = [
-    "an old bank with damaged bytes",
-    "an old bank of a wrong length",
-    "a bank of the newest form",
-    "a target of a wrong length",
+const REFUSALS: [(&str, u8); 10] = [
+    ("an old bank with damaged bytes", 1),
+    ("an old bank of a wrong length", 1),
+    ("a bank of the newest form", 1),
+    ("a target of a wrong length", 1),
+    ("an old bank whose records name boards", 1),
+    ("an old bank with records", 11),
+    ("an old bank with records in one log", 11),
+    ("an old bank with records that calls made", 11),
+    (
+        "an old bank with records, and a target of a wrong length",
+        1,
+    ),
+    ("an old bank with records, and damaged bytes", 1),
 ];
 
 impl Refusal {
     pub fn name(self) -> &'static str {
-        REFUSALS[self as usize]
+        REFUSALS[self as usize].0
+    }
+
+    pub fn code(self) -> u8 {
+        REFUSALS[self as usize].1
     }
 }
 
@@ -163,7 +182,9 @@ impl PairCounters {
             println!("  {}: {count}", phase_name(phase));
         }
         println!("conversions refused:");
-        print_rows(REFUSALS.iter().zip(self.refusals));
+        for ((name, code), count) in REFUSALS.iter().zip(self.refusals) {
+            println!("  {name}, code {code}: {count}");
+        }
         println!("never met: {}", self.never_met());
     }
 }

@@ -1,11 +1,12 @@
 //! Pairs of banks, an old one and its conversion, that are given the same calls. Document 02: both under the rules of
 //! the day, a converted bank answers every later call as the old one would until the old one's first code 4.
+//! An old bank is converted while it has no record; from then on its records name boards as the rules of the day have it.
 
 use crate::asked;
 use crate::calls::{call, call_in, Answer, Call};
-use crate::check::well_formed;
+use crate::check::{has_records, well_formed};
 use crate::claim::{Answered, Verdict};
-use crate::convert::convert;
+use crate::convert::{carry, convert};
 use crate::damage;
 use crate::fault::Fault;
 use crate::gen::{Generator, LONG_SCRIPT};
@@ -16,6 +17,7 @@ use crate::older;
 use crate::pair_counters::{PairCounters, Refusal, Source};
 use crate::random::Random;
 use crate::runner::Session;
+use crate::settle;
 use crate::trial::Trial;
 use crate::watch::Watch;
 
@@ -23,13 +25,16 @@ use crate::watch::Watch;
 const LONG_EVERY: u64 = 1_000;
 const REACHED_EVERY: u64 = 3;
 
+/// A board that reads on and on does so behind the conversion, which comes in one of the first lines.
+const LONG_CONVERTED_BY: u32 = 30;
+
 /// A pair that differed, and how.
 pub struct Failure {
     pub seed: u64,
     pub why: String,
 }
 
-/// An old bank, run on its own bytes by the right engine beside its conversion.
+/// An old bank, run on its own bytes by the right engine under the rules of the day, beside its conversion.
 struct Pair<'a> {
     old: Vec<u8>,
     watch: Watch,
@@ -41,7 +46,7 @@ struct Pair<'a> {
 impl Pair<'_> {
     fn new(old: Vec<u8>, fault: Fault, counters: &mut PairCounters) -> Pair<'_> {
         Pair {
-            watch: Watch::of::<OLDER>(&old),
+            watch: Watch::of::<NARROW>(&old),
             old,
             calls: 0,
             fault,
@@ -88,7 +93,7 @@ impl Pair<'_> {
     /// What the right engine answers on the old bank's own bytes, and the second buffer.
     fn old_answer(&mut self, call: &Call) -> (Answer, Vec<u8>) {
         let mut out = call.second_buffer();
-        let answer = call_in::<OLDER>(&mut self.old, call, &mut out, Fault::None, &mut self.watch);
+        let answer = call_in::<NARROW>(&mut self.old, call, &mut out, Fault::None, &mut self.watch);
         (answer, out)
     }
 
@@ -103,7 +108,7 @@ impl Pair<'_> {
         let mut new = target.to_vec();
         let answer = convert(old, &mut new, self.fault);
         self.counters.refused(why);
-        if answer != Answer::refused(1) {
+        if answer != Answer::refused(why.code()) {
             return Err(format!("{}: {answer:?}", why.name()));
         }
         if new != target {
@@ -112,33 +117,103 @@ impl Pair<'_> {
         Ok(())
     }
 
-    /// One conversion of each kind that is refused.
+    /// One conversion of each kind that is refused, of an old bank that has no record.
     fn refusals(&mut self, random: &mut Random, new: &[u8]) -> Result<(), String> {
         let mut target = vec![0; new.len()];
         made::fill(random, &mut target);
         let old = self.old.clone();
-        let mut damaged = old.clone();
-        damage::bytes::<OLDER>(random, &mut damaged);
-        if !older::well_formed(&damaged) {
-            self.refused(Refusal::Damaged, &damaged, &target)?;
-        }
+        self.refused_if_damaged(Refusal::Damaged, &old, random)?;
         let mut other = old.clone();
         damage::length::<OLDER>(random, &mut other);
         if other.len() != old.len() {
             self.refused(Refusal::Length, &other, &target)?;
         }
         self.refused(Refusal::Newest, new, &target)?;
-        let mut wrong = new.to_vec();
+        self.refused_for_target(Refusal::Target, &old, random)?;
+        let records = made::bank::<OLDER>(random);
+        self.refused_for_records(Refusal::Records, &records, random)?;
+        let one_log = made::with_one_log::<OLDER>(random);
+        self.refused_for_records(Refusal::OneLog, &one_log, random)
+    }
+
+    /// A target full of any bytes, of the length that this old bank asks for.
+    fn refused_into_any(
+        &mut self,
+        why: Refusal,
+        old: &[u8],
+        random: &mut Random,
+    ) -> Result<(), String> {
+        let mut target = vec![0; Layout::of(old).length()];
+        made::fill(random, &mut target);
+        self.refused(why, old, &target)
+    }
+
+    /// An old bank with some bytes changed, if that makes it malformed.
+    fn refused_if_damaged(
+        &mut self,
+        why: Refusal,
+        old: &[u8],
+        random: &mut Random,
+    ) -> Result<(), String> {
+        let mut damaged = old.to_vec();
+        damage::bytes::<OLDER>(random, &mut damaged);
+        if older::well_formed(&damaged) {
+            return Ok(());
+        }
+        let length = Layout::of(old).length();
+        self.refused(why, &damaged, &vec![random.below(256) as u8; length])
+    }
+
+    /// A target of another length.
+    fn refused_for_target(
+        &mut self,
+        why: Refusal,
+        old: &[u8],
+        random: &mut Random,
+    ) -> Result<(), String> {
+        let mut wrong = made::fresh(Layout::of(old));
+        let length = wrong.len();
         match random.below(6) {
             0 => wrong.truncate(old.len()),
             1 => wrong.clear(),
             _ => damage::length::<NEWEST>(random, &mut wrong),
         }
-        if wrong.len() != new.len() {
-            made::fill(random, &mut wrong);
-            self.refused(Refusal::Target, &old, &wrong)?;
+        if wrong.len() == length {
+            return Ok(());
         }
-        Ok(())
+        made::fill(random, &mut wrong);
+        self.refused(why, old, &wrong)
+    }
+
+    /// Code 11 for a well-formed old bank with a record; code 1 comes before it.
+    fn refused_for_records(
+        &mut self,
+        why: Refusal,
+        old: &[u8],
+        random: &mut Random,
+    ) -> Result<(), String> {
+        if !has_records::<OLDER>(old) {
+            return Ok(());
+        }
+        self.refused_into_any(why, old, random)?;
+        self.refused_if_damaged(Refusal::DamagedToo, old, random)?;
+        self.refused_for_target(Refusal::TargetToo, old, random)
+    }
+
+    /// The old bank as it stands may have records, which name boards by the rules of the day: not well formed by document
+    /// 01's rule unless all name board 0. With zero bytes in their place it is.
+    fn refused_as_it_stands(&mut self, random: &mut Random) -> Result<(), String> {
+        if !has_records::<NARROW>(&self.old) {
+            return Ok(());
+        }
+        let old = self.old.clone();
+        let mut zero = vec![0; old.len()];
+        carry::<NARROW, OLDER>(&old, &mut zero, Fault::None);
+        self.refused_for_records(Refusal::Reached, &zero, random)?;
+        match older::well_formed(&old) {
+            true => self.refused_into_any(Refusal::Reached, &old, random),
+            false => self.refused_into_any(Refusal::Named, &old, random),
+        }
     }
 }
 
@@ -168,17 +243,19 @@ fn without_leftovers<const FORM: Form>(bank: &[u8]) -> Vec<u8> {
     clean
 }
 
-/// Whether the old bank, converted once more, is the other one up to slots at or past a count.
+/// Whether the old bank, with its records and their names in the newest places, is the other one up to slots at or past a
+/// count.
 fn same_numbers(old: &[u8], new: &[u8]) -> bool {
     let mut again = vec![0; new.len()];
-    let answer = convert(old, &mut again, Fault::None);
-    answer.code == 0 && again == without_leftovers::<NEWEST>(new)
+    carry::<NARROW, NEWEST>(old, &mut again, Fault::None);
+    again == without_leftovers::<NEWEST>(new)
 }
 
 /// A bank made by hand, converted, and calls that suit it.
 fn made_by_hand(seed: u64, fault: Fault, counters: &mut PairCounters) -> Result<(), String> {
     let mut random = Random::new(seed);
-    let mut pair = Pair::new(made::bank::<OLDER>(&mut random), fault, counters);
+    let old = made::without_records::<OLDER>(&mut random);
+    let mut pair = Pair::new(old, fault, counters);
     let mut new = pair.converted(&mut random, Source::Made)?;
     pair.refusals(&mut random, &new)?;
     let mut watch = Watch::of::<NEWEST>(&new);
@@ -202,12 +279,13 @@ fn made_by_hand(seed: u64, fault: Fault, counters: &mut PairCounters) -> Result<
     Ok(())
 }
 
-/// A random script from a fresh old bank on; somewhere in it the bank is converted. The claim must hold throughout.
+/// A random script from a fresh old bank on; somewhere in it the bank is led to where it has no record and converted. The
+/// claim must hold throughout.
 fn reached(seed: u64, lines: u32, fault: Fault, counters: &mut PairCounters) -> Result<(), String> {
     let mut random = Random::new(!seed);
-    let source = match lines {
-        LONG_SCRIPT.. => Source::LongReading,
-        _ => Source::Reached,
+    let (source, converted_by) = match lines {
+        LONG_SCRIPT.. => (Source::LongReading, LONG_CONVERTED_BY),
+        _ => (Source::Reached, lines * 9 / 10),
     };
     let mut generator = Generator::with_shelves(seed, lines);
     let mut trial = Trial::new(fault);
@@ -220,28 +298,55 @@ fn reached(seed: u64, lines: u32, fault: Fault, counters: &mut PairCounters) -> 
         pages: pages as usize,
     };
     let mut pair = Pair::new(made::fresh(fresh), fault, counters);
-    let converted_at = random.below(lines * 9 / 10);
+    let converted_at = random.below(converted_by);
     for line in 0..lines {
         if line == converted_at {
+            pair.refused_as_it_stands(&mut random)?;
+            settle_both(&mut pair, &mut generator, &mut trial, &mut random)?;
+            if has_records::<NARROW>(&pair.old) {
+                return Ok(());
+            }
             let new = pair.converted(&mut random, source)?;
             pair.refusals(&mut random, &new)?;
             trial.session.bank = Some(new);
         }
-        if !one_line(&mut pair, &mut generator, &mut trial, line >= converted_at)? {
+        let next = generator.next(&trial).read();
+        if !one_line(&mut pair, &mut trial, next, line >= converted_at)? {
             break;
         }
     }
     Ok(())
 }
 
-/// The script's next line on both banks. False if the pair is over.
-fn one_line(
+/// Leads both banks to where no record is left; then come some accesses that make none, so that since isn't 0.
+fn settle_both(
     pair: &mut Pair,
     generator: &mut Generator,
     trial: &mut Trial,
+    random: &mut Random,
+) -> Result<(), String> {
+    for _ in 0..settle::MOST_LINES {
+        let Some(line) = settle::next(generator, trial) else {
+            break;
+        };
+        one_line(pair, trial, Some(line), false)?;
+    }
+    for _ in 0..random.pick(&[0, 5, 50]) {
+        let bank = trial.session.bank.as_deref().unwrap_or(&[]);
+        if let Some(call) = settle::local_access(random, bank) {
+            one_line(pair, trial, Some(call.into()), false)?;
+        }
+    }
+    Ok(())
+}
+
+/// A line on both banks. False if the pair is over.
+fn one_line(
+    pair: &mut Pair,
+    trial: &mut Trial,
+    line: Option<Line>,
     converted: bool,
 ) -> Result<bool, String> {
-    let line = generator.next(trial).read();
     let asked = line.as_ref().and_then(|line| line.call());
     let (answer, verdict) = trial.take(line);
     if let Verdict::ClaimBroken(why) = verdict {

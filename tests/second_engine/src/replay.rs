@@ -76,7 +76,13 @@ impl<const FORM: Form> Engine<'_, FORM> {
         let enough = lacking.len() <= group.len()
             || self.is_end(access.board, group.len())
             || self.fault == Fault::GroupTooSmall && !group.is_empty();
-        !enough || !self.needs_group(access, &lacking, &group)
+        !enough || !self.needs_group(access, &lacking, &group) || self.giver_missed(&group)
+    }
+
+    /// Only a wrong engine asks whom a record names.
+    fn giver_missed(&self, group: &[usize]) -> bool {
+        let not_up = |slot: &usize| self.state(self.bank[slot + SLOT_BOARD] as usize) != UP;
+        self.fault == Fault::ReplayAsksGiver && group.iter().any(not_up)
     }
 
     /// An access needs gots if all are of its kind, their pages rise, and it lacks each.

@@ -6,6 +6,8 @@ use crate::claim::{Answered, Before, Judge, Verdict};
 use crate::fault::Fault;
 use crate::layout::{Layout, UP};
 use crate::line::{read_script_line, Line, Lines};
+use crate::named::{self, Names};
+use crate::passages::Passages;
 use crate::runner::Session;
 use crate::served::all_served;
 use std::io::{self, Read, Write};
@@ -13,8 +15,18 @@ use std::io::{self, Read, Write};
 pub struct Trial {
     pub session: Session,
     pub judge: Judge,
+    pub names: Names,
+    pub passages: Passages,
     /// What the latest line was answered.
     pub latest: Answer,
+}
+
+/// What has to be known of a call from before it is made.
+struct Asked {
+    call: Call,
+    before: Before,
+    records: named::Before,
+    single: Option<Vec<u8>>,
 }
 
 impl Trial {
@@ -22,54 +34,75 @@ impl Trial {
         Trial {
             session: Session::new(fault),
             judge: Judge::new(),
+            names: Names::default(),
+            passages: Passages::default(),
             latest: Answer::default(),
         }
     }
 
     pub fn take(&mut self, line: Option<Line>) -> (Answer, Verdict) {
-        let asked = line.as_ref().and_then(|line| line.call());
-        let before = match (&self.session.bank, asked) {
-            (Some(bank), Some(call)) => {
-                let before = self.judge.before(bank, &call);
-                let single = self.single_reads(bank, &call);
-                Some((call, before, single))
-            }
+        let call = line.as_ref().and_then(|line| line.call());
+        let asked = match (&self.session.bank, call) {
+            (Some(bank), Some(call)) => Some(Asked {
+                before: self.judge.before(bank, &call),
+                records: named::Before::of(bank),
+                single: self.single_reads(bank, &call),
+                call,
+            }),
             _ => None,
         };
         (self.judge.began, self.judge.ended) = (None, None);
         let answer = self.session.take(line);
-        let verdict = match before {
+        let verdict = match asked {
             Some(_) if answer.code == 1 => {
                 Verdict::ClaimBroken("the calls before left a bank that isn't well formed".into())
             }
             Some(_) if answer.code == 4 => {
                 Verdict::ClaimBroken("no script is long enough for code 4".into())
             }
-            Some((call, before, single)) => self.judged(&call, &answer, before, single),
+            Some(asked) => self.judged(asked, &answer),
             None => Verdict::Held,
         };
         self.latest = answer;
         (answer, verdict)
     }
 
-    fn judged(
-        &mut self,
-        call: &Call,
-        answer: &Answer,
-        before: Before,
-        single: Option<Vec<u8>>,
-    ) -> Verdict {
+    /// The claim, then what holds whether the premise does or not.
+    fn judged(&mut self, asked: Asked, answer: &Answer) -> Verdict {
         let Session {
             bank, out, watch, ..
         } = &self.session;
-        let answered = Answered { call, answer, out };
+        let Asked {
+            call,
+            before,
+            records,
+            single,
+        } = asked;
+        let call = &call;
         let bank = bank.as_deref().unwrap_or(&[]);
+        let answered = Answered { call, answer, out };
         let verdict = self.judge.after(bank, answered, before, watch);
-        if let Verdict::Held = verdict {
-            let fits = buffer_fits(answer, out, single).and_then(|_| self.all_served());
-            return fits.map_or_else(Verdict::ClaimBroken, |_| Verdict::Held);
+        let names = self.names.take(bank, call, answer, &records);
+        let fits = match verdict {
+            Verdict::ClaimBroken(_) => return verdict,
+            Verdict::PremiseBroken(_) => names,
+            Verdict::Held => names
+                .and_then(|_| buffer_fits(answer, out, single))
+                .and_then(|_| self.all_served()),
+        };
+        let fits = fits.and_then(|_| self.passes_over());
+        fits.map_or_else(Verdict::ClaimBroken, |_| verdict)
+    }
+
+    /// Adoption and conversion know the bank that the call left. A wrong engine's may be anything.
+    fn passes_over(&mut self) -> Result<(), String> {
+        let Session {
+            bank, lines, fault, ..
+        } = &self.session;
+        match bank {
+            Some(bank) if !fault.trusts_its_bank() => self.passages.take(bank, *lines, *fault),
+            _ => Ok(()),
         }
-        verdict
     }
 
     /// What a board reads is one memory's byte as long as the premise holds.

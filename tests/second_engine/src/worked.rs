@@ -47,19 +47,23 @@ pub fn worked(script: &str) -> Vec<u8> {
 
 /// The stored and the volatile records of a board: mark, page and count.
 pub fn log(bank: &[u8], board: usize) -> String {
+    let count = |slot: usize| Layout::of(bank).get_count(bank, slot + SLOT_COUNT);
+    log_with(bank, board, count)
+}
+
+/// The same with another number of each record behind its mark and page.
+pub fn log_with(bank: &[u8], board: usize, number: impl Fn(usize) -> u32) -> String {
     let layout = Layout::of(bank);
-    let area = layout.selected(bank, board);
-    let stored = (0..bank[layout.stored(area)] as usize).map(|slot| layout.area_slot(area, slot));
-    let volatile = 0..bank[layout.volatile(board)] as usize;
-    let volatile = volatile.map(|slot| layout.volatile_slot(board, slot));
+    let selected = bank[layout.selector(board)] as usize;
     let record = |slot: usize| {
         let kind = String::from_utf8_lossy(&bank[slot..slot + 2]).into_owned();
-        let count = layout.get_count(bank, slot + SLOT_COUNT);
-        format!("{kind} {} {count}", bank[slot + SLOT_PAGE])
+        format!("{kind} {} {}", bank[slot + SLOT_PAGE], number(slot))
     };
-    let stored: Vec<String> = stored.map(record).collect();
-    let volatile: Vec<String> = volatile.map(record).collect();
-    format!("{} | {}", stored.join(", "), volatile.join(", "))
+    let records = |area: Option<usize>| {
+        let slots = layout.records(bank, layout.log(board, area));
+        slots.map(record).collect::<Vec<String>>().join(", ")
+    };
+    format!("{} | {}", records(Some(selected)), records(None))
 }
 
 #[test]
@@ -207,6 +211,7 @@ fn code_at(records: &[(Kind, u8, u32)], line: &str) -> u8 {
         let slot = layout.area_slot(area, place);
         bank[slot..slot + 2].copy_from_slice(kind);
         bank[slot + SLOT_PAGE] = *page;
+        bank[slot + SLOT_BOARD] = 1;
         layout.put_count(&mut bank, slot + SLOT_COUNT, *count);
     }
     let mut session = Session::new(Fault::None);

@@ -1,28 +1,31 @@
-//! Whether diagnosis and archive agree on random banks of both forms, sound and damaged: a broken rule is named exactly where the archive answers 1.
+//! Whether diagnosis and archive agree on random banks of every form, sound and damaged: a broken rule is named exactly where the archive answers 1, and
+//! an old or earlier bank gets code 11 exactly where it has records.
 
 use crate::bank;
+use crate::cases::has;
 use crate::diagnosis;
-use crate::engines::{archive, archive_convert, unpacked};
 use crate::fault::Fault;
+use crate::logs;
 use crate::rules::Rule;
 use crate::table;
+use crate::verdict::{self, HAS_RECORDS, MALFORMED};
+use second::check::has_records;
 use second::damage;
-use second::layout::{Form, NEWEST, OLDER};
-use second::line::Line;
+use second::layout::{Form, EARLIER, NEWEST, OLDER};
 use second::made;
 use second::random::Random;
 
 /// So many damaged banks come from each sound one.
 const DAMAGED: u32 = 25;
 
-/// One bank in so many is printed, whatever its bytes: a printer that panics ends the test.
+/// One bank in so many is printed, and two of its logs, whatever its bytes: a printer that panics ends the test.
 const PRINTED: u32 = 20;
 
-/// In so many banks of a form every rule must have been broken.
+/// In so many banks of a form every rule of it must have been broken.
 const ENOUGH: u64 = 100_000;
 
-/// No bank has this board, so the archive answers 2, or 1 where the bytes are no bank.
-const NO_BOARD: Line = Line::Cut { board: 255 };
+/// What a sound bank of the newest form is answered: it hasn't the board that the call names.
+const NO_SUCH_BOARD: u8 = 2;
 
 struct Met {
     banks: u64,
@@ -39,58 +42,73 @@ impl Met {
         }
     }
 
-    fn print(&self, form: &str) {
+    /// The rules of a form, and how often each was broken.
+    fn rules<const FORM: Form>(&self) -> impl Iterator<Item = (Rule, u64)> + '_ {
+        let all = Rule::ALL.iter().copied().zip(self.broken.iter().copied());
+        all.filter(|(rule, _)| has::<FORM>(*rule))
+    }
+
+    fn print<const FORM: Form>(&self, form: &str) {
         let Met { banks, sound, .. } = self;
         println!("{banks} banks of the {form} form, {sound} of them well formed");
-        for (rule, times) in Rule::ALL.iter().zip(&self.broken) {
+        for (rule, times) in self.rules::<FORM>() {
             println!("{times:>10}  {}", rule.words());
         }
     }
 
-    fn every_rule(&self) -> bool {
-        self.banks < ENOUGH || self.broken.iter().all(|times| *times > 0)
+    fn every_rule<const FORM: Form>(&self) -> bool {
+        self.banks < ENOUGH || self.rules::<FORM>().all(|(_, times)| times > 0)
     }
 }
 
 fn sound<const FORM: Form>(random: &mut Random) -> Vec<u8> {
     match random.below(10) {
         0 => made::fresh(made::size::<FORM>(random)),
-        1..=5 if FORM == OLDER => made::reached_old(random),
-        1..=5 => made::reached(random),
+        1 => made::without_records::<FORM>(random),
+        2..=5 => reached::<FORM>(random),
         _ => made::bank::<FORM>(random),
     }
 }
 
-/// Whether the archive takes the bytes for a bank of the form: an old one by converting it. They must stay as they are.
+/// What a random script leaves.
+fn reached<const FORM: Form>(random: &mut Random) -> Vec<u8> {
+    match FORM {
+        OLDER => made::reached_old(random),
+        EARLIER => made::unnamed(&made::reached(random)),
+        _ => made::reached(random),
+    }
+}
+
+/// What the archive answers to a sound bank of a form.
+fn sound_code<const FORM: Form>(bank: &[u8]) -> u8 {
+    match FORM {
+        NEWEST => NO_SUCH_BOARD,
+        _ if has_records::<FORM>(bank) => HAS_RECORDS,
+        _ => 0,
+    }
+}
+
+/// Whether the archive takes the bytes for a bank of the form. They must stay as they are.
 fn accepted<const FORM: Form>(bytes: &[u8]) -> Result<bool, String> {
     let mut given = bytes.to_vec();
-    let code = match FORM {
-        OLDER => {
-            let mut target = match diagnosis::layout::<NEWEST>(bytes) {
-                Some(layout) => vec![0; layout.length()],
-                None => Vec::new(),
-            };
-            unpacked(archive_convert(&mut given, &mut target)).code
-        }
-        _ => unpacked(archive(&mut given, &NO_BOARD)).code,
-    };
-    let sound = match FORM {
-        OLDER => 0,
-        _ => 2,
-    };
-    match code {
+    match verdict::code::<FORM>(&mut given) {
         _ if given != bytes => Err("the archive changes the bytes".into()),
-        1 => Ok(false),
-        code if code == sound => Ok(true),
+        MALFORMED => Ok(false),
+        code if code == sound_code::<FORM>(bytes) => Ok(true),
         code => Err(format!("the archive answers {code}")),
     }
+}
+
+/// Whether the bytes have a length of the form.
+fn taken_for<const FORM: Form>(bytes: &[u8]) -> bool {
+    (diagnosis::form(bytes) == OLDER) == (FORM == OLDER)
 }
 
 /// What the diagnosis names, if the archive agrees that there is something to name.
 fn judged<const FORM: Form>(bytes: &[u8]) -> Result<Option<Box<Fault>>, String> {
     let accepted = accepted::<FORM>(bytes)?;
     let found = diagnosis::fault::<FORM>(bytes);
-    if found.is_none() && diagnosis::form(bytes) != FORM {
+    if found.is_none() && !taken_for::<FORM>(bytes) {
         return Err("the bytes are taken for the other form".into());
     }
     if accepted == found.is_none() {
@@ -111,11 +129,21 @@ fn look<const FORM: Form>(met: &mut Met, random: &mut Random, bytes: &[u8]) -> R
         None => met.sound += 1,
     }
     if random.below(PRINTED) == 0 {
-        if let Some(layout) = diagnosis::layout::<FORM>(bytes) {
-            table::print(&bank::read(bytes, layout));
-        }
+        print::<FORM>(random, bytes);
     }
     Ok(())
+}
+
+/// Prints what can be read of a bank, and two logs if there are two boards to be read.
+fn print<const FORM: Form>(random: &mut Random, bytes: &[u8]) {
+    let Some(layout) = diagnosis::layout::<FORM>(bytes) else {
+        return;
+    };
+    let bank = bank::read(bytes, layout);
+    table::print(&bank);
+    let boards = [0, 1].map(|_| random.below(layout.boards as u32) as usize);
+    let read = boards.iter().all(|board| *board < bank.boards.len());
+    assert!(logs::print(&bank, boards).is_ok() == read);
 }
 
 fn run<const FORM: Form>(met: &mut Met, random: &mut Random, wanted: u64) -> Result<(), String> {
@@ -140,21 +168,23 @@ fn run<const FORM: Form>(met: &mut Met, random: &mut Random, wanted: u64) -> Res
 fn form<const FORM: Form>(name: &str, seed: u64, wanted: u64) -> bool {
     let mut met = Met::new();
     let result = run::<FORM>(&mut met, &mut Random::new(seed), wanted);
-    met.print(name);
+    met.print::<FORM>(name);
     match &result {
-        Ok(()) if met.every_rule() => (),
+        Ok(()) if met.every_rule::<FORM>() => (),
         Ok(()) => println!("a rule was never broken"),
         Err(sentence) => println!("bank {} of seed {seed}: {sentence}", met.banks),
     }
-    result.is_ok() && met.every_rule()
+    result.is_ok() && met.every_rule::<FORM>()
 }
 
-/// Two thirds of the banks have the newest form. Says what was met, and whether all agreed.
+/// A third of the banks have each form. Says what was met, and whether all agreed.
 pub fn agree(seed: u64, wanted: u64) -> bool {
-    let old = wanted / 3;
-    let agree = form::<NEWEST>("newest", seed, wanted - old) && form::<OLDER>("older", seed, old);
+    let third = wanted / 3;
+    let agree = form::<NEWEST>("newest", seed, wanted - 2 * third)
+        && form::<EARLIER>("earlier", seed, third)
+        && form::<OLDER>("older", seed, third);
     if agree {
-        println!("agree: {wanted} banks, every rule broken in both forms");
+        println!("agree: {wanted} banks, every rule broken in all three forms");
     }
     agree
 }

@@ -1,10 +1,11 @@
-//! Banks that are damaged by hand, at least one for each rule, in both forms. All begin as the script of the tables leaves its bank: of three boards, 0
-//! replays, and of its four pages board 1 owns page 3. Those of the older form have leftovers behind their logs.
+//! Banks that are damaged by hand, at least one for each rule of the newest form and of the older. All begin as the script of the tables leaves its bank: of
+//! three boards, 0 replays, and of its four pages board 1 owns page 3. Those of the older form have leftovers behind their logs.
 
 use crate::rules::Rule;
 use second::fault::Fault;
 use second::layout::*;
 use second::line::read_line;
+use second::made;
 use second::older;
 use second::runner::Session;
 
@@ -18,6 +19,9 @@ pub struct Case<const FORM: Form> {
 
 const SCRIPT: &str = include_str!("../every-part.txt");
 const BOARD_1_DOWN: &str = "K 1\n";
+
+/// Board 1's records are then in its spare area.
+const BOARD_1_CHECKPOINTED: &str = "C 1\n";
 
 const fn case<const FORM: Form>(
     name: &'static str,
@@ -33,21 +37,23 @@ const fn case<const FORM: Form>(
     }
 }
 
-const fn down<const FORM: Form>(
-    name: &'static str,
-    rule: Rule,
-    damage: fn(&mut Vec<u8>, Layout<FORM>),
-) -> Case<FORM> {
-    let more = BOARD_1_DOWN;
-    Case {
-        name,
-        rule,
-        more,
-        damage,
+/// Whether a form has the rule: its records name a board, or the byte is zero.
+pub fn has<const FORM: Form>(rule: Rule) -> bool {
+    match rule {
+        Rule::RecordZero => !Layout::<FORM>::NAMES_BOARD,
+        Rule::RecordBoard | Rule::RecordOther => Layout::<FORM>::NAMES_BOARD,
+        _ => true,
     }
 }
 
+/// Those of the form's rules.
 pub fn cases<const FORM: Form>() -> Vec<Case<FORM>> {
+    let mut cases = all();
+    cases.retain(|case| has::<FORM>(case.rule));
+    cases
+}
+
+fn all<const FORM: Form>() -> Vec<Case<FORM>> {
     vec![
         case("half-a-head", Rule::Head, |bank, _| {
             bank.truncate(HEAD.len())
@@ -92,21 +98,26 @@ pub fn cases<const FORM: Form>() -> Vec<Case<FORM>> {
         case("place-of-an-up-board", Rule::NoPlace, |bank, l| {
             bank[l.place(2)] = 1
         }),
-        down("down-with-number", Rule::DownNumber, |bank, l| {
+        case("down-with-number", Rule::DownNumber, |bank, l| {
             put32(bank, l.number(1), 70_000)
-        }),
-        down("down-with-since", Rule::DownSince, |bank, l| {
+        })
+        .after(BOARD_1_DOWN),
+        case("down-with-since", Rule::DownSince, |bank, l| {
             l.put_count(bank, l.since(1), 300)
-        }),
-        down("down-with-volatile", Rule::DownVolatile, |bank, l| {
+        })
+        .after(BOARD_1_DOWN),
+        case("down-with-volatile", Rule::DownVolatile, |bank, l| {
             bank[l.volatile(1)] = 1
-        }),
-        down("down-with-right", Rule::DownFrames, |bank, l| {
+        })
+        .after(BOARD_1_DOWN),
+        case("down-with-right", Rule::DownFrames, |bank, l| {
             bank[l.frame(1, 3)] = OWN
-        }),
-        down("down-with-fuse", Rule::DownFuse, |bank, l| {
+        })
+        .after(BOARD_1_DOWN),
+        case("down-with-fuse", Rule::DownFuse, |bank, l| {
             put16(bank, l.fuse(1), 4)
-        }),
+        })
+        .after(BOARD_1_DOWN),
         case("place-past-the-log", Rule::Place, |bank, l| {
             bank[l.place(0)] = 7
         }),
@@ -130,26 +141,80 @@ pub fn cases<const FORM: Form>() -> Vec<Case<FORM>> {
         case("no-zero-byte", Rule::RecordZero, |bank, l| {
             bank[l.area_slot(l.area(0, 1), 6) + SLOT_ZERO] = 1
         }),
+        case("volatile-names-no-board", Rule::RecordBoard, |bank, l| {
+            bank[l.volatile_slot(1, 1) + SLOT_BOARD] = 3
+        }),
+        case("stored-names-no-board", Rule::RecordBoard, |bank, l| {
+            bank[l.area_slot(l.area(2, 0), 3) + SLOT_BOARD] = 255
+        }),
+        case("spare-names-no-board", Rule::RecordBoard, |bank, l| {
+            bank[l.area_slot(l.area(1, 0), 5) + SLOT_BOARD] = 8
+        })
+        .after(BOARD_1_CHECKPOINTED),
+        case("volatile-names-itself", Rule::RecordOther, |bank, l| {
+            bank[l.volatile_slot(1, 0) + SLOT_BOARD] = 1
+        }),
+        case("stored-names-itself", Rule::RecordOther, |bank, l| {
+            bank[l.area_slot(l.area(0, 1), 6) + SLOT_BOARD] = 0
+        }),
+        case("spare-names-itself", Rule::RecordOther, |bank, l| {
+            bank[l.area_slot(l.area(1, 0), 0) + SLOT_BOARD] = 1
+        })
+        .after(BOARD_1_CHECKPOINTED),
+        case("one-board", Rule::RecordOther, |bank, _| {
+            *bank = of_one_board()
+        }),
         case("shown-with-bytes", Rule::RecordBytes, |bank, l| {
             bank[l.area_slot(l.area(1, 0), 0) + Layout::<FORM>::SLOT_BYTES + 15] = 9
         }),
     ]
 }
 
-/// The bank that the script and more lines leave, in a form.
-pub fn undamaged<const FORM: Form>(more: &str) -> Vec<u8> {
+/// The bank that lines leave.
+fn left_by<'a>(lines: impl Iterator<Item = &'a str>) -> Vec<u8> {
     let mut session = Session::new(Fault::None);
-    for line in SCRIPT.lines().chain(more.lines()) {
+    for line in lines {
         session.take(read_line(line.as_bytes()));
     }
-    let bank = session.bank.expect("the script makes a bank");
+    session.bank.expect("the lines make a bank")
+}
+
+/// With leftovers behind its logs.
+fn old(bank: &[u8]) -> Vec<u8> {
+    older::narrowed(bank, |run| run.fill(238)).expect("the counts are small")
+}
+
+/// The bank that the script and more lines leave, in a form.
+pub fn undamaged<const FORM: Form>(more: &str) -> Vec<u8> {
+    let bank = left_by(SCRIPT.lines().chain(more.lines()));
     match FORM {
-        OLDER => older::narrowed(&bank, |run| run.fill(238)).expect("the counts are small"),
+        OLDER => old(&bank),
+        EARLIER => made::unnamed(&bank),
         _ => bank,
     }
 }
 
+/// A bank of the older form without a record.
+pub fn old_without_records() -> Vec<u8> {
+    old(&left_by(["N 2 1"].into_iter()))
+}
+
+/// A bank of one board with a record, which can name no board.
+fn of_one_board() -> Vec<u8> {
+    let mut bank = left_by(["N 1 1"].into_iter());
+    let layout = Layout::of(&bank);
+    let slot = layout.volatile_slot(0, 0);
+    bank[layout.volatile(0)] = 1;
+    bank[slot..slot + 2].copy_from_slice(&SHOWN);
+    bank
+}
+
 impl<const FORM: Form> Case<FORM> {
+    /// The same behind more lines.
+    fn after(self, more: &'static str) -> Case<FORM> {
+        Case { more, ..self }
+    }
+
     pub fn bank(&self) -> Vec<u8> {
         let mut bank = undamaged::<FORM>(self.more);
         let layout = Layout::named_by(&bank);

@@ -1,4 +1,4 @@
-//! The test of what `show` says of bytes that are no well-formed bank of either form: the words for banks damaged by hand, and on random ones whether it
+//! The test of what `show` says of bytes that are no well-formed bank of any form: the words for banks damaged by hand, and on random ones whether it
 //! agrees with the archive of the proved engine.
 
 mod agree;
@@ -12,6 +12,10 @@ mod diagnosis;
 mod engines;
 #[path = "../../../tools/show/src/fault.rs"]
 mod fault;
+#[path = "../../../tools/show/src/log.rs"]
+mod log;
+#[path = "../../../tools/show/src/logs.rs"]
+mod logs;
 #[path = "../../../tools/show/src/names.rs"]
 mod names;
 #[path = "../../compare/src/place.rs"]
@@ -20,15 +24,18 @@ mod place;
 mod rules;
 #[path = "../../../tools/show/src/table.rs"]
 mod table;
+#[path = "../../../tools/show/src/verdict.rs"]
+mod verdict;
 
-use cases::{cases, undamaged};
+use cases::{cases, has, old_without_records, undamaged};
 use rules::Rule;
-use second::layout::{Form, NEWEST, OLDER};
+use second::layout::{Form, EARLIER, NEWEST, OLDER};
 use std::io::{self, Write};
 use std::process::ExitCode;
 
 const USAGE: &str = "usage: check words          the words for each bank damaged by hand
-       check bank NAME      the bytes of one of them, or of the one they come from: undamaged. Of the older form: old-NAME
+       check bank NAME      the bytes of one of them, or of the one they come from: undamaged. Of the older form: old-NAME,
+                            also old-without-records. Of the earlier form: earlier
        check agree SEED BANKS";
 
 /// What names in the older form begin with.
@@ -50,7 +57,10 @@ fn words<const FORM: Form>() -> bool {
         println!("{prefix}{}\n{told}", case.name);
     }
     let shown = |rule: &Rule| cases::<FORM>().iter().any(|case| case.rule == *rule);
-    right && Rule::ALL.iter().all(shown)
+    right
+        && Rule::ALL
+            .iter()
+            .all(|rule| !has::<FORM>(*rule) || shown(rule))
 }
 
 /// The bytes of a case.
@@ -66,7 +76,9 @@ fn named<const FORM: Form>(name: &str) -> Option<Vec<u8>> {
 
 fn bank(name: &str) -> Option<bool> {
     let bytes = match name.strip_prefix(OLD) {
+        Some("without-records") => old_without_records(),
         Some(name) => named::<OLDER>(name)?,
+        None if name == "earlier" => undamaged::<EARLIER>(""),
         None => named::<NEWEST>(name)?,
     };
     Some(io::stdout().write_all(&bytes).is_ok())

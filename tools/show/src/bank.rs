@@ -20,7 +20,7 @@ pub struct Entry {
 }
 
 pub struct Board {
-    pub state: String,
+    pub state: u8,
     /// 0 or 1: the area that counts.
     pub selector: u8,
     /// Stores left, if a fuse is set.
@@ -51,8 +51,10 @@ pub struct Frame {
 }
 
 pub struct Record {
-    pub kind: String,
+    pub mark: Kind,
     pub page: u8,
+    /// The other party: who gave a got, who took a shown, who wrote what was dropped. None in a form whose records name no board.
+    pub board: Option<u8>,
     pub count: u32,
     pub bytes: [u8; PAGE],
 }
@@ -64,6 +66,20 @@ impl Board {
 
     pub fn spare(&self) -> Option<&Area> {
         self.areas.get(1_usize.checked_sub(self.selector as usize)?)
+    }
+}
+
+impl Record {
+    pub fn is_got(&self) -> bool {
+        matches!(self.mark, GOT_COPY | GOT_OWN)
+    }
+
+    pub fn is_shown(&self) -> bool {
+        self.mark == SHOWN
+    }
+
+    pub fn names(&self, board: usize) -> bool {
+        self.board.is_some_and(|named| named as usize == board)
     }
 }
 
@@ -111,8 +127,9 @@ impl<const FORM: Form> Reader<'_, FORM> {
         self.reach(at + Layout::<FORM>::SLOT)?;
         let count = at + Layout::<FORM>::SLOT_COUNT;
         Some(Record {
-            kind: names::kind(kind_at(self.bank, at)),
+            mark: kind_at(self.bank, at),
             page: self.bank[at + SLOT_PAGE],
+            board: Layout::<FORM>::NAMES_BOARD.then(|| self.bank[at + SLOT_BOARD]),
             count: self.layout.get_count(self.bank, count),
             bytes: page_at(self.bank, at + Layout::<FORM>::SLOT_BYTES),
         })
@@ -143,7 +160,7 @@ impl<const FORM: Form> Reader<'_, FORM> {
         let fuse = get16(bank, layout.fuse(board));
         let frame = |page| self.frame(layout.frame(board, page));
         Some(Board {
-            state: names::state(bank[layout.state(board)]),
+            state: bank[layout.state(board)],
             selector: bank[layout.selector(board)],
             fuse: (fuse != NO_FUSE).then_some(fuse),
             number: get32(bank, layout.number(board)),

@@ -1,7 +1,7 @@
-//! What is wrong with bytes that are no well-formed bank: the first rule of a form that they break, and where. The rules are tested in the engine's
-//! order.
+//! What is wrong with bytes that are no well-formed bank: the first rule of a form that they break, and where. Head and directory are tested first, then every
+//! board's block, then every board's records.
 
-use crate::fault::{Copies, Fault, Mark, Numbers, Right};
+use crate::fault::{Copies, Fault, Mark, Numbers, Others, Right};
 use crate::rules::Rule;
 use second::layout::*;
 use second::older;
@@ -235,16 +235,16 @@ impl<'a, const FORM: Form> Test<'a, FORM> {
         let areas = [0, 1].map(|which| layout.area(board, which));
         (0..SLOTS).try_for_each(|slot| {
             if slot < bank[layout.volatile(board)] as usize {
-                self.record(layout.volatile_slot(board, slot))?;
+                self.record(board, layout.volatile_slot(board, slot))?;
             }
             areas
                 .iter()
                 .filter(|area| slot < bank[layout.stored(**area)] as usize)
-                .try_for_each(|area| self.record(layout.area_slot(*area, slot)))
+                .try_for_each(|area| self.record(board, layout.area_slot(*area, slot)))
         })
     }
 
-    fn record(&self, at: usize) -> Found {
+    fn record(&self, board: usize, at: usize) -> Found {
         let kind = kind_at(self.bank, at);
         let bare = matches!(kind, SHOWN | DROPPED);
         let known = bare || matches!(kind, GOT_COPY | GOT_OWN);
@@ -256,7 +256,18 @@ impl<'a, const FORM: Form> Test<'a, FORM> {
             self.zero(Rule::RecordBytes, bytes)?;
         }
         self.within(Rule::RecordPage, at + SLOT_PAGE, 0..self.layout.pages)?;
-        self.within(Rule::RecordZero, at + SLOT_ZERO, 0..1)
+        match Layout::<FORM>::NAMES_BOARD {
+            true => self.party(board, at + SLOT_BOARD),
+            false => self.within(Rule::RecordZero, at + SLOT_ZERO, 0..1),
+        }
+    }
+
+    /// The board that a record of a board names.
+    fn party(&self, own: usize, at: usize) -> Found {
+        let (named, boards) = (self.bank[at] as usize, self.layout.boards);
+        let others = Others { boards, own };
+        self.must(named < boards, Rule::RecordBoard, at, named, &others)?;
+        self.must(named != own, Rule::RecordOther, at, named, &others)
     }
 
     fn all(&self) -> Found {
@@ -268,7 +279,8 @@ impl<'a, const FORM: Form> Test<'a, FORM> {
     }
 }
 
-/// The form whose length the bytes have, by the numbers of boards and pages in their head. The newest if they have neither.
+/// The form whose length the bytes have, by the numbers of boards and pages in their head. The newest if it is that of no form; the earlier form has the
+/// newest one's length.
 pub fn form(bank: &[u8]) -> Form {
     match layout::<OLDER>(bank) {
         Some(layout) if layout.length() == bank.len() => OLDER,

@@ -55,6 +55,23 @@ impl Display for Numbers {
     }
 }
 
+/// The boards that a record of one of them may name.
+pub struct Others {
+    pub boards: usize,
+    pub own: usize,
+}
+
+impl Display for Others {
+    fn fmt(&self, out: &mut fmt::Formatter) -> fmt::Result {
+        let Others { boards, own } = *self;
+        match own {
+            0 => Numbers(1..boards).fmt(out),
+            _ if own + 1 == boards => Numbers(0..own).fmt(out),
+            _ => write!(out, "{}, but not {own}", Numbers(0..boards)),
+        }
+    }
+}
+
 /// A copy-set: its byte, and the boards in it.
 pub struct Copies(pub u8);
 

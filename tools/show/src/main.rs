@@ -1,35 +1,56 @@
-//! Runs a script on the proved engine and prints, after its last line or a named one, the bank in tables.
-//! The bytes of a bank are printed as they are, in either form; if they are not well formed, behind the first rule that they break.
+//! Runs a script on the proved engine and prints, after its last line or a named one, the bank in tables, or two boards' logs side by side.
+//! The bytes of a bank are printed as they are, in any form; if they are not well formed, behind the first rule that they break.
 
 mod bank;
+mod bytes;
 mod diagnosis;
 #[allow(dead_code)]
 #[path = "../../../tests/compare/src/engines.rs"]
 mod engines;
 mod fault;
+mod log;
+mod logs;
 mod names;
 #[path = "../../../tests/compare/src/place.rs"]
 mod place;
 mod rules;
 mod table;
+mod verdict;
 mod words;
 
-use engines::{archive, archive_convert, unpacked};
+use bytes::Shown;
+use engines::{archive, unpacked};
 use second::calls::Answer;
-use second::layout::{Form, Layout, HEAD, NEWEST, OLDER};
+use second::layout::{HEAD, NEWEST};
 use second::line::{read_line, Line, Lines};
 use second::runner::length;
 use std::io::{self, Read, Write};
 use std::process::ExitCode;
 
 const USAGE: &str =
-    "usage: show FILE [LINE]    FILE is a script or the bytes of a bank, - for standard input.
+    "usage: show FILE [LINE] [--logs A B]    FILE is a script or the bytes of a bank, - for standard input.
+       LINE: the bank after that line of the script. --logs: the logs of boards A and B alone, side by side.
        status 1: the bytes are no well-formed bank; 2: nothing could be shown";
 
-/// What is printed, and whether it is of a well-formed bank.
-struct Shown {
-    text: String,
-    well_formed: bool,
+/// What is asked for: of a script the bank after a line, of a bank two boards' logs alone.
+struct Asked<'a> {
+    file: &'a str,
+    line: Option<u32>,
+    logs: Option<[usize; 2]>,
+}
+
+impl Asked<'_> {
+    fn read<'a>(
+        file: &'a str,
+        line: Option<&str>,
+        logs: Option<[&str; 2]>,
+    ) -> Result<Asked<'a>, String> {
+        Ok(Asked {
+            file,
+            line: line.map(line_number).transpose()?,
+            logs: logs.map(two_boards).transpose()?,
+        })
+    }
 }
 
 /// Where a run stands: the bank if there is one, and the latest line with what it answered.
@@ -100,82 +121,29 @@ fn is_bank(bytes: &[u8]) -> bool {
     bytes.starts_with(&HEAD) || !bytes.iter().all(text)
 }
 
-/// Whether the engine finds the bytes to be a well-formed bank of the form.
-fn well_formed<const FORM: Form>(bytes: &mut [u8]) -> bool {
-    if FORM == OLDER {
-        let mut converted = vec![0; Layout::of(bytes).length()];
-        return unpacked(archive_convert(bytes, &mut converted)).code == 0;
-    }
-    let refused_by_any_bank = Line::Cut { board: u32::MAX };
-    unpacked(archive(bytes, &refused_by_any_bank)).code != 1
-}
-
-/// The tables of all that can be read.
-fn tables<const FORM: Form>(bytes: &[u8]) -> String {
-    match diagnosis::layout::<FORM>(bytes) {
-        Some(layout) => table::print(&bank::read(bytes, layout)),
-        None => "\nNo table can be printed: where the fields are follows from the numbers of boards and pages in the head.\n".into(),
-    }
-}
-
-/// What the length says of the form; nothing if the bytes are as long as a bank of the newest.
-fn note<const FORM: Form>(bytes: &[u8], well_formed: bool) -> &'static str {
-    match diagnosis::layout::<FORM>(bytes) {
-        Some(_) if FORM == OLDER && well_formed => {
-            "It is in document 01's older form: convert it before any other call\n"
-        }
-        Some(_) if FORM == OLDER => {
-            "They have the length of document 01's older form, so its rules are tested\n"
-        }
-        Some(layout) if layout.length() != bytes.len() => {
-            "They have the length of neither form, so they are read as the newest\n"
-        }
-        _ => "",
-    }
-}
-
-fn show_bytes<const FORM: Form>(bytes: &mut [u8]) -> Shown {
-    let well_formed = well_formed::<FORM>(bytes);
-    let note = note::<FORM>(bytes, well_formed);
-    let title = match diagnosis::fault::<FORM>(bytes) {
-        _ if well_formed => format!("The bytes of a bank\n{note}"),
-        Some(fault) => format!("These bytes are no well-formed bank\n{note}{fault}"),
-        None => "The engine finds no well-formed bank in these bytes, and this program no broken rule: one of the two is wrong\n".into(),
-    };
-    Shown {
-        text: title + &tables::<FORM>(bytes),
-        well_formed,
-    }
-}
-
-fn show_script(script: &[u8], last: Option<u32>) -> Result<Shown, String> {
+fn show_script(script: &[u8], asked: &Asked) -> Result<Shown, String> {
     let Run {
         bank,
         lines,
         text,
         answer,
-    } = run(script, last)?;
+    } = run(script, asked.line)?;
     let Some(bank) = bank else {
         return Err(format!("there is no bank after line {lines}, {text} ({answer}): line 1 must make one, as N 2 1 does"));
     };
+    let tables = bytes::tables::<NEWEST>(&bank, asked.logs)?;
     Ok(Shown {
-        text: format!(
-            "After line {lines}, {text}: {answer}\n{}",
-            tables::<NEWEST>(&bank)
-        ),
+        text: format!("After line {lines}, {text}: {answer}\n{tables}"),
         well_formed: true,
     })
 }
 
-fn show(file: &str, last: Option<u32>) -> Result<Shown, String> {
-    let mut bytes = input(file)?;
-    match (is_bank(&bytes), last) {
+fn show(asked: &Asked) -> Result<Shown, String> {
+    let mut bytes = input(asked.file)?;
+    match (is_bank(&bytes), asked.line) {
         (true, Some(_)) => Err("these are the bytes of a bank, and they have no lines".into()),
-        (true, None) => Ok(match diagnosis::form(&bytes) {
-            OLDER => show_bytes::<OLDER>(&mut bytes),
-            _ => show_bytes::<NEWEST>(&mut bytes),
-        }),
-        (false, _) => show_script(&bytes, last),
+        (true, None) => bytes::show(&mut bytes, asked.logs),
+        (false, _) => show_script(&bytes, asked),
     }
 }
 
@@ -187,17 +155,34 @@ fn line_number(text: &str) -> Result<u32, String> {
     }
 }
 
+/// Two boards' numbers.
+fn two_boards(texts: [&str; 2]) -> Result<[usize; 2], String> {
+    let number = |text: &str| {
+        let number = text.parse();
+        number.map_err(|_| format!("{text} is no board's number"))
+    };
+    match [number(texts[0])?, number(texts[1])?] {
+        [one, other] if one == other => Err(format!("--logs takes two boards, not {one} twice")),
+        boards => Ok(boards),
+    }
+}
+
 fn main() -> ExitCode {
     let arguments: Vec<String> = std::env::args().skip(1).collect();
-    let shown = match &arguments[..] {
-        [file] => show(file, None),
-        [file, line] => line_number(line).and_then(|line| show(file, Some(line))),
+    let arguments: Vec<&str> = arguments.iter().map(String::as_str).collect();
+    let (front, logs) = match &arguments[..] {
+        [front @ .., "--logs", one, other] => (front, Some([*one, *other])),
+        front => (front, None),
+    };
+    let asked = match front {
+        [file] => Asked::read(file, None, logs),
+        [file, line] => Asked::read(file, Some(line), logs),
         _ => {
             eprintln!("{USAGE}");
             return ExitCode::from(2);
         }
     };
-    match shown {
+    match asked.and_then(|asked| show(&asked)) {
         Ok(Shown { text, well_formed }) => {
             // A reader that closes early has seen enough.
             let _ = io::stdout().write_all(text.as_bytes());

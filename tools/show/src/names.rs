@@ -1,4 +1,4 @@
-//! The names of a state, a right and a mark; a value that has none is told as it is, with a question mark.
+//! The names of a state, a right and a mark, and whom a record names; a value that has no name is told as it is, with a question mark.
 
 use second::layout::*;
 
@@ -20,6 +20,20 @@ pub fn kind(kind: Kind) -> String {
         SHOWN => "shown".into(),
         DROPPED => "dropped".into(),
         other => doubted(other.escape_ascii(), false),
+    }
+}
+
+/// The board that a record names, as the other party that it is; a dash where records name none.
+pub fn party(kind: Kind, board: Option<u8>, fits: bool) -> String {
+    let Some(board) = board else {
+        return "-".into();
+    };
+    let board = doubted(board, fits);
+    match kind {
+        GOT_COPY | GOT_OWN => format!("from {board}"),
+        SHOWN => format!("to {board}"),
+        DROPPED => format!("written by {board}"),
+        _ => board,
     }
 }
 

@@ -1,4 +1,5 @@
-//! The rules that the bytes of a well-formed bank obey, in words and in the order in which the engine tests them.
+//! The rules that the bytes of a well-formed bank obey, in words and in the order in which they are tested. The last three speak of one byte: in a form
+//! whose records name a board it is that board, in the others zero.
 
 macro_rules! rules {
     ($($name:ident: $words:literal,)*) => {
@@ -56,4 +57,6 @@ rules! {
     RecordBytes: "a shown or dropped record has zero bytes",
     RecordPage: "a record's page is a page of the bank",
     RecordZero: "the byte behind a record's page is 0",
+    RecordBoard: "a record names a board of the bank",
+    RecordOther: "a record names another board than the log's own",
 }

@@ -1,20 +1,21 @@
 //! A bank as tables for people: short headings, aligned columns.
 
-use crate::bank::{Area, Bank, Board, Frame, Log, Record};
-use crate::names::doubted;
-use second::layout::SLOTS;
+use crate::bank::{Area, Bank, Board, Frame, Record};
+use crate::log::{self, Line};
+use crate::names::{self, doubted};
+use second::layout::{DROPPED, SHOWN, SLOTS};
 use std::fmt::Write;
 
-enum Column {
+pub enum Column {
     Left(&'static str),
     Right(&'static str),
 }
-use Column::{Left, Right};
+pub use Column::{Left, Right};
 
 type Row = Vec<String>;
 
 /// Rows under their headings, each column as wide as it must be.
-fn table<const N: usize>(
+pub fn table<const N: usize>(
     out: &mut String,
     indent: &str,
     columns: [Column; N],
@@ -82,7 +83,7 @@ fn boards(out: &mut String, bank: &Bank) {
     let rows = bank.boards.iter().enumerate().map(|(at, board)| {
         [
             at.to_string(),
-            board.state.clone(),
+            names::state(board.state),
             or_none(board.fuse),
             board.number.to_string(),
             board.since.to_string(),
@@ -155,44 +156,6 @@ fn frames(out: &mut String, frames: &[Frame]) {
     );
 }
 
-type LogRow = [String; 6];
-
-/// A row for each record of a log that goes on after some access.
-fn records(
-    log: &Log,
-    pages: usize,
-    mut access: Option<u64>,
-    place: impl Fn(usize) -> String,
-) -> Vec<LogRow> {
-    let row = |(at, record): (usize, &Record)| {
-        access = access.map(|access| access + record.count as u64);
-        [
-            place(at),
-            record.kind.clone(),
-            doubted(record.page, (record.page as usize) < pages),
-            record.count.to_string(),
-            or_unknown(access),
-            record_bytes(record),
-        ]
-    };
-    log.records.iter().enumerate().map(row).collect()
-}
-
-/// The selected area's log; those of both areas if none is selected.
-fn stored(board: &Board, pages: usize) -> Vec<LogRow> {
-    if let Some(area) = board.selected() {
-        return records(&area.log, pages, Some(area.number as u64), |at| {
-            let used = at < board.place as usize;
-            if used { "stored, used" } else { "stored" }.into()
-        });
-    }
-    let of = |(which, area): (usize, &Area)| {
-        let place = |_| format!("area {which}");
-        records(&area.log, pages, Some(area.number as u64), place)
-    };
-    board.areas.iter().enumerate().flat_map(of).collect()
-}
-
 /// Both areas, for a board that has selected none.
 fn areas(out: &mut String, board: &Board) {
     for (which, area) in board.areas.iter().enumerate() {
@@ -201,12 +164,32 @@ fn areas(out: &mut String, board: &Board) {
     }
 }
 
-/// The stored log, then the volatile one, which goes on where that ends.
-fn log(out: &mut String, board: &Board, pages: usize) {
-    let mut rows = stored(board, pages);
-    let access = board.selected().and_then(Area::recovery_point);
-    let volatile = records(&board.volatile, pages, access, |_| "volatile".into());
-    rows.extend(volatile);
+/// The board that a record in a log of another one names.
+pub fn party(record: &Record, own: usize, boards: usize) -> String {
+    let fits = |board: u8| board as usize != own && (board as usize) < boards;
+    names::party(record.mark, record.board, record.board.is_some_and(fits))
+}
+
+/// A record's page.
+pub fn page(record: &Record, pages: usize) -> String {
+    doubted(record.page, (record.page as usize) < pages)
+}
+
+/// A board's log.
+fn log(out: &mut String, bank: &Bank, at: usize) {
+    let board = &bank.boards[at];
+    let row = |line: Line| {
+        [
+            line.place,
+            names::kind(line.record.mark),
+            page(line.record, bank.page_count),
+            party(line.record, at, bank.board_count),
+            line.record.count.to_string(),
+            or_unknown(line.access),
+            record_bytes(line.record),
+        ]
+    };
+    let rows: Vec<_> = log::lines(board).into_iter().map(row).collect();
     if rows.is_empty() {
         let counts = [
             Some(board.volatile.count),
@@ -224,6 +207,7 @@ fn log(out: &mut String, board: &Board, pages: usize) {
         Left("log"),
         Left("record"),
         Right("page"),
+        Left("board"),
         Right("count"),
         Right("after access"),
         Left("bytes"),
@@ -233,8 +217,8 @@ fn log(out: &mut String, board: &Board, pages: usize) {
 
 /// Those of a shown or dropped record are zero, and then not worth a word.
 fn record_bytes(record: &Record) -> String {
-    match record.kind.as_str() {
-        "shown" | "dropped" if record.bytes.iter().all(|byte| *byte == 0) => String::new(),
+    match record.mark {
+        SHOWN | DROPPED if record.bytes.iter().all(|byte| *byte == 0) => String::new(),
         _ => hex(&record.bytes),
     }
 }
@@ -250,7 +234,7 @@ pub fn print(bank: &Bank) -> String {
         if board.selected().is_none() {
             areas(&mut out, board);
         }
-        log(&mut out, board, bank.page_count);
+        log(&mut out, bank, at);
     }
     out
 }

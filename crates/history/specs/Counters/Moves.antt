@@ -98,8 +98,8 @@ replay-advances d f s n a =
 pub move-advances : {d : ℕ} {Again : Access → Type 0} {χ ψ : Phase} (s : Run) (m : Move) → s .lost ≡ none → Guard d Again (s .bank) m χ ψ → FormedRun d χ s
     → RunAdvances (Pending d χ (s .bank)) (Pending d ψ (does m s .bank)) s (does m s)
 unfolding does Pending FormedIn isGot settle
-move-advances s _ n (notesShown b p u m l) h = step-advances _ s (λ e. noted-advances b (Shown p) (zeros pageSize) (s .bank) refl u)
-move-advances {d} s _ n (notesGot o p u m l r) h = step-advances _ s (λ e. got-advances d (Got GotOwn p) (frameOf (s .bank) o p .bytes) (s .bank) refl u)
+move-advances {d} s _ n (notesShown b p u m l v) h = step-advances _ s (λ e. noted-advances b (Shown p) d (zeros pageSize) (s .bank) refl u)
+move-advances {d} s _ n (notesGot o p u m l r v) h = step-advances _ s (λ e. got-advances d (Got GotOwn p) o (frameOf (s .bank) o p .bytes) (s .bank) refl u)
 move-advances s _ n (storesRecord b o u) h =
     stored-advances b storedRecord s o (λ P. advance-one (Stored u refl) (storedRecord-orderly (boardAt (s .bank) b) u))
 move-advances s _ n (storesFrame b p o u) h = stored-advances b (storedFrame p) s o (λ P. advance-quiet (storedFrame-same p (boardAt (s .bank) b)))
@@ -117,7 +117,7 @@ move-advances {d} s _ n (passesOwnership a o p c i g own v m) h =
     or-cases (eqb c o) (member c (entryAt (s .bank) p .copies)) t
     (λ i. rw (eqb-true c o i) (g .secure .up))
     (holder-up (h .going n) c p l (g .page))))
-move-advances s _ n (dropsCopies p l m) h = step-advances _ s (λ e. dropCopies-advances p (s .bank) (λ c i t. holder-up (h .going n) c p i l t))
+move-advances {d} s _ n (dropsCopies p l own m) h = step-advances _ s (λ e. dropCopies-advances d p (s .bank) (λ c i t. holder-up (h .going n) c p i l t))
 move-advances {d} s _ n (performs a i can has out) h =
     run-trans (run-same s (begins-pending d (s .bank) i)) (step-advances _ s (λ e. access-advances d a (s .bank) (can .up)))
 move-advances {d} s _ n (losesPower l) h = step-advances _ s (λ e. powerOff-advances d (s .bank) (λ c m q. q))

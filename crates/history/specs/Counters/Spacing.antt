@@ -18,10 +18,11 @@ use Rattle.model.specs.Definitions.Steps.{poweredOff, appended, recorded, store
 use Rattle.model.specs.Definitions.Replay.{loaded, recordsLeft, used, useUp, usedUp, gotsDue, due, tookGot, tookDue, replayed}
 use Rattle.model.specs.Laws.Logic.{byEq, clash}
 use Rattle.model.specs.Laws.Codes.Order.{never}
-use Rattle.model.specs.Laws.Runs.Stores.{recordsOf, Flushed, flushed-storedRecord}
+use Rattle.model.specs.Laws.Runs.Stores.{Flushed, flushed-storedRecord}
 use Rattle.model.specs.Laws.Keeps.Clauses.{up-not-down, up-not-replaying, down-not-replaying}
 use Rattle.history.specs.Invariant.{NextWaits}
 use Rattle.model.specs.History.RecoveryStatement.{SameCounters}
+use Rattle.model.specs.Contracts.{recordsOf}
 use Rattle.history.specs.Replaying.{used-left, usedUp-log}
 use Rattle.history.specs.Repeating.{takenBy, EntryNext, gotsDue-cases, due-nothing, took-none, took-first, left-got, took-stable, took-log}
 use Rattle.history.specs.Counters.{useUp-cases, quiet-left}
@@ -117,23 +118,23 @@ up-orderly : {P : Type 0} {x : Board} → x .state ≡ Up → Spaced (recordsOf 
 up-orderly u s f = record { spaced = s; up = λ n i. f n; waits = λ n i. up-not-replaying u i }
 
 -- a record made where no access is pending; after a got one is
-module _ (kind : Kind) (bytes : List ℕ) (x : Board) (u : x .state ≡ Up) (h : Orderly ⊥ x) where
-  recorded-spaced : (n : ℕ) → (isGot kind ≡ true → 0 < n) → Spaced (recordsOf (onWorking (recorded kind bytes) x)) n
+module _ (kind : Kind) (peer : ℕ) (bytes : List ℕ) (x : Board) (u : x .state ≡ Up) (h : Orderly ⊥ x) where
+  recorded-spaced : (n : ℕ) → (isGot kind ≡ true → 0 < n) → Spaced (recordsOf (onWorking (recorded kind peer bytes) x)) n
   unfolding recordsOf onWorking recorded appended
   recorded-spaced n g =
-      let r : Record = record { count = x .working .since; kind = kind; bytes = bytes } in
+      let r : Record = record { count = x .working .since; kind = kind; peer = peer; bytes = bytes } in
       rw (← append-assoc (x .stable .selected .log .records) (x .working .log .records) (r ∷ [])) (spaced-one (recordsOf x) r n (h .up (λ p. p) u) g)
 
-  pub recorded-orderly : {P : Type 0} → isGot kind ≡ false → Orderly P (onWorking (recorded kind bytes) x)
+  pub recorded-orderly : {P : Type 0} → isGot kind ≡ false → Orderly P (onWorking (recorded kind peer bytes) x)
   unfolding onWorking recorded
   recorded-orderly g = up-orderly u (recorded-spaced 1 (λ i. omega arith)) (λ n. recorded-spaced 0 (λ i. clash i g))
 
 -- a got made where an access is pending joins the gots before it
-pub joined-pending : {P Q : Type 0} (kind : Kind) (bytes : List ℕ) (x : Board) → x .state ≡ Up → isGot kind ≡ true → Q → Orderly P x
-    → Orderly Q (onWorking (recorded kind bytes) x)
+pub joined-pending : {P Q : Type 0} (kind : Kind) (peer : ℕ) (bytes : List ℕ) (x : Board) → x .state ≡ Up → isGot kind ≡ true → Q → Orderly P x
+    → Orderly Q (onWorking (recorded kind peer bytes) x)
 unfolding recordsOf onWorking recorded appended
-joined-pending kind bytes x u g q h =
-    let r : Record = record { count = x .working .since; kind = kind; bytes = bytes } in
+joined-pending kind peer bytes x u g q h =
+    let r : Record = record { count = x .working .since; kind = kind; peer = peer; bytes = bytes } in
     let s : Spaced (recordsOf x ++ (r ∷ [])) 1 = spaced-got (recordsOf x) r 1 (h .spaced) g in
     up-orderly u
     (rw (← append-assoc (x .stable .selected .log .records) (x .working .log .records) (r ∷ [])) s)

@@ -20,8 +20,8 @@ use Rattle.model.specs.Laws.Logic.{byEq, cases}
 use Rattle.model.specs.Laws.Boards.{boardAt-same, onBoard-onBoard, tookDue-state, tookCopy, tookOwn, droppedIf, boardAt-giveCopy-same, boardAt-giveCopy-other}
 use Rattle.model.specs.Laws.Boards.{boardAt-dropCopies, boardAt-passOwnership-same, boardAt-passOwnership-other}
 use Rattle.model.specs.Laws.Runs.{sizes-giveCopy, sizes-dropCopies, sizes-passOwnership}
-use Rattle.model.specs.Laws.Runs.Stores.{recordsOf}
 use Rattle.model.specs.History.RecoveryStatement.{SameCounters, Made, Accessed, Loaded, Took, Replayed, Settled, unchanged, next}
+use Rattle.model.specs.Contracts.{recordsOf}
 use Rattle.history.specs.Repeating.{took-stable, took-log}
 use Rattle.history.specs.Counters.Spacing.{orderly-less, joined-pending, recorded-orderly, accessed-orderly, same-pending, restarted-orderly}
 use Rattle.history.specs.Counters.Spacing.{replayed-orderly}
@@ -31,36 +31,36 @@ use Rattle.history.specs.Counters.BoardsInProgress.{Advances, Nobody, On
 -- ---- records
 
 -- a shown or dropped of an up board
-recorded-advance : {P : Type 0} (kind : Kind) (bytes : List ℕ) (x : Board) → isGot kind ≡ false → x .state ≡ Up
-    → Advance ⊥ P x (onWorking (recorded kind bytes) x)
-recorded-advance kind bytes x g u = advance-one (Made kind bytes u refl) (λ h. recorded-orderly kind bytes x u h g)
+recorded-advance : {P : Type 0} (kind : Kind) (peer : ℕ) (bytes : List ℕ) (x : Board) → isGot kind ≡ false → x .state ≡ Up
+    → Advance ⊥ P x (onWorking (recorded kind peer bytes) x)
+recorded-advance kind peer bytes x g u = advance-one (Made kind peer bytes u refl) (λ h. recorded-orderly kind peer bytes x u h g)
 
 -- a got: its access is pending; others may be pending with it
-got-advance : {P Q : Type 0} → Q → (kind : Kind) (bytes : List ℕ) (x : Board) → isGot kind ≡ true → x .state ≡ Up
-    → Advance P Q x (onWorking (recorded kind bytes) x)
-got-advance q kind bytes x g u = advance-one (Made kind bytes u refl) (joined-pending kind bytes x u g q)
+got-advance : {P Q : Type 0} → Q → (kind : Kind) (peer : ℕ) (bytes : List ℕ) (x : Board) → isGot kind ≡ true → x .state ≡ Up
+    → Advance P Q x (onWorking (recorded kind peer bytes) x)
+got-advance q kind peer bytes x g u = advance-one (Made kind peer bytes u refl) (joined-pending kind peer bytes x u g q)
 
-pub noted-advances : (b : ℕ) (kind : Kind) (bytes : List ℕ) (k : Bank) → isGot kind ≡ false → boardAt k b .state ≡ Up
-    → Advances Nobody Nobody k (note b kind bytes k)
+pub noted-advances : (b : ℕ) (kind : Kind) (peer : ℕ) (bytes : List ℕ) (k : Bank) → isGot kind ≡ false → boardAt k b .state ≡ Up
+    → Advances Nobody Nobody k (note b kind peer bytes k)
 unfolding note
-noted-advances b kind bytes k g u =
-    onBoard-advances b k (λ c n p. p) (onWorking (recorded kind bytes)) (λ l. recorded-advance kind bytes (boardAt k b) g u)
+noted-advances b kind peer bytes k g u =
+    onBoard-advances b k (λ c n p. p) (onWorking (recorded kind peer bytes)) (λ l. recorded-advance kind peer bytes (boardAt k b) g u)
 
-pub got-advances : (b : ℕ) (kind : Kind) (bytes : List ℕ) (k : Bank) → isGot kind ≡ true → boardAt k b .state ≡ Up
-    → Advances Nobody (Only b) k (note b kind bytes k)
+pub got-advances : (b : ℕ) (kind : Kind) (peer : ℕ) (bytes : List ℕ) (k : Bank) → isGot kind ≡ true → boardAt k b .state ≡ Up
+    → Advances Nobody (Only b) k (note b kind peer bytes k)
 unfolding note
-got-advances b kind bytes k g u =
-    onBoard-advances b k (λ c n p. absurd p) (onWorking (recorded kind bytes)) (λ l. got-advance refl kind bytes (boardAt k b) g u)
+got-advances b kind peer bytes k g u =
+    onBoard-advances b k (λ c n p. absurd p) (onWorking (recorded kind peer bytes)) (λ l. got-advance refl kind peer bytes (boardAt k b) g u)
 
 -- ---- fetches
 
-dropped-advance : {P : Type 0} (t : Bool) (p : ℕ) (x : Board) → (t ≡ true → x .state ≡ Up) → Advance ⊥ P x (droppedIf t p x)
+dropped-advance : {P : Type 0} (t : Bool) (w p : ℕ) (x : Board) → (t ≡ true → x .state ≡ Up) → Advance ⊥ P x (droppedIf t w p x)
 unfolding droppedIf dropped isGot
-dropped-advance {P} t p x u =
+dropped-advance {P} t w p x u =
     cases (Advance ⊥ P x) t
     (λ e.
-    advance-trans (recorded-advance (Dropped p) (zeros pageSize) x refl (u e))
-    (advance-quiet (withFrame-same p emptyFrame (onWorking (recorded (Dropped p) (zeros pageSize)) x))))
+    advance-trans (recorded-advance (Dropped p) w (zeros pageSize) x refl (u e))
+    (advance-quiet (withFrame-same p emptyFrame (onWorking (recorded (Dropped p) w (zeros pageSize)) x))))
     (λ e. advance-same absurd)
 
 pub giveCopy-advances : (o b p : ℕ) (k : Bank) → boardAt k b .state ≡ Up → Advances (Only b) (Only b) k (giveCopy o b p k)
@@ -74,18 +74,18 @@ giveCopy-advances o b p k u =
           byEq c b
           (λ e.
           rw (e, boardAt-giveCopy-same o b p k (rw e at l))
-          (advance-trans (got-advance refl (Got GotCopy p) bytes x refl u)
-          (advance-quiet (withFrame-same p _ (onWorking (recorded (Got GotCopy p) bytes) x)))))
+          (advance-trans (got-advance refl (Got GotCopy p) o bytes x refl u)
+          (advance-quiet (withFrame-same p _ (onWorking (recorded (Got GotCopy p) o bytes) x)))))
           (λ n. rw (boardAt-giveCopy-other o b p k c n) (advance-same (λ q. q)));
     }
 
 -- the holders are up
-pub dropCopies-advances : (p : ℕ) (k : Bank) → ((c : ℕ) → c < length (k .boards) → member c (entryAt k p .copies) ≡ true → boardAt k c .state ≡ Up)
-    → Advances Nobody Nobody k (dropCopies p k)
-dropCopies-advances p k u =
+pub dropCopies-advances : (w p : ℕ) (k : Bank) → ((c : ℕ) → c < length (k .boards) → member c (entryAt k p .copies) ≡ true → boardAt k c .state ≡ Up)
+    → Advances Nobody Nobody k (dropCopies w p k)
+dropCopies-advances w p k u =
     record {
-      sizes = sizes-dropCopies p k;
-      boards = λ c l. rw (boardAt-dropCopies p k c l) (dropped-advance (member c (entryAt k p .copies)) p (boardAt k c) (u c l));
+      sizes = sizes-dropCopies w p k;
+      boards = λ c l. rw (boardAt-dropCopies w p k c l) (dropped-advance (member c (entryAt k p .copies)) w p (boardAt k c) (u c l));
     }
 
 -- whoever loses its right is up
@@ -101,7 +101,7 @@ passOwnership-advances o w p k u =
           (λ e. rw (e, boardAt-passOwnership-same o w p k (rw e at l)) (advance-quiet (withFrame-same p _ (boardAt k w))))
           (λ n.
           rw (boardAt-passOwnership-other o w p k c l n)
-          (advance-less n (λ q. q) (dropped-advance (eqb c o || member c (entryAt k p .copies)) p (boardAt k c) (u c l n))));
+          (advance-less n (λ q. q) (dropped-advance (eqb c o || member c (entryAt k p .copies)) w p (boardAt k c) (u c l n))));
     }
 
 -- ---- accesses and fuses

@@ -145,12 +145,12 @@ wrongLists =
 
 -- ---- on banks made by hand
 
--- records of these kinds stored in the selected area, each with count 0
-unfoldable pub withStored : List Kind → Board → Board
-withStored kinds x =
+-- records of these kinds stored in the selected area, each with count 0, which name this board
+unfoldable pub withStored : (peer : ℕ) → List Kind → Board → Board
+withStored peer kinds x =
     let log : Log =
     record {
-      records = map (λ kind. record { count = 0; kind = kind; bytes = zeros pageSize }) kinds;
+      records = map (λ kind. record { count = 0; kind = kind; peer = peer; bytes = zeros pageSize }) kinds;
       rest = zeros ((slotCount - length kinds) * slotSize);
     } in
     withStable (withSelectedArea (withAreaLog log (x .stable .selected)) (x .stable)) x
@@ -162,13 +162,13 @@ glancesFrom k ls = wellFormed (encode k) && glancesOn ls k
 -- "code 7 adds up the needs of all pages": board 1 has room for one record, so it gives one page, asked twice, but not two
 unfoldable pub needsAdded : Bool
 needsAdded =
-    glancesFrom (onBoard 1 (withStored (replicate 31 (Shown 1))) (fresh 2 4))
+    glancesFrom (onBoard 1 (withStored 0 (replicate 31 (Shown 1))) (fresh 2 4))
     (leaves (3 ∷ 0 ∷ 1 ∷ 0 ∷ []) 2 7 1 0 ∷ gives (3 ∷ 0 ∷ 3 ∷ 1 ∷ []) 1 (0 ∷ 0 ∷ []) ∷ [])
 
 -- two gots are due at once, and cells that lack the right to both pages are code 5
 unfoldable pub differsWith : Kind → Kind → Bool
 differsWith one two =
-    glancesFrom (onBoard 0 (λ x. withStored (one ∷ two ∷ []) (poweredOff x)) (fresh 3 3)) (plain (Restarting 0) 0 0 0 0 ∷ leaves twice 2 5 0 0 ∷ [])
+    glancesFrom (onBoard 0 (λ x. withStored 1 (one ∷ two ∷ []) (poweredOff x)) (fresh 3 3)) (plain (Restarting 0) 0 0 0 0 ∷ leaves twice 2 5 0 0 ∷ [])
 
 -- "It needs them if their pages rise and it lacks each": pages that fall, the same page again, and a got of the other kind behind or before
 unfoldable pub groupsDiffer : Bool

@@ -15,13 +15,15 @@ use Rattle.model.specs.Cases.Evaluate.{evaluate}
 use Rattle.model.specs.Cases.Digest.{taken, digestFrom, digest}
 use Rattle.model.specs.Cases.Table.{agrees, caseA, caseBCut, caseB, boardOutOfRange, restartOfUpBoard, replayDiffers, ownerNotUp, alternating}
 use Rattle.model.specs.Cases.Table.{alternatingWrites, fuseBlows, lastOffset, zeroFuse, scripts, lengths}
-use Rattle.model.specs.Cases.Conversions.{oldBank, newBank, bothLengths, converts, reads}
+use Rattle.model.specs.Cases.Conversions.{oldBank, newBank, bothLengths, refuses, converts, reads}
 use Rattle.model.specs.Cases.Cells.{glancesOn, twoPages, giverLost, firstGiverLost, endLost, replayEnds, wrongLists, withStored, glancesFrom, needsAdded}
 use Rattle.model.specs.Cases.Cells.{differsWith, groupsDiffer, glances}
 use Rattle.model.specs.Cases.Worked.{callsOf, fuseAtReplayEnd, everyEntry, fuseInFlush, fuseAtSelector, givenAfterReplay, takerCut, refusedInReplay}
 use Rattle.model.specs.Cases.Worked.{cellsRepeated, histories, otherByte, otherByteRepeated, otherOrder, readForCells, otherOrderLost, twoGivers}
 use Rattle.model.specs.Cases.Holders.{holderGives, ownerReplays, lowestGives, bothGiven, otherMissing, giverCharged, holders, holderGave}
 use Rattle.model.specs.Cases.Holders.{passedOn}
+use Rattle.model.specs.Cases.Peers.{namesIn, logNames, bankAfter, holderNamed, writerNamed, giversNamed, storedWith, spareWith, volatileWith, parts}
+use Rattle.model.specs.Cases.Peers.{refusedPeers, earlier, adoptsAs, adopts, earlierToday, checkpointsEmpty, peersWorked}
 use Rattle.model.specs.Cases.Worked.{giverCut, twoDue, holderRepeats}
 use Rattle.model.specs.Cases.Running.{leavesOn, passesOn, passesFresh, premisesOn, claimsOn, holdsOn, grantsIn}
 use Rattle.model.specs.Definitions.Check.{sizesAllowed}
@@ -32,10 +34,11 @@ unfolding noHistory ofBoard discard doneEvent eventOf entryCount repeats withNum
     giversIn gaveIn grantedAfter nextEntry sameBytes sameAccess doneOrLost repeatsEntry premiseFor oneMemoryTest gaveEntry repeatFor grantsFor historyAfter
     grantsAfter leavesOn passesOn passesFresh premisesOn claimsOn holdsOn grantsIn taken digestFrom digest agrees caseA caseBCut caseB boardOutOfRange
     restartOfUpBoard replayDiffers ownerNotUp alternating alternatingWrites fuseBlows lastOffset zeroFuse scripts lengths oldBank newBank bothLengths
-    converts reads callsOf fuseAtReplayEnd everyEntry fuseInFlush fuseAtSelector givenAfterReplay takerCut refusedInReplay cellsRepeated histories otherByte
+    refuses converts reads callsOf fuseAtReplayEnd everyEntry fuseInFlush fuseAtSelector givenAfterReplay takerCut refusedInReplay cellsRepeated histories otherByte
     otherByteRepeated otherOrder readForCells otherOrderLost twoGivers giverCut twoDue glancesOn twoPages giverLost firstGiverLost endLost replayEnds
     wrongLists withStored glancesFrom needsAdded differsWith groupsDiffer glances holderGives ownerReplays lowestGives bothGiven otherMissing giverCharged
-    holders holderGave passedOn holderRepeats
+    holders holderGave passedOn holderRepeats namesIn logNames bankAfter holderNamed writerNamed giversNamed storedWith spareWith volatileWith
+    parts refusedPeers earlier adoptsAs adopts earlierToday checkpointsEmpty peersWorked
 tables = tt
 
 pub lengths-hold : lengths ≡ true
@@ -53,6 +56,10 @@ glances-hold = refl
 pub holders-hold : holders ≡ true
 unfolding evaluate tables
 holders-hold = refl
+
+pub peers-hold : peersWorked ≡ true
+unfolding evaluate tables
+peers-hold = refl
 
 pub scripts-sized : every (λ c. sizesAllowed (c .boards) (c .pages)) scripts ≡ true
 unfolding evaluate tables

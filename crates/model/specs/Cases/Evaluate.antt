@@ -13,8 +13,8 @@ use Rattle.model.specs.Definitions.Codec.{decodeIn}
 use Rattle.model.specs.Definitions.WellFormed.{isGot, PlaceOk, rightIn, isUp, isDown, isReplaying}
 use Rattle.model.specs.Definitions.Check.{isZero, headValid, entryValid, directoryValid, areaCount, countsValid, frameValid, framesValid, allFramesValid}
 use Rattle.model.specs.Definitions.Check.{fieldsValid, selectedCount, isBlank, stateValid, boardValid, sameRight, pageAgrees, pageAgreesAt, pagesAgree}
-use Rattle.model.specs.Definitions.Check.{blockFits, gotMark, bareMark, markFits, slotValid, storedValid, slotsValid, directoryOf, blocksFit, logsValid}
-use Rattle.model.specs.Definitions.Check.{recordValid, recordsValid, blockOfIn, wellFormedIn}
+use Rattle.model.specs.Definitions.Check.{blockFits, gotMark, bareMark, markFits, slotValid, peerAllowed, slotPeerValid, directoryOf, blocksFit, logsValid}
+use Rattle.model.specs.Definitions.Check.{recordPasses, storedPasses, slotsPass, recordsPass, peersValid, blockOfIn, wellFormedIn}
 use Rattle.model.specs.Definitions.Steps.{start, step, poweredOff, forgotten, powerOff, withFuse, fuseBoard, burnt, store, storeAll, appended, recorded}
 use Rattle.model.specs.Definitions.Steps.{note, movedRecord, storedRecord, recordStores, flush, storedFrame, storedHead, storedSelector, spareStores}
 use Rattle.model.specs.Definitions.Steps.{checkpointStores, restedWorking, checkpoint, cellsAsked, cellsRead, cellsWritten, anyCell, anyWrite, names}
@@ -29,7 +29,7 @@ use Rattle.model.specs.Definitions.Calls.{firstOf, unless, finished, pag
 use Rattle.model.specs.Definitions.Calls.{need, short, shortBoard, isSome, numberIn, nobodyGives, pageMissing, liveRefusals, prepared, performed, live}
 use Rattle.model.specs.Definitions.Calls.{liveAfterEnd, replaying, cellInRange, accessInRange, wrongCells, countersFull, refusalsWithin, accessWithin}
 use Rattle.model.specs.Definitions.Calls.{checkpointBank, fuseBank, restartBank, callBank, refused, replyOf, callWithin, call, make, bufferAfter}
-use Rattle.model.specs.Definitions.Older.{unused, clearedBoard, cleared, fitsTarget, convert}
+use Rattle.model.specs.Definitions.Older.{logEmpty, boardEmpty, noRecords, adopt, clearedBoard, cleared, fitsTarget, convert}
 
 unfoldable pub evaluate : Unit {0}
 unfolding bytesOf numberOf part splice byteAt zeros encodeAll decodeAll update eachFrom each tabulateFrom tabulate every everyFrom everyBelow firstFrom
@@ -38,8 +38,8 @@ unfolding bytesOf numberOf part splice byteAt zeros encodeAll decodeAll update e
     mark0 mark1 pageOf kindOf encodeRecordIn decodeRecordIn encodeLogIn decodeLogIn encodeAreaIn decodeFrames decodeAreaIn stateByte stateOf selectorByte
     encodeFixedIn encodeStableIn decodeStable encodeBoardIn decodeBoardIn encodeIn decodeIn isGot PlaceOk rightIn isUp isDown isReplaying isZero headValid
     entryValid directoryValid areaCount countsValid frameValid framesValid allFramesValid fieldsValid selectedCount isBlank stateValid boardValid sameRight
-    pageAgrees pageAgreesAt pagesAgree blockFits gotMark bareMark markFits slotValid recordValid storedValid slotsValid recordsValid directoryOf blockOfIn
-    blocksFit logsValid wellFormedIn start step poweredOff forgotten powerOff withFuse fuseBoard burnt store storeAll appended recorded note movedRecord
+    pageAgrees pageAgreesAt pagesAgree blockFits gotMark bareMark markFits slotValid recordPasses storedPasses slotsPass recordsPass peerAllowed slotPeerValid directoryOf
+    blockOfIn blocksFit logsValid peersValid wellFormedIn start step poweredOff forgotten powerOff withFuse fuseBoard burnt store storeAll appended recorded note movedRecord
     storedRecord recordStores flush storedFrame storedHead storedSelector spareStores checkpointStores restedWorking checkpoint cellsAsked cellsRead
     cellsWritten anyCell anyWrite names takes lacks lacksPage lackingPages cellByte readFrom givenOf withByte withBytes valueOf accessed access withFrame
     frameOf trailingZeros lowestHolder ownerUp giver show giveCopy dropped dropAt dropCopies passOwnership showAll giveCopies readFetch writeFetch
@@ -47,6 +47,7 @@ unfolding bytesOf numberOf part splice byteAt zeros encodeAll decodeAll update e
     gotsDue due sameGot lacking needsGot needsGots differs rightGot tookGot tookGots tookDue replayOver settledFrame settled settle endReplay endIfOver
     replayed countSum recoveryPoint code value who firstOf unless finished pageWritten copiesOut fetchNeed dropNeed lackingOf pagesLacking pageNeed need
     short shortBoard isSome numberIn nobodyGives pageMissing liveRefusals prepared performed live liveAfterEnd replaying cellInRange accessInRange wrongCells
-    countersFull refusalsWithin accessWithin checkpointBank fuseBank restartBank callBank callWithin refused replyOf call make unused clearedBoard cleared
+    countersFull refusalsWithin accessWithin checkpointBank fuseBank restartBank callBank callWithin refused replyOf call make logEmpty boardEmpty noRecords
+    adopt clearedBoard cleared
     fitsTarget convert bufferAfter
 evaluate = tt

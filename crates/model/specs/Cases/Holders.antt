@@ -74,9 +74,9 @@ otherMissing =
 -- "its need in code 7 moves to the giver": board 1, with 31 records stored and one more, can't give; board 2, full when it goes down, is asked for nothing
 unfoldable pub giverCharged : Bool
 giverCharged =
-    glancesFrom (onBoard 1 (withStored (replicate 31 (Shown 1))) (fresh 3 3))
+    glancesFrom (onBoard 1 (withStored 0 (replicate 31 (Shown 1))) (fresh 3 3))
     (plain (Accessing 1 (Read 2 0)) 0 0 0 1 ∷ plain (Fusing 2 0) 0 0 0 0 ∷ plain (Accessing 0 (Read 2 0)) 7 0 1 0 ∷ [])
-    && glancesFrom (onBoard 2 (withStored (replicate 31 (Shown 2))) (fresh 3 3))
+    && glancesFrom (onBoard 2 (withStored 0 (replicate 31 (Shown 2))) (fresh 3 3))
     (plain (Accessing 1 (Read 2 0)) 0 0 0 1 ∷ plain (Fusing 2 0) 0 0 0 0 ∷ plain (Accessing 0 (Read 2 0)) 0 0 0 2 ∷ [])
 
 unfoldable pub holders : Bool
@@ -97,7 +97,7 @@ holderGave =
           ∷ record { asks = Accessing 2 (Read 0 0); prints = (0, 0, 0, 2) }
           ∷ record { asks = Accessing 2 (Write 0 0 5); prints = (6, 0, 0, 0) }
           ∷ [];
-      left = Digest 0x8501c949f054c74d;
+      left = Digest 0xb0ac5a6cbb413b2f;
     }
 
 -- ---- who gave

@@ -70,7 +70,7 @@ caseA =
           ∷ record { asks = Accessing 0 (Read 0 3); prints = (0, 9, 0, 1) }
           ∷ record { asks = Accessing 0 (Read 1 0); prints = (2, 0, 0, 0) }
           ∷ [];
-      left = Digest 0xc6aabbbaf5acca7c;
+      left = Digest 0x2e61eb440771ce30;
     }
 
 -- case B up to its cut and restart
@@ -98,7 +98,7 @@ caseB =
           ∷ record { asks = Accessing 0 (Write 0 1 6); prints = (0, 0, 0, 4) }
           ∷ record { asks = Accessing 0 (Read 1 0); prints = (0, 9, 0, 2) }
           ∷ []);
-      left = Digest 0xba0645a8314849ec;
+      left = Digest 0xeffed8a6cd10606b;
     }
 
 -- code 2: "N 2 1, R 2 0 0"

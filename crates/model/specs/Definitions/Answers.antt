@@ -2,7 +2,7 @@
 use Prim.Native.Nat.{ℕ}
 use Rattle.types.specs.declared.Answer.{Answer}
 use Rattle.types.specs.declared.Answer.the-variants.{Done, Malformed, OutOfRange, WrongState, CountersFull, ReplayDiffers, OwnerNotUp, LogFull, PowerLost}
-use Rattle.types.specs.declared.Answer.the-variants.{WrongCells}
+use Rattle.types.specs.declared.Answer.the-variants.{WrongCells, HasRecords}
 use Rattle.types.specs.declared.AnswerNumbers.{AnswerNumbers}
 
 abbrev pub numbersOf : Answer → AnswerNumbers
@@ -16,6 +16,7 @@ numbersOf (OwnerNotUp b) = record { code = 6; value = 0; who = b }
 numbersOf (LogFull b) = record { code = 7; value = 0; who = b }
 numbersOf (PowerLost b) = record { code = 8; value = 0; who = b }
 numbersOf WrongCells = record { code = 10; value = 0; who = 0 }
+numbersOf HasRecords = record { code = 11; value = 0; who = 0 }
 
 unfoldable pub code : Answer → ℕ
 code a = numbersOf a .code

@@ -39,8 +39,8 @@ unfoldable pub flushOn : Board → BoardRun
 flushOn x = storeAllOn (recordStores x) (startOn x)
 
 -- a record noted, then a flush
-unfoldable pub loggedOn : Kind → List ℕ → Board → BoardRun
-loggedOn kind bytes x = flushOn (onWorking (recorded kind bytes) x)
+unfoldable pub loggedOn : Kind → (peer : ℕ) → List ℕ → Board → BoardRun
+loggedOn kind peer bytes x = flushOn (onWorking (recorded kind peer bytes) x)
 
 unfoldable pub checkpointOn : ℕ → Board → BoardRun
 checkpointOn pages x = stepOn (onWorking restedWorking) (storeAllOn (checkpointStores pages) (startOn x))

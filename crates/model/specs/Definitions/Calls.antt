@@ -1,4 +1,4 @@
--- Document 01's calls, with document 02's F-1 to F-4, for any numbers: first on a bank, then on bytes of any length and content.
+-- Document 01's calls, with document 02's F-1 to F-6, for any numbers: first on a bank, then on bytes of any length and content.
 -- Each refusal is in the table's order, and the list of tests shows that order. Assumes nothing.
 use Prim.Native.Nat.{ℕ, _+_, _%_}
 use mathlib.Core.Bool.{Bool, true, false, _&&_, _||_, not}
@@ -127,7 +127,7 @@ unfoldable pub prepared : ℕ → Access → Run → Run
 prepared b a r =
     elim (lackingOf b a (r .bank)) [
       | true ↦ fetch (takes a) b (pagesLacking b a (r .bank)) r
-      | false ↦ elim (copiesOut a (r .bank)) [ true ↦ step (dropCopies (pageWritten a)) r | false ↦ r ]
+      | false ↦ elim (copiesOut a (r .bank)) [ true ↦ step (dropCopies b (pageWritten a)) r | false ↦ r ]
     ]
 
 -- the access itself, its value and the bytes that it gives

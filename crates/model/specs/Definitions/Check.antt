@@ -1,5 +1,5 @@
--- Document 01, "Well formed means", as a test of bytes: the head, the directory, every block but its records, then the records; in any form, which
--- what depends on one takes first. Laws/WellFormedTest proves that exactly the bytes of a well-formed bank pass. Assumes nothing.
+-- Document 01, "Well formed means", with document 02's F-6, as a test of bytes: the head, the directory, every block but its records, the records, then whom
+-- they name; in any form, which what depends on one takes first. Laws/WellFormedTest proves that exactly the bytes of a well-formed bank pass. Assumes nothing.
 use Prim.Native.Nat.{ℕ, _+_, _*_, _^_}
 use mathlib.Core.Bool.{Bool, true, false, _&&_, _||_, not}
 use mathlib.Core.List.{List}
@@ -13,7 +13,7 @@ use Rattle.types.specs.declared.State.the-variants.{Up, Down, Replaying}
 use Rattle.model.specs.Definitions.Parts.{part, byteAt, every, everyBelow, member}
 use Rattle.model.specs.Definitions.Layout.{byteValues, letterG, letterC, letterO, letterS, letterH, letterD, letterR, rightAt, frameBytesAt, mark0At}
 use Rattle.model.specs.Definitions.Layout.{mark1At, mostBoards, mostPages, pageSize, slotCount, noFuse, fuseSize, numberSize, headMark0, headMark1}
-use Rattle.model.specs.Definitions.Layout.{headMark0At, headMark1At, headSize, boardsAt, pagesAt, entrySize, frameSize, slotPageAt, slotZeroAt}
+use Rattle.model.specs.Definitions.Layout.{headMark0At, headMark1At, headSize, boardsAt, pagesAt, entrySize, frameSize, slotPageAt, slotPeerAt}
 use Rattle.model.specs.Definitions.Layout.{areaFramesAt, areaCountAt, areaSlotsAt, stateAt, selectorAt, fuseAt, numberAt, sinceAt, blocksAt, today}
 use Rattle.model.specs.Definitions.Layout.{slotBytesAtIn, slotSizeIn, placeAtIn, volatileCountAtIn, framesAtIn, slotsAtIn, areaAtIn, blockSizeIn}
 use Rattle.model.specs.Definitions.Layout.{bankSizeIn, Form}
@@ -71,6 +71,15 @@ bareMark m0 m1 = (eqb m0 letterS && eqb m1 letterH) || (eqb m0 letterD && eqb m1
 -- "The 16 bytes are the page for got, else zero."
 unfoldable pub markFits : ℕ → ℕ → Bool → Bool
 markFits m0 m1 zero = gotMark m0 m1 || (zero && bareMark m0 m1)
+
+-- "this board below N and different from the log's own" (document 02, F-6); where no record names a board "a zero byte"
+unfoldable pub peerAllowed : (named : Bool) (boards b : ℕ) → ℕ → Bool
+peerAllowed true boards b peer = ltb peer boards && not (eqb peer b)
+peerAllowed false boards b peer = eqb peer 0
+
+-- whether a slot in a log of board b names a board that it may
+unfoldable pub slotPeerValid : (named : Bool) (boards b : ℕ) → List ℕ → Bool
+slotPeerValid named boards b l = peerAllowed named boards b (byteAt l slotPeerAt)
 
 unfoldable pub directoryOf : ℕ → List ℕ → List ℕ
 directoryOf pages s = part s headSize (pages * entrySize)
@@ -151,26 +160,27 @@ module _ (form : Form) where
   unfoldable pub blockFits : ℕ → List ℕ → List ℕ → ℕ → Bool
   blockFits pages directory l b = fieldsValid pages l && (boardValid pages l && pagesAgree pages directory l b)
 
-  -- "a two-byte mark, page, a zero byte, count .., 16 bytes"
+  -- "a two-byte mark, page, .., count .., 16 bytes"
   unfoldable pub slotValid : ℕ → List ℕ → Bool
   slotValid pages l =
-      markFits (byteAt l mark0At) (byteAt l mark1At) (isZero (part l (slotBytesAtIn form) pageSize))
-      && (ltb (byteAt l slotPageAt) pages && eqb (byteAt l slotZeroAt) 0)
+      markFits (byteAt l mark0At) (byteAt l mark1At) (isZero (part l (slotBytesAtIn form) pageSize)) && ltb (byteAt l slotPageAt) pages
 
-  -- the slot of an index in the log that starts at a place; "Slots at or past a count may hold anything."
-  unfoldable pub recordValid : ℕ → ℕ → ℕ → List ℕ → ℕ → Bool
-  recordValid pages a count l i = elim (ltb i count) [ true ↦ slotValid pages (part l (a + i * slotSizeIn form) (slotSizeIn form)) | false ↦ true ]
+  -- ---- a test of every record of a block
 
-  unfoldable pub storedValid : ℕ → ℕ → List ℕ → ℕ → Bool
-  storedValid pages area l i = recordValid pages (areaAtIn form pages area + areaSlotsAt pages) (areaCount pages area l) l i
+  -- of the slot of an index in the log that starts at a place; "Slots at or past a count may hold anything."
+  unfoldable pub recordPasses : (List ℕ → Bool) → ℕ → ℕ → List ℕ → ℕ → Bool
+  recordPasses test a count l i = elim (ltb i count) [ true ↦ test (part l (a + i * slotSizeIn form) (slotSizeIn form)) | false ↦ true ]
 
-  -- the slots of an index in all three logs
-  unfoldable pub slotsValid : ℕ → List ℕ → ℕ → Bool
-  slotsValid pages l i =
-      recordValid pages (slotsAtIn form pages) (byteAt l (volatileCountAtIn form)) l i && (storedValid pages 0 l i && storedValid pages 1 l i)
+  unfoldable pub storedPasses : (List ℕ → Bool) → ℕ → ℕ → List ℕ → ℕ → Bool
+  storedPasses test pages area l i = recordPasses test (areaAtIn form pages area + areaSlotsAt pages) (areaCount pages area l) l i
 
-  unfoldable pub recordsValid : ℕ → List ℕ → Bool
-  recordsValid pages l = everyBelow slotCount (slotsValid pages l)
+  -- of the slots of an index in all three logs
+  unfoldable pub slotsPass : (List ℕ → Bool) → ℕ → List ℕ → ℕ → Bool
+  slotsPass test pages l i =
+      recordPasses test (slotsAtIn form pages) (byteAt l (volatileCountAtIn form)) l i && (storedPasses test pages 0 l i && storedPasses test pages 1 l i)
+
+  unfoldable pub recordsPass : (List ℕ → Bool) → ℕ → List ℕ → Bool
+  recordsPass test pages l = everyBelow slotCount (slotsPass test pages l)
 
   -- ---- the whole
 
@@ -183,20 +193,24 @@ module _ (form : Form) where
 
   -- "The search for a malformed slot, board by board and slot by slot, ends at the first": its place shows in no answer.
   unfoldable pub logsValid : ℕ → ℕ → List ℕ → Bool
-  logsValid boards pages s = everyBelow boards (λ b. recordsValid pages (blockOfIn pages s b))
+  logsValid boards pages s = everyBelow boards (λ b. recordsPass (slotValid pages) pages (blockOfIn pages s b))
 
-  unfoldable pub wellFormedIn : List ℕ → Bool
-  wellFormedIn s =
+  unfoldable pub peersValid : (named : Bool) → ℕ → ℕ → List ℕ → Bool
+  peersValid named boards pages s = everyBelow boards (λ b. recordsPass (slotPeerValid named boards b) pages (blockOfIn pages s b))
+
+  unfoldable pub wellFormedIn : (named : Bool) → List ℕ → Bool
+  wellFormedIn named s =
       let boards : ℕ = byteAt s boardsAt in
       let pages : ℕ = byteAt s pagesAt in
       elim (headValid s) [
         | false ↦ false
         | true ↦
             every (λ b. ltb b byteValues) s
-            && (directoryValid boards pages (directoryOf pages s) && (blocksFit boards pages s && logsValid boards pages s))
+            && (directoryValid boards pages (directoryOf pages s)
+            && (blocksFit boards pages s && (logsValid boards pages s && peersValid named boards pages s)))
       ]
 
--- ==== the same of today's form
+-- ==== the same of today's form, in which records name boards
 
 abbrev pub wellFormed : List ℕ → Bool
-wellFormed = wellFormedIn today
+wellFormed = wellFormedIn today true

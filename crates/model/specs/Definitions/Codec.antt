@@ -1,4 +1,4 @@
--- Document 01, "Bytes of a bank", with document 02's F-2: what each part looks like as bytes, and what bytes are read as, in any form and in today's.
+-- Document 01, "Bytes of a bank", with document 02's F-2 and F-6: what each part looks like as bytes, and what bytes are read as, in any form and in today's.
 -- Each reader takes exactly its part. Readers are total; bytes that no writer makes are told apart by WellFormed. Assumes nothing.
 use Prim.Native.Nat.{ℕ, zero, suc, _*_}
 use mathlib.Core.Bool.{Bool, true, false}
@@ -17,7 +17,7 @@ use Rattle.types.specs.declared.State.{State}
 use Rattle.types.specs.declared.State.the-variants.{Up, Down, Replaying}
 use Rattle.model.specs.Definitions.Parts.{part, byteAt, encodeAll, decodeAll}
 use Rattle.model.specs.Definitions.Layout.{pageSize, entrySize, frameSize, slotSizeIn, slotsSizeIn, ownerAt, copiesAt, rightAt, frameBytesAt, mark0At}
-use Rattle.model.specs.Definitions.Layout.{mark1At, slotPageAt, slotBytesAtIn, letterG, letterC, letterO, letterS, letterH, letterD, letterR, fuseSize}
+use Rattle.model.specs.Definitions.Layout.{mark1At, slotPageAt, slotPeerAt, slotBytesAtIn, letterG, letterC, letterO, letterS, letterH, letterD, letterR, fuseSize}
 use Rattle.model.specs.Definitions.Layout.{numberSize, Form, today, stateAt, selectorAt, fuseAt, numberAt, sinceAt, placeAtIn, volatileCountAtIn}
 use Rattle.model.specs.Definitions.Layout.{framesAtIn, slotsAtIn, areaAtIn, areaSizeIn, areaNumberAt, areaCountAt, areaFramesAt, areaSlotsAt}
 use Rattle.model.specs.Definitions.Layout.{blockSizeIn, headMark0, headMark1, headSize, boardsAt, pagesAt, blocksAt, recordCountAt}
@@ -106,16 +106,18 @@ decodeStable second area0 area1 =
 -- ==== what holds a since or a count, in any form
 
 module _ (form : Form) where
-  -- "A slot is ..: a two-byte mark, page, a zero byte, count .., 16 bytes."
+  -- "A slot is ..: a two-byte mark, page, a zero byte, count .., 16 bytes."; "The zero byte of a record now names a board" (document 02, F-6). Where
+  -- records name nobody it is zero, which well-formedness asks for.
   unfoldable pub encodeRecordIn : Record → List ℕ
   encodeRecordIn r =
-      mark0 (r .kind) ∷ mark1 (r .kind) ∷ pageOf (r .kind) ∷ 0 ∷ (bytesOf (form .sinceWidth) (r .count) ++ r .bytes)
+      mark0 (r .kind) ∷ mark1 (r .kind) ∷ pageOf (r .kind) ∷ r .peer ∷ (bytesOf (form .sinceWidth) (r .count) ++ r .bytes)
 
   unfoldable pub decodeRecordIn : List ℕ → Record
   decodeRecordIn l =
       record {
         count = numberOf (part l recordCountAt (form .sinceWidth));
         kind = kindOf (byteAt l mark0At) (byteAt l mark1At) (byteAt l slotPageAt);
+        peer = byteAt l slotPeerAt;
         bytes = part l (slotBytesAtIn form) pageSize;
       }
 

@@ -1,4 +1,4 @@
--- Document 01, "Bytes of a bank", with document 02's F-2: every width, offset and limit of the format, named once. Everything else cites these names.
+-- Document 01, "Bytes of a bank", with document 02's F-2 and F-6: every width, offset and limit of the format, named once. Everything else cites these names.
 -- What stands behind a field that grew is said for any form (`In`), and by its plain name for today's. docs/FORMAT.md draws them. Assumes nothing.
 use Prim.Native.Nat.{ℕ, _+_, _*_}
 
@@ -104,7 +104,8 @@ frameBytesAt = 1
 abbrev pub frameSize : ℕ
 frameSize = frameBytesAt + pageSize
 
--- ---- "A slot is ..: a two-byte mark, page, a zero byte, count .., 16 bytes."; "A record is then 24 bytes" (document 02, F-2)
+-- ---- "A slot is ..: a two-byte mark, page, a zero byte, count .., 16 bytes."; "A record is then 24 bytes" (document 02, F-2); "The zero byte of a record now
+-- names a board" (F-6)
 
 abbrev pub mark0At : ℕ
 mark0At = 0
@@ -115,8 +116,8 @@ mark1At = 1
 abbrev pub slotPageAt : ℕ
 slotPageAt = 2
 
-abbrev pub slotZeroAt : ℕ
-slotZeroAt = 3
+abbrev pub slotPeerAt : ℕ
+slotPeerAt = 3
 
 abbrev pub recordCountAt : ℕ
 recordCountAt = 4

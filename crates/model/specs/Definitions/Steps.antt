@@ -1,4 +1,4 @@
--- Document 01, "Steps", up to the cut, with document 02's F-1, F-3 and F-4: what one board or several do to the bank, one micro-step each, and the stores
+-- Document 01, "Steps", up to the cut, with document 02's F-1, F-3, F-4 and F-6: what one board or several do to the bank, one micro-step each, and the stores
 -- that a power loss can follow. A call in progress is a `Run`: once a fuse blew, every later step passes it on unchanged. Assumes nothing.
 use Prim.Native.Nat.{ℕ, zero, suc, _+_, _-_}
 use mathlib.Core.Bool.{Bool, true, false, _&&_, _||_, not}
@@ -96,12 +96,13 @@ appended r l = record { records = l .records ++ (r ∷ []); rest = drop slotSize
 abbrev pub withRecord : Record → Area → Area
 withRecord r a = withAreaLog (appended r (a .log)) a
 
--- "Record: takes the board's since as its count, then since becomes 0. It enters the volatile log."
-unfoldable pub recorded : Kind → List ℕ → Working → Working
-recorded kind bytes w = withSince 0 (withLog (appended (record { count = w .since; kind = kind; bytes = bytes }) (w .log)) w)
+-- "Record: takes the board's since as its count, then since becomes 0. It enters the volatile log."; "The zero byte of a record now names a board" (document
+-- 02, F-6), the peer
+unfoldable pub recorded : Kind → (peer : ℕ) → List ℕ → Working → Working
+recorded kind peer bytes w = withSince 0 (withLog (appended (record { count = w .since; kind = kind; peer = peer; bytes = bytes }) (w .log)) w)
 
-unfoldable pub note : ℕ → Kind → List ℕ → Bank → Bank
-note b kind bytes k = onBoard b (onWorking (recorded kind bytes)) k
+unfoldable pub note : ℕ → Kind → (peer : ℕ) → List ℕ → Bank → Bank
+note b kind peer bytes k = onBoard b (onWorking (recorded kind peer bytes)) k
 
 -- "one record appended to the selected area": the first volatile record r, whose slot becomes zero; rs are the volatile ones behind it.
 -- Between two stores of a flush these stand one slot lower than in the bytes; no caller sees that.
@@ -283,30 +284,31 @@ unfoldable pub giver : CopyOrOwn → Bank → ℕ → ℕ
 giver GotCopy k p = elim (ownerUp k p) [ true ↦ entryAt k p .owner | false ↦ lowestHolder (entryAt k p) ]
 giver GotOwn k p = entryAt k p .owner
 
--- the giver's part of every fetch: "owner records shown and flushes"; "That giver records shown and flushes as an owner does." (F-4)
-unfoldable pub show : ℕ → ℕ → Run → Run
-show o p r = flush o (step (note o (Shown p) (zeros pageSize)) r)
+-- the giver's part of every fetch: "owner records shown and flushes"; "That giver records shown and flushes as an owner does." (F-4); it names "the taker in a
+-- shown" (F-6), board b
+unfoldable pub show : (o b p : ℕ) → Run → Run
+show o b p r = flush o (step (note o (Shown p) b (zeros pageSize)) r)
 
--- "reader records got copy, gains the copy and its bit"
+-- "reader records got copy, gains the copy and its bit"; it names "the giver in a got" (F-6), board o
 unfoldable pub giveCopy : ℕ → ℕ → ℕ → Bank → Bank
 giveCopy o b p k =
     let bytes : List ℕ = frameOf k o p .bytes in
     onEntry p (λ e. record { owner = e .owner; copies = withMember b (e .copies) })
-    (onBoard b (withFrame p (record { right = Copy; bytes = bytes })) (note b (Got GotCopy p) bytes k))
+    (onBoard b (withFrame p (record { right = Copy; bytes = bytes })) (note b (Got GotCopy p) o bytes k))
 
--- "record dropped and lose the right"
-unfoldable pub dropped : ℕ → Board → Board
-dropped p x = withFrame p emptyFrame (onWorking (recorded (Dropped p) (zeros pageSize)) x)
+-- "record dropped and lose the right"; it names "the writer in a dropped" (F-6), board w
+unfoldable pub dropped : (w p : ℕ) → Board → Board
+dropped w p x = withFrame p emptyFrame (onWorking (recorded (Dropped p) w (zeros pageSize)) x)
 
 -- the boards that pass a test do so together
-unfoldable pub dropAt : (ℕ → Bool) → ℕ → Bank → Bank
-dropAt loses p k =
-    record { directory = k .directory; boards = each (λ c x. elim (loses c) [ true ↦ dropped p x | false ↦ x ]) (k .boards) }
+unfoldable pub dropAt : (ℕ → Bool) → (w p : ℕ) → Bank → Bank
+dropAt loses w p k =
+    record { directory = k .directory; boards = each (λ c x. elim (loses c) [ true ↦ dropped w p x | false ↦ x ]) (k .boards) }
 
--- "Own write with copies out: each holder records dropped and loses its copy, the copy-set empties."
-unfoldable pub dropCopies : ℕ → Bank → Bank
-dropCopies p k =
-    onEntry p (λ e. record { owner = e .owner; copies = 0 }) (dropAt (λ c. member c (entryAt k p .copies)) p k)
+-- "Own write with copies out: each holder records dropped and loses its copy, the copy-set empties."; the writer is board w
+unfoldable pub dropCopies : (w p : ℕ) → Bank → Bank
+dropCopies w p k =
+    onEntry p (λ e. record { owner = e .owner; copies = 0 }) (dropAt (λ c. member c (entryAt k p .copies)) w p k)
 
 -- "then together owner and all copy holders but the writer record dropped and lose the right, the writer gains right own and the page,
 -- the directory names the writer, the copy-set empties"
@@ -314,11 +316,11 @@ unfoldable pub passOwnership : ℕ → ℕ → ℕ → Bank → Bank
 passOwnership o w p k =
     onEntry p (λ e. record { owner = w; copies = 0 })
     (onBoard w (withFrame p (record { right = Own; bytes = frameOf k o p .bytes }))
-    (dropAt (λ c. not (eqb c w) && (eqb c o || member c (entryAt k p .copies))) p k))
+    (dropAt (λ c. not (eqb c w) && (eqb c o || member c (entryAt k p .copies))) w p k))
 
--- "All givers record and store first, page by page." (F-3)
-unfoldable pub showAll : List ℕ → Run → Run
-showAll ps r = foldl (λ s p. show (giver GotCopy (s .bank) p) p s) r ps
+-- "All givers record and store first, page by page." (F-3), for board b
+unfoldable pub showAll : (b : ℕ) → List ℕ → Run → Run
+showAll b ps r = foldl (λ s p. show (giver GotCopy (s .bank) p) b p s) r ps
 
 -- "Only then are the copies taken, together. The got records follow each other, the later ones with count 0." (F-3)
 unfoldable pub giveCopies : ℕ → List ℕ → Bank → Bank
@@ -326,13 +328,13 @@ giveCopies b ps k = foldl (λ j p. giveCopy (giver GotCopy j p) b p j) k ps
 
 -- "Read fetch: owner records shown and flushes; reader records got copy, gains the copy and its bit.", each page from its giver
 unfoldable pub readFetch : ℕ → List ℕ → Run → Run
-readFetch b ps r = step (giveCopies b ps) (showAll ps r)
+readFetch b ps r = step (giveCopies b ps) (showAll b ps r)
 
 -- "Write fetch: owner records shown and flushes; writer records got own and flushes; then together .."
 unfoldable pub writeFetch : ℕ → ℕ → Run → Run
 writeFetch w p r =
     let o : ℕ = giver GotOwn (r .bank) p in
-    step (passOwnership o w p) (flush w (step (λ k. note w (Got GotOwn p) (frameOf k o p .bytes) k) (show o p r)))
+    step (passOwnership o w p) (flush w (step (λ k. note w (Got GotOwn p) o (frameOf k o p .bytes) k) (show o w p r)))
 
 -- the fetch that brings copies of pages, or ownership; a write names one page
 unfoldable pub fetch : CopyOrOwn → ℕ → List ℕ → Run → Run

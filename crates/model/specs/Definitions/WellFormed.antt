@@ -1,5 +1,6 @@
--- Document 01, "Well formed means": the clauses, one definition each, of a bank and their conjunction `WellFormed`; bytes are well formed
--- where they are the bytes of such a bank. What asks for a since or a count in range is said for any form, and by its plain name for today's.
+-- Document 01, "Well formed means", with document 02's F-6: the clauses, one definition each, of a bank and their conjunction `WellFormed`; bytes are well
+-- formed where they are the bytes of such a bank. What asks for a since or a count in range is said for any form, and by its plain name for today's; what is
+-- asked of a record's zero byte, which names a board today, for either rule.
 -- Check has the test of bytes, which Laws proves to say the same. Assumes nothing.
 use mathlib.Core.Path.{_≡_}
 use mathlib.Core.Logic.{_≢_}
@@ -34,10 +35,11 @@ isGot (Got g p) = true
 isGot (Shown p) = false
 isGot (Dropped p) = false
 
--- "records below a count valid": page below P, and "The 16 bytes are the page for got, else zero."
+-- "records below a count valid": page below P, a byte that names a board or is zero (PeersOkIn asks which), and "The 16 bytes are the page for got, else zero."
 pub record RecordOkIn (form : Form) (pages : ℕ) (r : Record) : Type 0 where
   pub count : r .count < byteValues ^ form .sinceWidth
   pub page : pageOf (r .kind) < pages
+  pub peer : r .peer < byteValues
   pub size : length (r .bytes) ≡ pageSize
   pub bytes : Bytes (r .bytes)
   pub plain : isGot (r .kind) ≡ false → r .bytes ≡ zeros pageSize
@@ -127,6 +129,22 @@ pub record BoardOkIn (form : Form) (k : Bank) (b : ℕ) : Type 0 where
   pub rights : RightsOk k b
   pub copies : CopiesOk k b
 
+-- ---- whom a record names: a clause of its own, since a block by itself doesn't know its board's number
+
+-- "The zero byte of a record now names a board"; "Well formed now requires this board below N and different from the log's own." (document 02, F-6). Where no
+-- record names a board it is document 01's "a zero byte".
+unfoldable pub PeerOk : (named : Bool) (boards b : ℕ) → Record → Type 0
+PeerOk true boards b r = (r .peer < boards) × (r .peer ≢ b)
+PeerOk false boards b r = r .peer ≡ 0
+
+-- of every record below a count in the logs of board b
+pub record PeersOkIn (named : Bool) (boards b : ℕ) (x : Board) : Type 0 where
+  pub volatile : Each (PeerOk named boards b) (x .working .log .records)
+  pub selected : Each (PeerOk named boards b) (x .stable .selected .log .records)
+  pub spare : Each (PeerOk named boards b) (x .stable .spare .log .records)
+
+-- ---- the bank
+
 -- the owner is a board; "no copy-set bit at or past N"; "The owner's bit is 0."
 pub record EntryOk (boards : ℕ) (e : Entry) : Type 0 where
   pub owner : e .owner < boards
@@ -140,17 +158,18 @@ pub record SizesOk (n p : ℕ) : Type 0 where
   pub somePage : 0 < p
   pub pages : p ≤ mostPages
 
--- the conjunction
-pub record WellFormedIn (form : Form) (k : Bank) : Type 0 where
+-- the conjunction, in a form and under a rule for names
+pub record WellFormedIn (form : Form) (named : Bool) (k : Bank) : Type 0 where
   pub sizes : SizesOk (length (k .boards)) (length (k .directory))
   pub directory : Each (EntryOk (length (k .boards))) (k .directory)
   pub boards : (b : ℕ) → b < length (k .boards) → BoardOkIn form k b
+  pub peers : (b : ℕ) → b < length (k .boards) → PeersOkIn named (length (k .boards)) b (boardAt k b)
 
 -- bytes are well formed where they are the bytes of a well-formed bank
-abbrev pub WellFormedBytesIn : Form → List ℕ → Type 0
-WellFormedBytesIn form s = (k : Bank) × WellFormedIn form k × (encodeIn form k ≡ s)
+abbrev pub WellFormedBytesIn : Form → Bool → List ℕ → Type 0
+WellFormedBytesIn form named s = (k : Bank) × WellFormedIn form named k × (encodeIn form k ≡ s)
 
--- ---- the same in today's form
+-- ---- the same in today's form, in which records name boards
 
 abbrev pub RecordOk : ℕ → Record → Type 0
 RecordOk = RecordOkIn today
@@ -170,11 +189,14 @@ FieldsOk = FieldsOkIn today
 abbrev pub BoardOk : Bank → ℕ → Type 0
 BoardOk = BoardOkIn today
 
+abbrev pub PeersOk : (boards b : ℕ) → Board → Type 0
+PeersOk = PeersOkIn true
+
 abbrev pub WellFormed : Bank → Type 0
-WellFormed = WellFormedIn today
+WellFormed = WellFormedIn today true
 
 abbrev pub WellFormedBytes : List ℕ → Type 0
-WellFormedBytes = WellFormedBytesIn today
+WellFormedBytes = WellFormedBytesIn today true
 
 -- ---- a state, as the calls ask for it
 

@@ -24,7 +24,7 @@ pub record SameCounters (x y : Board) : Type 0 where
 -- What one micro-step does to a board, with what holds of the board before it. A record is made, stored or lost, and an area selected, by the first four
 -- alone.
 pub data Change (x y : Board) : Type 0 where
-  Made : (kind : Kind) (bytes : List ℕ) → x .state ≡ Up → y ≡ onWorking (recorded kind bytes) x → Change x y
+  Made : (kind : Kind) (peer : ℕ) (bytes : List ℕ) → x .state ≡ Up → y ≡ onWorking (recorded kind peer bytes) x → Change x y
   Stored : x .state ≡ Up → y ≡ storedRecord x → Change x y
   -- the spare area's head is stored; a power loss right after the selector leaves the same board with the volatile log emptied or not
   Selected : x .state ≡ Up → x .stable .spare .number ≡ x .working .number → x .stable .spare .log .records ≡ []
@@ -56,7 +56,7 @@ unfoldable pub firstStored : Demand → Demand
 firstStored d = elim (d .made) [ [] ↦ d | n ∷ ns ↦ record { made = ns; point = n } ]
 
 unfoldable pub demandAfter : {x y : Board} → Change x y → Demand → Demand
-demandAfter {x} (Made kind bytes u e) d = record { made = d .made ++ (x .working .number ∷ []); point = d .point }
+demandAfter {x} (Made kind peer bytes u e) d = record { made = d .made ++ (x .working .number ∷ []); point = d .point }
 demandAfter (Stored u e) d = firstStored d
 demandAfter {x} (Selected u n r e) d = record { made = []; point = x .working .number }
 demandAfter (Lost e) d = record { made = []; point = d .point }

@@ -13,7 +13,7 @@ use Rattle.types.specs.declared.State.the-variants.{Replaying}
 use Rattle.types.specs.declared.Answer.{Answer}
 use Rattle.types.specs.declared.Outcome.{Outcome}
 use Rattle.types.specs.declared.Answer.the-variants.{Done, Malformed, OutOfRange, WrongState, CountersFull, ReplayDiffers, OwnerNotUp, LogFull, PowerLost}
-use Rattle.types.specs.declared.Answer.the-variants.{WrongCells}
+use Rattle.types.specs.declared.Answer.the-variants.{WrongCells, HasRecords}
 use Rattle.model.specs.Definitions.Parts.{zeros}
 use Rattle.model.specs.Definitions.Layout.{pageSize}
 use Rattle.model.specs.Definitions.Bank.{Bank, boardAt, onBoard, fresh}
@@ -91,6 +91,7 @@ eventOf c (OwnerNotUp b) given = Nothing
 eventOf c (LogFull b) given = Nothing
 eventOf c (PowerLost b) given = LostPower b
 eventOf c WrongCells given = Nothing
+eventOf c HasRecords given = Nothing
 
 -- how many entries a board has
 unfoldable pub entryCount : ℕ → History → ℕ

@@ -33,7 +33,7 @@ use Rattle.model.specs.Laws.Valid.{frameOk-empty, frameOk-at}
 pub isBank-test : (s : List ℕ) → wellFormed s ≡ true → IsBank s
 isBank-test s v =
     let w : WellFormed (decode s) = wellFormed-sound s v in
-    record { back = encode-decode today s v; fields = fields-of (decode s) w; sizes = w .sizes }
+    record { back = encode-decode today true s v; fields = fields-of (decode s) w; sizes = w .sizes }
 
 module _ (k : Bank) where
   pub isBank-encode : Fields k → SizesOk (length (k .boards)) (length (k .directory)) → IsBank (encode k)

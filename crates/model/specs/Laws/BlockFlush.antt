@@ -100,7 +100,7 @@ storedRecords zero x = x
 storedRecords (suc j) x = storedRecord (storedRecords j x)
 
 abbrev anyRecord : Record
-anyRecord = record { count = 0; kind = Shown 0; bytes = [] }
+anyRecord = record { count = 0; kind = Shown 0; peer = 0; bytes = [] }
 
 -- each store takes the next of the records that were volatile at first
 pub storedRecords-parts : (j : ℕ) (x : Board) → j ≤ length (x .working .log .records)

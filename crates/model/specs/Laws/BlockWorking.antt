@@ -1,7 +1,7 @@
 -- Steps of a board's working part as writes into its block: a record noted, an access, a checkpoint's end, a power loss, and what a flush leaves.
 -- Restart and replay are in BlockReplay. Assumes nothing.
 use mathlib.Core.Path.{_≡_, refl, sym, ap, _∙_}
-use Prim.Native.Nat.{ℕ, suc, _+_, _-_, _*_, _≤_, _<_}
+use Prim.Native.Nat.{ℕ, suc, _+_, _*_, _≤_, _<_}
 use native.Mathlib.Omega.{arith}
 use native.Mathlib.Nat.{add-zero}
 use mathlib.Core.List.{List, [], _∷_, _++_, map, append-assoc}
@@ -63,8 +63,8 @@ emptyLog-none = refl
 -- ---- a record noted
 
 -- "takes the board's since as its count"
-abbrev pub noted : Kind → List ℕ → Board → Record
-noted kind bytes x = record { count = x .working .since; kind = kind; bytes = bytes }
+abbrev pub noted : Kind → (peer : ℕ) → List ℕ → Board → Record
+noted kind peer bytes x = record { count = x .working .since; kind = kind; peer = peer; bytes = bytes }
 
 -- "It enters the volatile log", then since becomes 0: the slot behind the last record, the count, since
 abbrev pub recordWritten : ℕ → Record → Board → List ℕ
@@ -85,13 +85,13 @@ encode-slotWritten pages r g ok =
     splice-append-right (encodeAll encodeRecord (g .records)) (g .rest) (length (g .records) * slotSize) 0 (encodeRecord r)
     (rw (length-encodeRecords pages (g .records) (ok .records)) (omega arith))
 
-module _ (pages : ℕ) (x : Board) (ok : FieldsOk pages x) (kind : Kind) (bytes : List ℕ) (v : RecordOk pages (noted kind bytes x))
+module _ (pages : ℕ) (x : Board) (ok : FieldsOk pages x) (kind : Kind) (peer : ℕ) (bytes : List ℕ) (v : RecordOk pages (noted kind peer bytes x))
     (room : length (x .working .log .records) < slotCount) where
-  pub recorded-bytes : recordWritten pages (noted kind bytes x) x ≡ encodeBoard (onWorking (recorded kind bytes) x)
+  pub recorded-bytes : recordWritten pages (noted kind peer bytes x) x ≡ encodeBoard (onWorking (recorded kind peer bytes) x)
   unfolding onWorking recorded appended slotWritten
   recorded-bytes =
       let g : Log = x .working .log in
-      let r : Record = noted kind bytes x in
+      let r : Record = noted kind peer bytes x in
       let n : length (encodeRecord r) ≡ slotSize = length-encodeRecord today r (v .size) in
       let c : length (g .records) + 1 ≡ length (appended r g .records) = sym (length-append (g .records) (r ∷ [])) in
       let w : splice (encodeLog g) (length (g .records) * slotSize) (encodeRecord r) ≡ encodeLog (slotWritten r g)

@@ -16,7 +16,7 @@ use Rattle.types.specs.declared.Record.{Record}
 use Rattle.types.specs.declared.State.{State}
 use Rattle.types.specs.declared.State.the-variants.{Up, Replaying}
 use Rattle.model.specs.Definitions.Parts.{zeros}
-use Rattle.model.specs.Definitions.Layout.{pageSize, noFuse, mostPages, lastSince, lastNumber}
+use Rattle.model.specs.Definitions.Layout.{byteValues, pageSize, noFuse, mostPages, lastSince, lastNumber}
 use Rattle.model.specs.Definitions.Bank.{Area, Working, Stable, Board, emptyFrame, frameAt, withState, withWorking, withStable, onWorking, onSelected}
 use Rattle.model.specs.Definitions.Bank.{onSpare, onFrames}
 use Rattle.model.specs.Definitions.Codec.{pageOf}
@@ -81,10 +81,10 @@ module _ {pages : ℕ} {x : Board} (ok : FieldsOk pages x) where
 
   -- ---- records
 
-  pub recorded-fields : (kind : Kind) (bytes : List ℕ) → Recordable pages kind bytes → Space x → FieldsOk pages (onWorking (recorded kind bytes) x)
+  pub recorded-fields : (kind : Kind) (peer : ℕ) (bytes : List ℕ) → Recordable pages kind peer bytes → Space x → FieldsOk pages (onWorking (recorded kind peer bytes) x)
   unfolding recorded
-  recorded-fields kind bytes v h =
-      onWorking-fields (recorded kind bytes)
+  recorded-fields kind peer bytes v h =
+      onWorking-fields (recorded kind peer bytes)
       (workingOk-since (workingOk-log (ok .working) (logOk-appended (ok .working .log) (v (x .working .since) (omega (arith, ok .working .since))) h)) 0
       (omega arith))
 
@@ -155,17 +155,17 @@ module _ (pages : ℕ) (x : Board) (ok : FieldsOk pages x) where
 -- ---- fetches
 
 -- a board that loses its right to page p
-pub dropped-fields : {pages : ℕ} {x : Board} → FieldsOk pages x → (p : ℕ) → p < pages → Space x → FieldsOk pages (dropped p x)
+pub dropped-fields : {pages : ℕ} {x : Board} → FieldsOk pages x → (w p : ℕ) → p < pages → w < byteValues → Space x → FieldsOk pages (dropped w p x)
 unfolding dropped pageOf isGot
-dropped-fields ok p h s =
-    withFrame-fields (recorded-fields ok (Dropped p) (zeros pageSize) (recordable-plain (Dropped p) refl h) s) p emptyFrame frameOk-empty
+dropped-fields ok w p h i s =
+    withFrame-fields (recorded-fields ok (Dropped p) w (zeros pageSize) (recordable-plain (Dropped p) refl h i) s) p emptyFrame frameOk-empty
 
 -- a board that takes a page with the bytes of a frame, as a copy or as its own
-pub tookCopy-fields : {pages : ℕ} {x : Board} → FieldsOk pages x → (p : ℕ) (f : Frame) → FrameOk f → p < pages → Space x
-    → FieldsOk pages (tookCopy p (f .bytes) x)
+pub tookCopy-fields : {pages : ℕ} {x : Board} → FieldsOk pages x → (o p : ℕ) (f : Frame) → FrameOk f → p < pages → o < byteValues → Space x
+    → FieldsOk pages (tookCopy o p (f .bytes) x)
 unfolding tookCopy
-tookCopy-fields ok p f v h s =
-    withFrame-fields (recorded-fields ok (Got GotCopy p) (f .bytes) (recordable-got GotCopy v h) s) p
+tookCopy-fields ok o p f v h i s =
+    withFrame-fields (recorded-fields ok (Got GotCopy p) o (f .bytes) (recordable-got GotCopy v h i) s) p
     (record { right = Copy; bytes = f .bytes }) (frameOk-right Copy copy-some v)
 
 pub tookOwn-fields : {pages : ℕ} {x : Board} → FieldsOk pages x → (p : ℕ) (f : Frame) → FrameOk f → FieldsOk pages (tookOwn p (f .bytes) x)

@@ -24,8 +24,7 @@ use Rattle.model.specs.Definitions.Codec.{rightByte, decodeEntry, decode
 use Rattle.model.specs.Definitions.Codec.{decodeAreaIn, decodeBoardIn}
 use Rattle.model.specs.Definitions.WellFormed.{FuseOk, RoomOk, PlaceOk, ReplayingOk, IsEmpty, Blank, DownOk, rightIn, FieldsOkIn, BoardOkIn}
 use Rattle.model.specs.Definitions.Check.{isZero, areaCount, countsValid, framesValid, allFramesValid, fieldsValid, selectedCount, isBlank, stateValid}
-use Rattle.model.specs.Definitions.Check.{boardValid, pageAgrees, pageAgreesAt, pagesAgree, slotValid, storedValid, slotsValid, recordValid}
-use Rattle.model.specs.Definitions.Check.{recordsValid}
+use Rattle.model.specs.Definitions.Check.{boardValid, pageAgrees, pageAgreesAt, pagesAgree, slotValid, recordPasses, storedPasses, slotsPass, recordsPass}
 use Rattle.model.specs.Laws.Lists.{each-head, each-tail}
 use Rattle.model.specs.Laws.Parts.{length-part, part-part, byteAt-part, index-in}
 use Rattle.model.specs.Laws.CodecBack.{FramesPass, LogPasses, AreaPasses, Readable, length-decodeLog}
@@ -41,11 +40,10 @@ says-frames pages a l =
     says-below pages _
     (λ p h. rw (part-part l a (pages * frameSize) (p * frameSize) frameSize (index-in frameSize pages p h)) (λ t. t, λ t. t))
 
-says-record : (form : Form) (pages a count : ℕ) (l : List ℕ) (i : ℕ) → i < slotCount
-    → Says (recordValid form pages a count l i) (i < count → slotValid form pages (part (part l a (slotsSizeIn form)) (i * slotSizeIn form) (slotSizeIn form))
-    ≡ true)
-unfolding recordValid
-says-record form pages a count l i h =
+pub says-record : (form : Form) (test : List ℕ → Bool) (a count : ℕ) (l : List ℕ) (i : ℕ) → i < slotCount
+    → Says (recordPasses form test a count l i) (i < count → test (part (part l a (slotsSizeIn form)) (i * slotSizeIn form) (slotSizeIn form)) ≡ true)
+unfolding recordPasses
+says-record form test a count l i h =
     rw (part-part l a (slotsSizeIn form) (i * slotSizeIn form) (slotSizeIn form) (index-in (slotSizeIn form) slotCount i h)) (says-when _ (says-lt i count))
 
 -- an area is its part of the block
@@ -56,11 +54,11 @@ module _ (form : Form) (pages area : ℕ) (l : List ℕ) where
   frames-place : part own areaFramesAt (pages * frameSize) ≡ part l (areaAtIn form pages area + areaFramesAt) (pages * frameSize)
   frames-place = part-part l (areaAtIn form pages area) (areaSizeIn form pages) areaFramesAt (pages * frameSize) (omega arith)
 
-  count-place : byteAt own areaCountAt ≡ areaCount form pages area l
+  pub count-place : byteAt own areaCountAt ≡ areaCount form pages area l
   unfolding areaCount
   count-place = byteAt-part l (areaAtIn form pages area) (areaSizeIn form pages) areaCountAt (omega arith)
 
-  slots-place : part own (areaSlotsAt pages) (slotsSizeIn form) ≡ part l (areaAtIn form pages area + areaSlotsAt pages) (slotsSizeIn form)
+  pub slots-place : part own (areaSlotsAt pages) (slotsSizeIn form) ≡ part l (areaAtIn form pages area + areaSlotsAt pages) (slotsSizeIn form)
   slots-place = part-part l (areaAtIn form pages area) (areaSizeIn form pages) (areaSlotsAt pages) (slotsSizeIn form) (omega arith)
 
   area-of-parts : FramesPass pages (part l (areaAtIn form pages area + areaFramesAt) (pages * frameSize))
@@ -75,8 +73,8 @@ module _ (form : Form) (pages area : ℕ) (l : List ℕ) where
       (part l (areaAtIn form pages area + areaSlotsAt pages) (slotsSizeIn form))
   log-of-area r = rw (count-place, slots-place) at (r .log)
 
-pub says-readable : {form : Form} (pages : ℕ) (l : List ℕ) → Says (fieldsValid form pages l && recordsValid form pages l) (Readable form pages l)
-unfolding fieldsValid countsValid allFramesValid recordsValid slotsValid storedValid
+pub says-readable : {form : Form} (pages : ℕ) (l : List ℕ) → Says (fieldsValid form pages l && recordsPass form (slotValid form pages) pages l) (Readable form pages l)
+unfolding fieldsValid countsValid allFramesValid recordsPass slotsPass storedPasses
 says-readable {form} pages l =
     let v : ℕ = byteAt l (volatileCountAtIn form) in
     let stored : ℕ → ℕ = λ area. areaCount form pages area l in
@@ -88,11 +86,12 @@ says-readable {form} pages l =
     (says-and (says-le v slotCount) (says-and (says-le (stored 0) slotCount) (says-le (stored 1) slotCount)))
     (says-and (says-frames pages (framesAtIn form) l)
     (says-and (says-frames pages (areaAtIn form pages 0 + areaFramesAt) l) (says-frames pages (areaAtIn form pages 1 + areaFramesAt) l))))) in
+    let valid : List ℕ → Bool = slotValid form pages in
     let records =
-    says-below slotCount (slotsValid form pages l)
+    says-below slotCount (slotsPass form valid pages l)
     (λ i h.
-    says-and (says-record form pages (slotsAtIn form pages) v l i h)
-    (says-and (says-record form pages (start 0) (stored 0) l i h) (says-record form pages (start 1) (stored 1) l i h))) in
+    says-and (says-record form valid (slotsAtIn form pages) v l i h)
+    (says-and (says-record form valid (start 0) (stored 0) l i h) (says-record form valid (start 1) (stored 1) l i h))) in
     let all = says-and fields records in (
       λ t.
           let q = all .0 t in
@@ -147,7 +146,7 @@ says-empties (suc n) l e =
     rw split (λ h. each-cons (both .0 h .0) (both .0 h .1), λ h. both .1 (each-head h, each-tail h))
 
 -- a count is the number of records that were read
-counted-area : (form : Form) (pages area : ℕ) (l : List ℕ)
+pub counted-area : (form : Form) (pages area : ℕ) (l : List ℕ)
     → length (decodeAreaIn form pages (part l (areaAtIn form pages area) (areaSizeIn form pages)) .log .records) ≡ areaCount form pages area l
 unfolding decodeAreaIn
 counted-area form pages area l =
@@ -165,7 +164,7 @@ counted-stable form pages l false = counted-area form pages 0 l
 counted-stable form pages l true = counted-area form pages 1 l
 
 module _ (form : Form) (pages : ℕ) (l : List ℕ) where
-  counted-volatile : length (decodeBoardIn form pages l .working .log .records) ≡ byteAt l (volatileCountAtIn form)
+  pub counted-volatile : length (decodeBoardIn form pages l .working .log .records) ≡ byteAt l (volatileCountAtIn form)
   unfolding decodeBoardIn
   counted-volatile = length-decodeLog form (byteAt l (volatileCountAtIn form)) (part l (slotsAtIn form pages) (slotsSizeIn form))
 

@@ -19,10 +19,10 @@ use Rattle.model.specs.Definitions.Parts.{update, each, member, withMemb
 use Rattle.model.specs.Definitions.Bank.{Entry, Board, Bank, emptyFrame, noBoard, boardAt, entryAt, frameAt, onBoard, onEntry, onWorking, noEntry}
 use Rattle.model.specs.Definitions.Steps.{poweredOff, forgotten, powerOff, recorded, note, movedRecord, storedRecord, withFrame, frameOf, giveCopy}
 use Rattle.model.specs.Definitions.Steps.{dropped, dropAt, dropCopies, passOwnership, Access}
-use Rattle.model.specs.Definitions.Replay.{usedUp, due, tookDue, replayed}
+use Rattle.model.specs.Definitions.Replay.{usedUp, tookDue, replayed}
 use Rattle.words.specs.Bytes.{Each, each-nil, each-cons}
 use Rattle.model.specs.Definitions.WellFormed.{rightIn}
-use Rattle.model.specs.Laws.Logic.{byBool, casesOption}
+use Rattle.model.specs.Laws.Logic.{byBool}
 use Rattle.model.specs.Laws.Lists.{each-head, each-tail, length-update, getD-update-same, getD-update-other, length-each, getD-each}
 
 -- ---- lists: what the laws of Lists leave out
@@ -173,22 +173,22 @@ module _ (b : ℕ) (k : Bank) where
 
 -- ---- a copy given
 
--- the board that takes a copy with these bytes
-unfoldable pub tookCopy : ℕ → List ℕ → Board → Board
-tookCopy p bytes x = withFrame p (record { right = Copy; bytes = bytes }) (onWorking (recorded (Got GotCopy p) bytes) x)
+-- the board that takes a copy with these bytes from board o
+unfoldable pub tookCopy : (o p : ℕ) → List ℕ → Board → Board
+tookCopy o p bytes x = withFrame p (record { right = Copy; bytes = bytes }) (onWorking (recorded (Got GotCopy p) o bytes) x)
 
 unfoldable pub withCopy : ℕ → Entry → Entry
 withCopy b e = record { owner = e .owner; copies = withMember b (e .copies) }
 
 module _ (o b p : ℕ) (k : Bank) where
   abbrev copied : Board → Board
-  copied = tookCopy p (frameOf k o p .bytes)
+  copied = tookCopy o p (frameOf k o p .bytes)
 
-  pub giveCopy-parts : giveCopy o b p k ≡ onEntry p (withCopy b) (onBoard b (tookCopy p (frameOf k o p .bytes)) k)
+  pub giveCopy-parts : giveCopy o b p k ≡ onEntry p (withCopy b) (onBoard b (tookCopy o p (frameOf k o p .bytes)) k)
   unfolding giveCopy note tookCopy withCopy
   giveCopy-parts =
       let bytes : List ℕ = frameOf k o p .bytes in
-      rw (onBoard-onBoard b (onWorking (recorded (Got GotCopy p) bytes)) (withFrame p (record { right = Copy; bytes = bytes })) k)
+      rw (onBoard-onBoard b (onWorking (recorded (Got GotCopy p) o bytes)) (withFrame p (record { right = Copy; bytes = bytes })) k)
 
   pub boards-giveCopy : length (giveCopy o b p k .boards) ≡ length (k .boards)
   unfolding onEntry
@@ -198,7 +198,7 @@ module _ (o b p : ℕ) (k : Bank) where
   unfolding onBoard
   directory-giveCopy = rw giveCopy-parts (directory-onEntry p (withCopy b) (onBoard b copied k))
 
-  pub boardAt-giveCopy-same : b < length (k .boards) → boardAt (giveCopy o b p k) b ≡ tookCopy p (frameOf k o p .bytes) (boardAt k b)
+  pub boardAt-giveCopy-same : b < length (k .boards) → boardAt (giveCopy o b p k) b ≡ tookCopy o p (frameOf k o p .bytes) (boardAt k b)
   boardAt-giveCopy-same h = rw (giveCopy-parts, boardAt-onEntry) (boardAt-same b copied k h)
 
   pub boardAt-giveCopy-other : (c : ℕ) → c ≢ b → boardAt (giveCopy o b p k) c ≡ boardAt k c
@@ -206,46 +206,46 @@ module _ (o b p : ℕ) (k : Bank) where
 
 -- ---- boards that lose a right
 
--- a board that loses its right, if the test says so
-unfoldable pub droppedIf : Bool → ℕ → Board → Board
-droppedIf t p x = elim t [ true ↦ dropped p x | false ↦ x ]
+-- a board that loses its right to writer w, if the test says so
+unfoldable pub droppedIf : Bool → (w p : ℕ) → Board → Board
+droppedIf t w p x = elim t [ true ↦ dropped w p x | false ↦ x ]
 
-module _ (loses : ℕ → Bool) (p : ℕ) (k : Bank) where
-  pub boards-dropAt : length (dropAt loses p k .boards) ≡ length (k .boards)
+module _ (loses : ℕ → Bool) (w p : ℕ) (k : Bank) where
+  pub boards-dropAt : length (dropAt loses w p k .boards) ≡ length (k .boards)
   unfolding dropAt
-  boards-dropAt = length-each (λ c x. elim (loses c) [ true ↦ dropped p x | false ↦ x ]) (k .boards)
+  boards-dropAt = length-each (λ c x. elim (loses c) [ true ↦ dropped w p x | false ↦ x ]) (k .boards)
 
-  pub boardAt-dropAt : (c : ℕ) → c < length (k .boards) → boardAt (dropAt loses p k) c ≡ droppedIf (loses c) p (boardAt k c)
+  pub boardAt-dropAt : (c : ℕ) → c < length (k .boards) → boardAt (dropAt loses w p k) c ≡ droppedIf (loses c) w p (boardAt k c)
   unfolding dropAt boardAt droppedIf
-  boardAt-dropAt c h = getD-each c (λ c x. elim (loses c) [ true ↦ dropped p x | false ↦ x ]) (k .boards) noBoard h
+  boardAt-dropAt c h = getD-each c (λ c x. elim (loses c) [ true ↦ dropped w p x | false ↦ x ]) (k .boards) noBoard h
 
 -- ---- the copies of a page dropped
 
 unfoldable pub withoutCopies : Entry → Entry
 withoutCopies e = record { owner = e .owner; copies = 0 }
 
-module _ (p : ℕ) (k : Bank) where
+module _ (w p : ℕ) (k : Bank) where
   abbrev pub holds : ℕ → Bool
   holds c = member c (entryAt k p .copies)
 
-  pub dropCopies-parts : dropCopies p k ≡ onEntry p withoutCopies (dropAt holds p k)
+  pub dropCopies-parts : dropCopies w p k ≡ onEntry p withoutCopies (dropAt holds w p k)
   unfolding dropCopies withoutCopies
   dropCopies-parts = refl
 
-  pub boards-dropCopies : length (dropCopies p k .boards) ≡ length (k .boards)
+  pub boards-dropCopies : length (dropCopies w p k .boards) ≡ length (k .boards)
   unfolding dropCopies onEntry
-  boards-dropCopies = boards-dropAt holds p k
+  boards-dropCopies = boards-dropAt holds w p k
 
-  pub directory-dropCopies : length (dropCopies p k .directory) ≡ length (k .directory)
+  pub directory-dropCopies : length (dropCopies w p k .directory) ≡ length (k .directory)
   unfolding dropAt
-  directory-dropCopies = rw dropCopies-parts (directory-onEntry p withoutCopies (dropAt holds p k))
+  directory-dropCopies = rw dropCopies-parts (directory-onEntry p withoutCopies (dropAt holds w p k))
 
-  pub boardAt-dropCopies : (c : ℕ) → c < length (k .boards) → boardAt (dropCopies p k) c ≡ droppedIf (holds c) p (boardAt k c)
-  boardAt-dropCopies c h = rw (dropCopies-parts, boardAt-onEntry) (boardAt-dropAt holds p k c h)
+  pub boardAt-dropCopies : (c : ℕ) → c < length (k .boards) → boardAt (dropCopies w p k) c ≡ droppedIf (holds c) w p (boardAt k c)
+  boardAt-dropCopies c h = rw (dropCopies-parts, boardAt-onEntry) (boardAt-dropAt holds w p k c h)
 
-  pub entryAt-dropCopies-same : p < length (k .directory) → entryAt (dropCopies p k) p ≡ withoutCopies (entryAt k p)
+  pub entryAt-dropCopies-same : p < length (k .directory) → entryAt (dropCopies w p k) p ≡ withoutCopies (entryAt k p)
   unfolding dropAt entryAt
-  entryAt-dropCopies-same h = rw dropCopies-parts (entryAt-same p withoutCopies (dropAt holds p k) h)
+  entryAt-dropCopies-same h = rw dropCopies-parts (entryAt-same p withoutCopies (dropAt holds w p k) h)
 
 -- ---- a page passed on
 
@@ -264,34 +264,34 @@ module _ (o w p : ℕ) (k : Bank) where
   abbrev taken : Board → Board
   taken = tookOwn p (frameOf k o p .bytes)
 
-  pub passOwnership-parts : passOwnership o w p k ≡ onEntry p (ownedBy w) (onBoard w (tookOwn p (frameOf k o p .bytes)) (dropAt loses p k))
+  pub passOwnership-parts : passOwnership o w p k ≡ onEntry p (ownedBy w) (onBoard w (tookOwn p (frameOf k o p .bytes)) (dropAt loses w p k))
   unfolding passOwnership ownedBy tookOwn
   passOwnership-parts = refl
 
   pub boards-passOwnership : length (passOwnership o w p k .boards) ≡ length (k .boards)
   unfolding onEntry
-  boards-passOwnership = rw passOwnership-parts (boards-onBoard w taken (dropAt loses p k) ∙ boards-dropAt loses p k)
+  boards-passOwnership = rw passOwnership-parts (boards-onBoard w taken (dropAt loses w p k) ∙ boards-dropAt loses w p k)
 
   pub directory-passOwnership : length (passOwnership o w p k .directory) ≡ length (k .directory)
   unfolding onBoard dropAt
-  directory-passOwnership = rw passOwnership-parts (directory-onEntry p (ownedBy w) (onBoard w taken (dropAt loses p k)))
+  directory-passOwnership = rw passOwnership-parts (directory-onEntry p (ownedBy w) (onBoard w taken (dropAt loses w p k)))
 
   pub boardAt-passOwnership-same : w < length (k .boards) → boardAt (passOwnership o w p k) w ≡ tookOwn p (frameOf k o p .bytes) (boardAt k w)
   unfolding droppedIf
   boardAt-passOwnership-same h =
-      let l : w < length (dropAt loses p k .boards) = rw (boards-dropAt loses p k) h in
-      let e : boardAt (dropAt loses p k) w ≡ boardAt k w = cc (boardAt-dropAt loses p k w h, eq-eqb w w refl) in
-      rw (passOwnership-parts, boardAt-onEntry) (boardAt-same w taken (dropAt loses p k) l ∙ ap taken e)
+      let l : w < length (dropAt loses w p k .boards) = rw (boards-dropAt loses w p k) h in
+      let e : boardAt (dropAt loses w p k) w ≡ boardAt k w = cc (boardAt-dropAt loses w p k w h, eq-eqb w w refl) in
+      rw (passOwnership-parts, boardAt-onEntry) (boardAt-same w taken (dropAt loses w p k) l ∙ ap taken e)
 
   pub boardAt-passOwnership-other : (c : ℕ) → c < length (k .boards) → c ≢ w
-      → boardAt (passOwnership o w p k) c ≡ droppedIf (eqb c o || member c (entryAt k p .copies)) p (boardAt k c)
+      → boardAt (passOwnership o w p k) c ≡ droppedIf (eqb c o || member c (entryAt k p .copies)) w p (boardAt k c)
   boardAt-passOwnership-other c h n =
       let e : loses c ≡ (eqb c o || member c (entryAt k p .copies)) = cc (ne-eqb c w n) in
-      rw (passOwnership-parts, boardAt-onEntry, ← e) (boardAt-other w taken (dropAt loses p k) c n ∙ boardAt-dropAt loses p k c h)
+      rw (passOwnership-parts, boardAt-onEntry, ← e) (boardAt-other w taken (dropAt loses w p k) c n ∙ boardAt-dropAt loses w p k c h)
 
   pub entryAt-passOwnership-same : p < length (k .directory) → entryAt (passOwnership o w p k) p ≡ record { owner = w; copies = 0 }
   unfolding onBoard dropAt ownedBy
-  entryAt-passOwnership-same h = rw passOwnership-parts (entryAt-same p (ownedBy w) (onBoard w taken (dropAt loses p k)) h)
+  entryAt-passOwnership-same h = rw passOwnership-parts (entryAt-same p (ownedBy w) (onBoard w taken (dropAt loses w p k)) h)
 
 -- ---- a repeated access leaves its board's state
 

@@ -18,7 +18,7 @@ use Rattle.types.specs.declared.CopyOrOwn.the-variants.{GotCopy, GotOwn}
 use Rattle.types.specs.declared.State.the-variants.{Up}
 use Rattle.types.specs.declared.Answer.{Answer}
 use Rattle.types.specs.declared.Answer.the-variants.{Done, Malformed, OutOfRange, WrongState, CountersFull, ReplayDiffers, OwnerNotUp, LogFull, PowerLost}
-use Rattle.types.specs.declared.Answer.the-variants.{WrongCells}
+use Rattle.types.specs.declared.Answer.the-variants.{WrongCells, HasRecords}
 use Rattle.model.specs.Definitions.Bank.{Board, Bank, boardAt, frameAt, onBoard, onWorking, onFrames}
 use Rattle.model.specs.Definitions.Codec.{encode, decode}
 use Rattle.model.specs.Definitions.WellFormed.{isReplaying, WellFormed}
@@ -38,7 +38,7 @@ use Rattle.model.specs.Laws.Lists.{each-head, each-tail, each-imp, map-e
 use Rattle.model.specs.Laws.Below.{Rising, rising-each, listed, lackingPages-lack, lackingPages-rise, has-right, read-named}
 use Rattle.model.specs.Laws.Boards.{frameAt-same, tookCopy, boardAt-same, boardAt-other, boardAt-giveCopy-same, boardAt-giveCopy-other}
 use Rattle.model.specs.Laws.States.{SameStates, states-onBoard}
-use Rattle.model.specs.Laws.Runs.{SameSizes, finished-run, step-none, step-done, step-going}
+use Rattle.model.specs.Laws.Runs.{SameSizes, finished-run, step-none, step-done}
 use Rattle.model.specs.Laws.Keeps.Clauses.{fits, up-below}
 use Rattle.model.specs.Laws.Keeps.Rights.{or-cases, or-none}
 use Rattle.model.specs.Laws.Keeps.Fetches.{Taken}
@@ -111,7 +111,7 @@ each-listed q [] e t = clash t refl
 each-listed q (p ∷ ps) e t = or-cases (eqb p q) (listed q ps) t (λ s. rw (← eqb-true p q s) (each-head e)) (λ s. each-listed q ps (each-tail e) s)
 
 -- copies given leave all other boards, and who gives other pages
-copies-others : (b : ℕ) (ps : List ℕ) (k : Bank) (c : ℕ) → c ≢ b → boardAt (giveCopies b ps k) c ≡ boardAt k c
+pub copies-others : (b : ℕ) (ps : List ℕ) (k : Bank) (c : ℕ) → c ≢ b → boardAt (giveCopies b ps k) c ≡ boardAt k c
 unfolding giveCopies
 copies-others b [] k c n = refl
 copies-others b (p ∷ ps) k c n =
@@ -159,7 +159,7 @@ fetch-sees : (b p : ℕ) (ps : List ℕ) (s : Run) → WellFormed (s .bank) → 
 unfolding readFetch frameOf rightGot
 fetch-sees b p ps s w c lack r n =
     let qs : List ℕ = p ∷ ps in
-    let u : Run = showAll qs s in
+    let u : Run = showAll b qs s in
     let e : u .lost ≡ none = step-none (giveCopies b qs) u n in
     let t : Shared b (s .bank) (u .bank) = showAll-shared b qs s c e in
     let can : CanTake b qs (u .bank) = shown-take b qs s w c lack e in
@@ -213,8 +213,47 @@ finished-none v given r w d =
     (λ n. (n, cc, cc))
     (λ c e. let z : _≡_ {A = ℕ} 0 1 = cc in absurd (omega arith))
 
+-- so a done access passed the tests on entry ..
+pub access-done : (b : ℕ) (a : Access) (k : Bank) (v : ℕ) → accessBank b a k .answer ≡ Done v
+    → (firstOf (accessRefusals b a k) ≡ none)
+    × (accessBank b a k ≡ elim (isReplaying (boardAt k b .state)) [ true ↦ replaying b a k | false ↦ live b a (start k) ])
+unfolding accessWithin refusalsWithin
+access-done b a k v d =
+    unless-done (accessRefusals b a k) (start k) _ v
+    (each-cons (λ e. never (cc)) (each-cons (λ e. never (cc)) (each-cons (λ e. never (cc))
+    (each-cons (λ e. never (cc)) (each-cons (λ e. never (cc)) each-nil)))))
+    d
+
+-- .. and, where it goes on live, codes 6 and 7, lost no power and answers what it read
+pub record LiveDone (b : ℕ) (a : Access) (r : Run) (v : ℕ) : Type 0 where
+  pub passed : firstOf (liveRefusals b a (r .bank)) ≡ none
+  pub going : prepared b a r .lost ≡ none
+  pub value : valueOf a (boardAt (prepared b a r .bank) b .working .frames) ≡ v
+  pub given : live b a r .given ≡ givenOf a (boardAt (prepared b a r .bank) b .working .frames)
+  pub bank : live b a r .run .bank ≡ access b a (prepared b a r .bank)
+
+pub live-done : (b : ℕ) (a : Access) (r : Run) (v : ℕ) → live b a r .answer ≡ Done v → LiveDone b a r v
+unfolding live liveRefusals performed
+live-done b a r v d =
+    let s : Run = prepared b a r in
+    let fs : List Frame = boardAt (s .bank) b .working .frames in
+    let last : Result = performed b a s in
+    let one : (firstOf (liveRefusals b a (r .bank)) ≡ none) × (live b a r ≡ last) =
+    unless-done (liveRefusals b a (r .bank)) r last v (each-cons (λ e. never (cc)) (each-cons (λ e. never (cc)) each-nil)) d in
+    let two : (step (access b a) s .lost ≡ none) × (last .given ≡ givenOf a fs) × (valueOf a fs ≡ v) =
+    finished-none (valueOf a fs) (givenOf a fs) (step (access b a) s) v (ap (λ (t : Result). t .answer) (sym (one .1)) ∙ d) in
+    record {
+      passed = one .0;
+      going = step-none (access b a) s (two .0);
+      value = two .2;
+      given = ap (λ (t : Result). t .given) (one .1) ∙ two .1;
+      bank =
+          ap (λ (t : Result). t .run .bank) (one .1)
+          ∙ (ap (λ (q : Run). q .bank) (finished-run (valueOf a fs) (givenOf a fs) (step (access b a) s)) ∙ step-done (access b a) s (two .0));
+    }
+
 -- an access writes nothing that takes copies
-copy-writes : (a : Access) → takes a ≡ GotCopy → cellsWritten a ≡ []
+pub copy-writes : (a : Access) → takes a ≡ GotCopy → cellsWritten a ≡ []
 unfolding takes cellsWritten
 copy-writes (Read p o) e = refl
 copy-writes (Write p o v) e = let z : _≡_ {A = ℕ} 0 1 = cc in absurd (omega arith)
@@ -327,42 +366,27 @@ access-frames b a k copy l c =
 
 module _ (b : ℕ) (a : Access) (k : Bank) (w : WellFormed k) (up : boardAt k b .state ≡ Up) (copy : takes a ≡ GotCopy) where
   pub read-done : (v : ℕ) → accessBank b a k .answer ≡ Done v → ReadDone b a k v
-  unfolding accessWithin refusalsWithin live liveRefusals performed isReplaying start
+  unfolding isReplaying start
   read-done v d =
       let r : Run = prepared b a (start k) in
-      let fs : List Frame = boardAt (r .bank) b .working .frames in
-      let go : Result = elim (isReplaying (boardAt k b .state)) [ true ↦ replaying b a k | false ↦ live b a (start k) ] in
-      let one : (firstOf (accessRefusals b a k) ≡ none) × (unless (accessRefusals b a k) (start k) go ≡ go) =
-      unless-done (accessRefusals b a k) (start k) go v
-      (each-cons (λ e. never (cc)) (each-cons (λ e. never (cc)) (each-cons (λ e. never (cc))
-      (each-cons (λ e. never (cc)) (each-cons (λ e. never (cc)) each-nil)))))
-      d in
+      let (entry, go) = access-done b a k v d in
       let idle : isReplaying (boardAt k b .state) ≡ false = ap isReplaying up in
-      let on : go ≡ live b a (start k) = cc in
-      let last : Result = performed b a r in
-      let two : (firstOf (liveRefusals b a k) ≡ none) × (unless (liveRefusals b a k) (start k) last ≡ last) =
-      unless-done (liveRefusals b a k) (start k) last v (each-cons (λ e. never (cc)) (each-cons (λ e. never (cc)) each-nil))
-      (ap (λ (t : Result). t .answer) (sym (one .1 ∙ on)) ∙ d) in
-      let all : accessBank b a k ≡ last = one .1 ∙ (on ∙ two .1) in
-      let three : (step (access b a) r .lost ≡ none) × (last .given ≡ givenOf a fs) × (valueOf a fs ≡ v) =
-      finished-none (valueOf a fs) (givenOf a fs) (step (access b a) r) v (ap (λ (t : Result). t .answer) (sym all) ∙ d) in
-      let n : r .lost ≡ none = step-none (access b a) r (three .0) in
-      let can : CanAccess b a k = entered-live b a k (entered b a k w (one .0)) idle in
+      let all : accessBank b a k ≡ live b a (start k) = cc in
+      let t : LiveDone b a (start k) v = live-done b a (start k) v (ap (λ (x : Result). x .answer) (sym all) ∙ d) in
+      let can : CanAccess b a k = entered-live b a k (entered b a k w entry) idle in
       let l : b < length (r .bank .boards) = rw (prepared-sizes b a (start k) .boards) (up-below k b up) in
-      let after : accessBank b a k .run .bank ≡ access b a (r .bank) =
-      ap (λ (t : Result). t .run .bank) all
-      ∙ (ap (λ (q : Run). q .bank) (finished-run (valueOf a fs) (givenOf a fs) (step (access b a) r)) ∙ step-going (access b a) r n) in
+      let after : accessBank b a k .run .bank ≡ access b a (r .bank) = ap (λ (x : Result). x .run .bank) all ∙ t .bank in
       record {
         read =
-            ap₂ (bytesSeen a) (sym (three .2)) (ap (λ (t : Result). t .given) all ∙ three .1)
-            ∙ (bytes-seen a fs ∙ reads-seen b a k w can copy (two .0) n);
+            ap₂ (bytesSeen a) (sym (t .value)) (ap (λ (x : Result). x .given) all ∙ t .given)
+            ∙ (bytes-seen a (boardAt (r .bank) b .working .frames) ∙ reads-seen b a k w can copy (t .passed) (t .going));
         pages = can .pages;
         sees =
             rw after
-            (sees-on b k (r .bank) (access b a (r .bank)) (prepared-sees b a k w can copy (two .0) n) (directory-access b a (r .bank))
+            (sees-on b k (r .bank) (access b a (r .bank)) (prepared-sees b a k w can copy (t .passed) (t .going)) (directory-access b a (r .bank))
             (states-access b a (r .bank))
             (access-frames b a (r .bank) copy l));
-        up = rw after (states-access b a (r .bank) b ∙ prepared-up b a k w can copy (two .0) n);
+        up = rw after (states-access b a (r .bank) b ∙ prepared-up b a k w can copy (t .passed) (t .going));
       }
 
 -- ==== single reads
@@ -425,6 +449,7 @@ done-form (OwnerNotUp b) e = never (omega arith)
 done-form (LogFull b) e = never (omega arith)
 done-form (PowerLost b) e = never (omega arith)
 done-form WrongCells e = never (omega arith)
+done-form HasRecords e = never (omega arith)
 
 answers-bytes : (cs : List Call) (s : List ℕ) → wellFormed s ≡ true → answersOf cs s ≡ answersOn cs (decode s)
 unfolding runOf answersOn call replyOf

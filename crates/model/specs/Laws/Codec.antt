@@ -72,7 +72,7 @@ length-encodeRecord form r e = rw (length-append (bytesOf (form .sinceWidth) (r 
 pub decode-encodeRecord : {form : Form} (pages : ℕ) (r : Record) → RecordOkIn form pages r → decodeRecordIn form (encodeRecordIn form r) ≡ r
 unfolding decodeRecordIn encodeRecordIn byteAt
 decode-encodeRecord {form} pages r ok =
-    let head : List ℕ = mark0 (r .kind) ∷ mark1 (r .kind) ∷ pageOf (r .kind) ∷ 0 ∷ [] in
+    let head : List ℕ = mark0 (r .kind) ∷ mark1 (r .kind) ∷ pageOf (r .kind) ∷ r .peer ∷ [] in
     let count : List ℕ = bytesOf (form .sinceWidth) (r .count) in
     let width : length count ≡ form .sinceWidth = length-bytesOf (form .sinceWidth) (r .count) in
     let c : part (encodeRecordIn form r) recordCountAt (form .sinceWidth) ≡ count
@@ -81,7 +81,7 @@ decode-encodeRecord {form} pages r ok =
     let b : decodeRecordIn form (encodeRecordIn form r) .bytes ≡ r .bytes
     = part-append-right head (count ++ r .bytes) (slotBytesAtIn form) (form .sinceWidth) pageSize refl
     ∙ part-end count (r .bytes) (form .sinceWidth) pageSize width (ok .size) in
-    λ i. record { count = n i; kind = kindOf-marks (r .kind) i; bytes = b i }
+    λ i. record { count = n i; kind = kindOf-marks (r .kind) i; peer = r .peer; bytes = b i }
 
 -- ---- frames side by side
 

@@ -16,7 +16,7 @@ use Rattle.types.specs.declared.Kind.{Kind}
 use Rattle.types.specs.declared.State.the-variants.{Replaying}
 use Rattle.model.specs.Definitions.Parts.{part, byteAt, encodeAll}
 use Rattle.model.specs.Definitions.Layout.{rightAt, frameBytesAt, mark0At, mark1At, areaNumberAt, letterG, letterC, letterO, letterS, letterH, letterD}
-use Rattle.model.specs.Definitions.Layout.{letterR, pageSize, slotCount, frameSize, slotPageAt, slotZeroAt, fuseSize, numberSize, stateAt, selectorAt}
+use Rattle.model.specs.Definitions.Layout.{letterR, pageSize, slotCount, frameSize, slotPageAt, slotPeerAt, fuseSize, numberSize, stateAt, selectorAt}
 use Rattle.model.specs.Definitions.Layout.{fuseAt, numberAt, sinceAt, areaCountAt, areaFramesAt, areaSlotsAt, slotBytesAtIn, slotSizeIn, slotsSizeIn}
 use Rattle.model.specs.Definitions.Layout.{areaSizeIn, placeAtIn, volatileCountAtIn, framesAtIn, slotsAtIn, areaAtIn, blockSizeIn, Form, recordCountAt}
 use Rattle.model.specs.Definitions.Bank.{Area}
@@ -24,7 +24,7 @@ use Rattle.model.specs.Definitions.Codec.{rightByte, rightOf, encodeFram
 use Rattle.model.specs.Definitions.Codec.{selectorByte, decodeStable, encodeRecordIn, decodeRecordIn, encodeLogIn, decodeLogIn, encodeAreaIn}
 use Rattle.model.specs.Definitions.Codec.{decodeAreaIn, encodeFixedIn, encodeStableIn, encodeBoardIn, decodeBoardIn}
 use Rattle.model.specs.Definitions.Check.{frameValid, gotMark, bareMark, markFits, slotValid}
-use Rattle.model.specs.Laws.Logic.{clash, cases, byBool, and-left, and-right}
+use Rattle.model.specs.Laws.Logic.{clash, cases, byBool, and-left}
 use Rattle.model.specs.Laws.Parts.{each-part, length-part, part-rest, part-last, byte-rest, index-in, encodeAll-decodeAll, encodeAll-decodeAll-all}
 use Rattle.model.specs.Laws.Parts.{length-decodeAll}
 
@@ -97,8 +97,6 @@ encode-decodeRecord form pages l v b e =
     let k : Kind = kindOf (byteAt l mark0At) (byteAt l mark1At) (byteAt l slotPageAt) in
     let m : (mark0 k ≡ byteAt l mark0At) × (mark1 k ≡ byteAt l mark1At)
     = marks-kindOf (byteAt l mark0At) (byteAt l mark1At) (byteAt l slotPageAt) _ (and-left _ _ v) in
-    let z : eqb (byteAt l slotZeroAt) 0 ≡ true = search (and-left, and-right) in
-    let t : 0 ∷ drop recordCountAt l ≡ drop slotZeroAt l = rw (eqb-true (byteAt l slotZeroAt) 0 z) at (byte-rest l slotZeroAt (omega arith)) in
     rw (
       m .0,
       m .1,
@@ -106,7 +104,7 @@ encode-decodeRecord form pages l v b e =
       bytesOf-part l recordCountAt (form .sinceWidth) b (omega arith),
       part-last l (slotBytesAtIn form) pageSize e,
       part-rest l recordCountAt (form .sinceWidth) (slotBytesAtIn form) refl,
-      t,
+      byte-rest l slotPeerAt (omega arith),
       byte-rest l slotPageAt (omega arith),
       byte-rest l mark1At (omega arith),
     )

@@ -3,7 +3,7 @@
 use mathlib.Core.Path.{_≡_, refl, ap, _∙_}
 use Prim.Native.Nat.{ℕ, _+_, _*_, _≤_, _<_}
 use native.Mathlib.Omega.{arith}
-use mathlib.Core.Bool.{true, _&&_}
+use mathlib.Core.Bool.{Bool, true, _&&_}
 use mathlib.Core.List.{List, [], _∷_}
 use lib.ListN.{length, drop, length-drop, drop-of-length-le}
 use lib.Dec.{ltb}
@@ -15,7 +15,7 @@ use Rattle.model.specs.Definitions.Layout.{headMark1At, headSize, boards
 use Rattle.model.specs.Definitions.Bank.{boardAt, entryAt, noBoard}
 use Rattle.model.specs.Definitions.Codec.{encodeEntry, decodeEntry, encodeBoardIn, decodeBoardIn, encodeIn, decodeIn}
 use Rattle.model.specs.Definitions.Check.{headValid, directoryValid, fieldsValid, blockFits, directoryOf, blocksFit, logsValid, blockOfIn, wellFormedIn}
-use Rattle.model.specs.Definitions.Check.{recordsValid}
+use Rattle.model.specs.Definitions.Check.{slotValid, slotPeerValid, recordsPass, peersValid}
 use Rattle.model.specs.Laws.Logic.{clash, byBool, and-left, and-right, and-both}
 use Rattle.model.specs.Laws.Lists.{everyBelow-at, every-each}
 use Rattle.model.specs.Laws.Parts.{getD-decodeAll, each-part, length-part, part-rest, part-drop, byte-rest, index-in, encodeAll-decodeAll-all}
@@ -49,31 +49,37 @@ head-ok {form} s v =
     }
 
 -- what the test of the bytes says: of the head, of all bytes, of the directory and of each block
-pub record BytesOk (form : Form) (s : List ℕ) : Type 0 where
+pub record BytesOk (form : Form) (named : Bool) (s : List ℕ) : Type 0 where
   pub head : HeadOk form s
   pub bytes : Bytes s
   pub entries : directoryValid (byteAt s boardsAt) (byteAt s pagesAt) (directoryOf (byteAt s pagesAt) s) ≡ true
   pub fits : (b : ℕ) → b < byteAt s boardsAt → blockFits form (byteAt s pagesAt) (directoryOf (byteAt s pagesAt) s) (blockOfIn form (byteAt s pagesAt) s b) b
       ≡ true
-  pub records : (b : ℕ) → b < byteAt s boardsAt → recordsValid form (byteAt s pagesAt) (blockOfIn form (byteAt s pagesAt) s b) ≡ true
+  pub records : (b : ℕ) → b < byteAt s boardsAt → recordsPass form (slotValid form (byteAt s pagesAt)) (byteAt s pagesAt) (blockOfIn form (byteAt s pagesAt) s b)
+      ≡ true
+  pub peers : (b : ℕ) → b < byteAt s boardsAt → recordsPass form (slotPeerValid named (byteAt s boardsAt) b) (byteAt s pagesAt) (blockOfIn form (byteAt s pagesAt) s b)
+      ≡ true
 
-pub bytes-ok : {form : Form} (s : List ℕ) → wellFormedIn form s ≡ true → BytesOk form s
-unfolding wellFormedIn blocksFit logsValid
-bytes-ok {form} s v =
+pub bytes-ok : {form : Form} {named : Bool} (s : List ℕ) → wellFormedIn form named s ≡ true → BytesOk form named s
+unfolding wellFormedIn blocksFit logsValid peersValid
+bytes-ok {form} {named} s v =
     byBool (headValid form s)
     (λ t.
     let n : ℕ = byteAt s boardsAt in
     let pages : ℕ = byteAt s pagesAt in
     let d : List ℕ = directoryOf pages s in
-    let r : (every (λ b. ltb b byteValues) s && (directoryValid n pages d && (blocksFit form n pages s && logsValid form n pages s))) ≡ true = cc in
+    let r : (every (λ b. ltb b byteValues) s && (directoryValid n pages d && (blocksFit form n pages s
+    && (logsValid form n pages s && peersValid form named n pages s)))) ≡ true = cc in
     let f : blocksFit form n pages s ≡ true = search (and-left, and-right) in
     let g : logsValid form n pages s ≡ true = search (and-left, and-right) in
+    let m : peersValid form named n pages s ≡ true = search (and-left, and-right) in
     record {
       head = head-ok s t;
       bytes = every-each (λ b. ltb b byteValues) s (λ b h. ltb-true b byteValues h) (and-left _ _ r);
       entries = search (and-left, and-right);
       fits = λ b h. everyBelow-at n b (λ c. blockFits form pages d (blockOfIn form pages s c) c) f h;
-      records = λ b h. everyBelow-at n b (λ c. recordsValid form pages (blockOfIn form pages s c)) g h;
+      records = λ b h. everyBelow-at n b (λ c. recordsPass form (slotValid form pages) pages (blockOfIn form pages s c)) g h;
+      peers = λ b h. everyBelow-at n b (λ c. recordsPass form (slotPeerValid named n c) pages (blockOfIn form pages s c)) m h;
     })
     (λ t. clash v (cc))
 
@@ -131,7 +137,7 @@ pub entry-read : (form : Form) (s : List ℕ) (p : ℕ) → p < byteAt s pagesAt
 unfolding decodeIn entryAt directoryOf
 entry-read form s p h = getD-decodeAll decodeEntry entrySize (byteAt s pagesAt) (part s headSize (byteAt s pagesAt * entrySize)) p _ h
 
-module _ {form : Form} (s : List ℕ) (ok : BytesOk form s) where
+module _ {form : Form} {named : Bool} (s : List ℕ) (ok : BytesOk form named s) where
   pub length-blockOf : (b : ℕ) → b < byteAt s boardsAt → length (blockOfIn form (byteAt s pagesAt) s b) ≡ blockSizeIn form (byteAt s pagesAt)
   unfolding blockOfIn
   length-blockOf b h =
@@ -165,10 +171,10 @@ module _ {form : Form} (s : List ℕ) (ok : BytesOk form s) where
 
 -- ---- the bank
 
-pub encode-decode : (form : Form) (s : List ℕ) → wellFormedIn form s ≡ true → encodeIn form (decodeIn form s) ≡ s
+pub encode-decode : (form : Form) (named : Bool) (s : List ℕ) → wellFormedIn form named s ≡ true → encodeIn form (decodeIn form s) ≡ s
 unfolding encodeIn decodeIn
-encode-decode form s v =
-    let ok : BytesOk form s = bytes-ok s v in
+encode-decode form named s v =
+    let ok : BytesOk form named s = bytes-ok s v in
     let n : ℕ = byteAt s boardsAt in
     let pages : ℕ = byteAt s pagesAt in
     let z : length s ≡ bankSizeIn form n pages = ok .head .size in

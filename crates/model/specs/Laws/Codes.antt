@@ -19,7 +19,7 @@ use lib.Dec.{eqb, ltb, leb}
 use borrow.Author.Tests.{eqb-true, eqb-false}
 use Rattle.types.specs.declared.Answer.{Answer}
 use Rattle.types.specs.declared.Answer.the-variants.{Done, Malformed, OutOfRange, WrongState, CountersFull, ReplayDiffers, OwnerNotUp, LogFull, PowerLost}
-use Rattle.types.specs.declared.Answer.the-variants.{WrongCells}
+use Rattle.types.specs.declared.Answer.the-variants.{WrongCells, HasRecords}
 use Rattle.model.specs.Definitions.Layout.{mostBoards, mostPages, bankSize}
 use Rattle.model.specs.Definitions.Bank.{Bank}
 use Rattle.model.specs.Definitions.Codec.{decode}
@@ -53,6 +53,7 @@ power-lost-form (OwnerNotUp b) e = never (omega arith)
 power-lost-form (LogFull b) e = never (omega arith)
 power-lost-form (PowerLost b) e = refl
 power-lost-form WrongCells e = never (omega arith)
+power-lost-form HasRecords e = never (omega arith)
 
 module _ (c : Call) (k : Bank) (w : WellFormed k) where
   -- row 8 of a call that nothing refused

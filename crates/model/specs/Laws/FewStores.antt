@@ -62,12 +62,12 @@ checkpoint-few b r =
 -- ---- a fetch: a flush for each page, or two for one
 
 -- a record noted where there is room for it, and flushed: as many stores as the board has volatile records then
-noted-few : (b : ℕ) (kind : Kind) (bytes : Bank → List ℕ) (r : Run) → (r .lost ≡ none → RoomFor 1 (boardAt (r .bank) b)) → b < length (r .bank .boards)
-    → flush b (step (λ k. note b kind (bytes k) k) r) .stores ≤ r .stores + slotCount
+noted-few : (b : ℕ) (kind : Kind) (peer : ℕ) (bytes : Bank → List ℕ) (r : Run) → (r .lost ≡ none → RoomFor 1 (boardAt (r .bank) b)) → b < length (r .bank .boards)
+    → flush b (step (λ k. note b kind peer (bytes k) k) r) .stores ≤ r .stores + slotCount
 unfolding flush note onWorking recorded appended
-noted-few b kind bytes r m l =
-    let f : Bank → Bank = λ k. note b kind (bytes k) k in
-    let g : Board → Board = onWorking (recorded kind (bytes (r .bank))) in
+noted-few b kind peer bytes r m l =
+    let f : Bank → Bank = λ k. note b kind peer (bytes k) k in
+    let g : Board → Board = onWorking (recorded kind peer (bytes (r .bank))) in
     byOption (r .lost)
     (λ n.
     let y : Board = boardAt (step f r .bank) b in
@@ -76,45 +76,45 @@ noted-few b kind bytes r m l =
     ∙ ap (λ (x : Board). length (x .working .log .records)) (boardAt-same b g (r .bank) l)
     ∙ length-append (boardAt (r .bank) b .working .log .records) _ in
     omega (arith, m n, e, storeAll-few b (recordStores y) (step f r), length-recordStores y, step-stores f r))
-    (λ c e. rw (follows-note-flush b kind bytes r .lost c e) (omega arith))
+    (λ c e. rw (follows-note-flush b kind peer bytes r .lost c e) (omega arith))
 
 -- "owner records shown and flushes"
-show-few : (o p : ℕ) (r : Run) → RoomFor 1 (boardAt (r .bank) o) → o < length (r .bank .boards) → show o p r .stores ≤ r .stores + slotCount
+show-few : (o b p : ℕ) (r : Run) → RoomFor 1 (boardAt (r .bank) o) → o < length (r .bank .boards) → show o b p r .stores ≤ r .stores + slotCount
 unfolding show
-show-few o p r m l = noted-few o (Shown p) (λ k. zeros pageSize) r (λ n. m) l
+show-few o b p r m l = noted-few o (Shown p) b (λ k. zeros pageSize) r (λ n. m) l
 
 -- "All givers record and store first, page by page."
-showAll-few : (b : ℕ) (ps : List ℕ) (r : Run) → CanFetch GotCopy b ps (r .bank) → showAll ps r .stores ≤ r .stores + length ps * slotCount
+showAll-few : (b : ℕ) (ps : List ℕ) (r : Run) → CanFetch GotCopy b ps (r .bank) → showAll b ps r .stores ≤ r .stores + length ps * slotCount
 unfolding showAll
 showAll-few b [] r can = omega arith
 showAll-few b (p ∷ ps) r can =
     let o : ℕ = giver GotCopy (r .bank) p in
-    let s : Run = show o p r in
-    let few : s .stores ≤ r .stores + slotCount = show-few o p r (room-giver b p ps (r .bank) can) (up-below (r .bank) o (each-head (can .givers))) in
+    let s : Run = show o b p r in
+    let few : s .stores ≤ r .stores + slotCount = show-few o b p r (room-giver b p ps (r .bank) can) (up-below (r .bank) o (each-head (can .givers))) in
     byOption (s .lost)
     (λ n. omega (arith, few, showAll-few b ps s (shown-can b p ps r can n)))
-    (λ c e. rw (follows-showAll ps s .lost c e) (omega arith))
+    (λ c e. rw (follows-showAll b ps s .lost c e) (omega arith))
 
 writeFetch-few : (b p : ℕ) (r : Run) → WellFormed (r .bank) → CanFetch GotOwn b (p ∷ []) (r .bank) → writeFetch b p r .stores ≤ r .stores + 2 * slotCount
 unfolding writeFetch
 writeFetch-few b p r w c =
     let o : ℕ = giver GotOwn (r .bank) p in
-    let gave : Run = show o p r in
+    let gave : Run = show o b p r in
     let bytes : Bank → List ℕ = λ k. frameOf k o p .bytes in
     let m : RoomFor 1 (boardAt (r .bank) o) = omega (arith, room-owner b p r w c) in
-    let l : b < length (gave .bank .boards) = rw (follows-show o p r .sizes .boards) (up-below (r .bank) b (c .taker)) in
+    let l : b < length (gave .bank .boards) = rw (follows-show o b p r .sizes .boards) (up-below (r .bank) b (c .taker)) in
     omega (
       arith,
-      show-few o p r m (up-below (r .bank) o (each-head (c .givers))),
-      noted-few b (Got GotOwn p) bytes gave (λ n. rw (writer-same b p r w c n) (room-taker b p r w c)) l,
-      step-stores (passOwnership o b p) (flush b (step (λ k. note b (Got GotOwn p) (bytes k) k) gave)),
+      show-few o b p r m (up-below (r .bank) o (each-head (c .givers))),
+      noted-few b (Got GotOwn p) o bytes gave (λ n. rw (writer-same b p r w c n) (room-taker b p r w c)) l,
+      step-stores (passOwnership o b p) (flush b (step (λ k. note b (Got GotOwn p) o (bytes k) k) gave)),
     )
 
 -- who takes ownership takes one page
 fetch-few : (g : CopyOrOwn) (b : ℕ) (ps : List ℕ) (r : Run) → WellFormed (r .bank) → CanFetch g b ps (r .bank) → length ps ≤ mostPages
     → (g ≡ GotOwn → length ps ≤ 1) → fetch g b ps r .stores ≤ r .stores + mostPages * slotCount
 unfolding fetch readFetch
-fetch-few GotCopy b ps r w c few one = omega (arith, few, showAll-few b ps r c, step-stores (giveCopies b ps) (showAll ps r))
+fetch-few GotCopy b ps r w c few one = omega (arith, few, showAll-few b ps r c, step-stores (giveCopies b ps) (showAll b ps r))
 fetch-few GotOwn b [] r w c few one = omega arith
 fetch-few GotOwn b (p ∷ []) r w c few one = omega (arith, writeFetch-few b p r w c)
 fetch-few GotOwn b (p ∷ q ∷ ps) r w c few one = absurd (omega (arith, one refl))
@@ -144,7 +144,7 @@ live-few b a r w can =
     (λ t. done _ (fetch-few (takes a) b ps r w (can-fetch b a (r .bank) w can e) few (λ g. omega (arith, ap length (lacking-own a fs g t)))))
     (λ t.
     cases P (copiesOut a (r .bank))
-    (λ o. done _ (omega (arith, step-stores (dropCopies (pageWritten a)) r)))
+    (λ o. done _ (omega (arith, step-stores (dropCopies b (pageWritten a)) r)))
     (λ o. done r (omega arith))))
 
 -- ---- a replay's end: one checkpoint

@@ -17,7 +17,7 @@ use Rattle.model.specs.Definitions.Parts.{zeros}
 use Rattle.model.specs.Definitions.Layout.{mostBoards, mostPages, pageSize, slotsSize, bankSize, blockSize}
 use Rattle.model.specs.Definitions.Bank.{emptyFrame, emptyLog, zeroArea, zeroWorking, noBoard, boardAt, entryAt, frameAt, freshFrames, freshBoard, fresh}
 use Rattle.model.specs.Definitions.WellFormed.{SizesOk, FrameOk, LogOk, FramesOk, AreaOk, FieldsOk, PlaceOk, rightIn, BoardOk, EntryOk, WellFormed}
-use Rattle.model.specs.Definitions.WellFormed.{WorkingOk}
+use Rattle.model.specs.Definitions.WellFormed.{WorkingOk, PeersOk}
 use Rattle.model.specs.Definitions.Check.{wellFormed, sizesAllowed}
 use Rattle.model.specs.Definitions.Codec.{encode}
 use Rattle.model.specs.Definitions.Calls.{Reply, refused, make}
@@ -104,6 +104,11 @@ fresh-ok n p b h =
       copies = λ u q l. absurd (u (rw e));
     }
 
+-- without a record nobody is named
+fresh-peers : (n p b : ℕ) → b < n → PeersOk n b (boardAt (fresh n p) b)
+unfolding freshBoard emptyLog
+fresh-peers n p b h = rw (fresh-board n p b h) (record { volatile = each-nil; selected = each-nil; spare = each-nil })
+
 fresh-directory : (n p : ℕ) → 0 < n → Each (EntryOk n) (fresh n p .directory)
 unfolding fresh
 fresh-directory n p h =
@@ -115,6 +120,7 @@ fresh-wellFormed n p h₀ h₁ h₂ h₃ =
       sizes = rw (fresh-boards n p, fresh-pages n p) (record { someBoard = h₀; boards = h₁; somePage = h₂; pages = h₃ });
       directory = rw (fresh-boards n p) (fresh-directory n p h₀);
       boards = λ b l. fresh-ok n p b (rw (fresh-boards n p) at l);
+      peers = λ b l. rw (fresh-boards n p) (fresh-peers n p b (rw (fresh-boards n p) at l));
     }
 
 -- "a block 2328 + 51P" (document 02, F-2), so the length is 4 + 2P + N(2328 + 51P)

@@ -16,7 +16,7 @@ use Rattle.model.specs.Definitions.Parts.{zeros, update, eachFrom, each}
 use Rattle.model.specs.Definitions.Layout.{pageSize}
 use Rattle.model.specs.Definitions.Bank.{Entry, Area, Working, Board, Bank, emptyFrame, emptyLog, noBoard, boardAt, entryAt, frameAt, onBoard, onEntry}
 use Rattle.model.specs.Definitions.Bank.{onWorking, onSpare}
-use Rattle.model.specs.Likeness.{EachPair, pairs-nil, pairs-cons, FrameAlike, FramesAlike, LogAlike, AreaAlike, WorkingAlike, BoardAlike, Alike}
+use Rattle.model.specs.Likeness.{EachPair, pairs-nil, pairs-cons, FrameAlike, FramesAlike, LogAlike, AreaAlike, WorkingAlike, BoardAlike, Alike, Change}
 
 -- ---- the same test on both sides
 
@@ -122,17 +122,18 @@ module _ (f : ℕ → ℕ) where
     map-zeros zero = refl
     map-zeros (suc n) = let e : replicate n 0 ≡ map f (replicate n 0) = map-zeros n in rw (z, ← e)
 
-    pub alike-emptyFrame : FrameAlike f emptyFrame emptyFrame
-    unfolding emptyFrame
-    alike-emptyFrame = record { right = refl; bytes = map-zeros pageSize }
+module _ (f : Change) (z : f .bytes 0 ≡ 0) where
+  pub alike-emptyFrame : FrameAlike f emptyFrame emptyFrame
+  unfolding emptyFrame
+  alike-emptyFrame = record { right = refl; bytes = map-zeros (f .bytes) z pageSize }
 
-    pub alike-frameAt : (p : ℕ) {fs gs : List Frame} → FramesAlike f fs gs → FrameAlike f (frameAt fs p) (frameAt gs p)
-    unfolding frameAt
-    alike-frameAt p e = pairs-getD (FrameAlike f) p alike-emptyFrame e
+  pub alike-frameAt : (p : ℕ) {fs gs : List Frame} → FramesAlike f fs gs → FrameAlike f (frameAt fs p) (frameAt gs p)
+  unfolding frameAt
+  alike-frameAt p e = pairs-getD (FrameAlike f) p alike-emptyFrame e
 
 -- ---- one part of a bank read or changed
 
-module _ (f : ℕ → ℕ) where
+module _ (f : Change) where
   pub alike-emptyLog : LogAlike f emptyLog emptyLog
   unfolding emptyLog
   alike-emptyLog = record { records = pairs-nil }

@@ -6,6 +6,9 @@ use native.Mathlib.Decide.{ℕ-discrete}
 use mathlib.Core.Bool.{Bool, true, false, _&&_, _||_, not}
 use mathlib.Core.Option.{Option, none, some}
 use native.Mathlib.Omega.{arith}
+use Rattle.types.specs.declared.CopyOrOwn.{CopyOrOwn}
+use Rattle.types.specs.declared.Kind.{Kind}
+use Rattle.types.specs.declared.Kind.the-variants.{Got, Shown, Dropped}
 use Rattle.types.specs.declared.State.{State}
 use Rattle.types.specs.declared.State.the-variants.{Up, Down, Replaying}
 
@@ -65,3 +68,10 @@ or-then false b h p = clash p refl
 pub then-or : (a b : Bool) → (a ≡ true → b ≡ true) → (not a || b) ≡ true
 then-or true b h = h refl
 then-or false b h = refl
+
+-- a test of a record's kind
+pub casesKind : {A : Type 0} (P : A → Type 0) (k : Kind) {f : CopyOrOwn → ℕ → A} {g h : ℕ → A} → ((c : CopyOrOwn) (p : ℕ) → k ≡ Got c p → P (f c p))
+    → ((p : ℕ) → k ≡ Shown p → P (g p)) → ((p : ℕ) → k ≡ Dropped p → P (h p)) → P (elim k [ Got c p ↦ f c p | Shown p ↦ g p | Dropped p ↦ h p ])
+casesKind P (Got c p) f g h = f c p refl
+casesKind P (Shown p) f g h = g p refl
+casesKind P (Dropped p) f g h = h p refl

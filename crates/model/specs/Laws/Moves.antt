@@ -38,7 +38,7 @@ induct P move wait end cut (cutOff {χ = χ} {ψ = ψ} {s = s} {c = c} t e) h = 
 
 pub does-lost : (m : Move) (r : Run) {c : ℕ} → r .lost ≡ some c → does m r ≡ r
 unfolding does
-does-lost (NoteShown b p) r e = step-lost _ r e
+does-lost (NoteShown b t p) r e = step-lost _ r e
 does-lost (NoteGot b o p) r e = step-lost _ r e
 does-lost (StoreRecord b) r e = store-lost b _ r e
 does-lost (StoreFrame b p) r e = store-lost b _ r e
@@ -46,7 +46,7 @@ does-lost (StoreHead b) r e = store-lost b _ r e
 does-lost (StoreSelector b) r e = ap (step (onBoard b (onWorking restedWorking))) (store-lost b storedSelector r e) ∙ step-lost _ r e
 does-lost (GiveCopy o b p) r e = step-lost _ r e
 does-lost (PassOwnership o b p) r e = step-lost _ r e
-does-lost (DropCopies p) r e = step-lost _ r e
+does-lost (DropCopies w p) r e = step-lost _ r e
 does-lost (Perform b a) r e = step-lost _ r e
 does-lost (LosePower b) r e = step-lost _ r e
 does-lost (SetFuse b n) r e = step-lost _ r e
@@ -64,7 +64,7 @@ moves-do {s = s} m t a = byOption (s .lost) (λ n. then t m n (a n)) (λ c e. rw
 
 pub follows-does : (m : Move) (r : Run) → Follows r (does m r)
 unfolding does note access settle
-follows-does (NoteShown b p) r = follows-step _ r (sizes-onBoard b _ (r .bank))
+follows-does (NoteShown b t p) r = follows-step _ r (sizes-onBoard b _ (r .bank))
 follows-does (NoteGot b o p) r = follows-step _ r (sizes-onBoard b _ (r .bank))
 follows-does (StoreRecord b) r = follows-store b _ r
 follows-does (StoreFrame b p) r = follows-store b _ r
@@ -73,7 +73,7 @@ follows-does (StoreSelector b) r =
     follows-trans (follows-store b storedSelector r) (follows-step _ (store b storedSelector r) (sizes-onBoard b _ (store b storedSelector r .bank)))
 follows-does (GiveCopy o b p) r = follows-step _ r (sizes-giveCopy o b p (r .bank))
 follows-does (PassOwnership o b p) r = follows-step _ r (sizes-passOwnership o b p (r .bank))
-follows-does (DropCopies p) r = follows-step _ r (sizes-dropCopies p (r .bank))
+follows-does (DropCopies w p) r = follows-step _ r (sizes-dropCopies w p (r .bank))
 follows-does (Perform b a) r = follows-step _ r (sizes-onBoard b _ (r .bank))
 follows-does (LosePower b) r = follows-step _ r (sizes-powerOff b (r .bank))
 follows-does (SetFuse b n) r = follows-step _ r (sizes-onBoard b _ (r .bank))

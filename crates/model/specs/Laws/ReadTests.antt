@@ -15,7 +15,7 @@ use Rattle.words.specs.LittleEndianLaws.{numberOf-below}
 use Rattle.types.specs.declared.Right.the-variants.{Own}
 use Rattle.model.specs.Definitions.Parts.{part, byteAt, decodeAll}
 use Rattle.model.specs.Definitions.Layout.{byteValues, pageSize, slotCount, rightAt, frameBytesAt, frameSize, letterG, letterC, mark0At, mark1At}
-use Rattle.model.specs.Definitions.Layout.{slotPageAt, fuseSize, numberSize, noFuse, lastNumber, areaNumberAt, areaCountAt, areaFramesAt, areaSlotsAt}
+use Rattle.model.specs.Definitions.Layout.{slotPageAt, slotPeerAt, fuseSize, numberSize, noFuse, lastNumber, areaNumberAt, areaCountAt, areaFramesAt, areaSlotsAt}
 use Rattle.model.specs.Definitions.Layout.{selectorAt, fuseAt, numberAt, sinceAt, slotBytesAtIn, slotSizeIn, slotsSizeIn, areaSizeIn, volatileCountAtIn}
 use Rattle.model.specs.Definitions.Layout.{framesAtIn, slotsAtIn, areaAtIn, blockSizeIn, Form, recordCountAt}
 use Rattle.model.specs.Definitions.Bank.{Area}
@@ -24,7 +24,7 @@ use Rattle.model.specs.Definitions.Codec.{decodeAreaIn, decodeBoardIn}
 use Rattle.model.specs.Definitions.WellFormed.{FrameOk, isGot, FramesOk, RecordOkIn, LogOkIn, AreaOkIn, FieldsOkIn}
 use Rattle.model.specs.Definitions.Check.{isZero, frameValid, gotMark, markFits, slotValid, bareMark}
 use Rattle.model.specs.Laws.Logic.{byBool, clash, and-left, and-right}
-use Rattle.model.specs.Laws.Lists.{each-drop, each-of-getD}
+use Rattle.model.specs.Laws.Lists.{each-drop, each-getD, each-of-getD}
 use Rattle.model.specs.Laws.Parts.{each-part, length-part, length-decodeAll, getD-decodeAll, index-in}
 use Rattle.model.specs.Laws.CodecBack.{FramesPass, LogPasses, AreaPasses, Readable, pageOf-kindOf, slot-in}
 use Rattle.model.specs.Laws.Tests.{says-zero, says-clear}
@@ -87,7 +87,7 @@ bare-blank m0 m1 p blank v g =
 
 pub slot-ok : {form : Form} (pages : ℕ) (l : List ℕ) → length l ≡ slotSizeIn form → Bytes l → slotValid form pages l ≡ true
     → RecordOkIn form pages (decodeRecordIn form l)
-unfolding slotValid decodeRecordIn
+unfolding slotValid decodeRecordIn byteAt
 slot-ok {form} pages l e b v =
     let size : length (part l (slotBytesAtIn form) pageSize) ≡ pageSize = length-part l (slotBytesAtIn form) pageSize (omega arith) in
     let bytes : Bool = isZero (part l (slotBytesAtIn form) pageSize) in
@@ -96,7 +96,8 @@ slot-ok {form} pages l e b v =
       count = number-in l recordCountAt (form .sinceWidth) (omega arith) b;
       page =
           rw (pageOf-kindOf (byteAt l mark0At) (byteAt l mark1At) (byteAt l slotPageAt))
-          (ltb-true (byteAt l slotPageAt) pages (search (and-left, and-right)));
+          (ltb-true (byteAt l slotPageAt) pages (and-right (markFits (byteAt l mark0At) (byteAt l mark1At) bytes) _ v));
+      peer = each-getD l slotPeerAt 0 b (omega arith);
       size = size;
       bytes = each-part l (slotBytesAtIn form) pageSize b;
       plain = λ g.

@@ -4,6 +4,7 @@ use mathlib.Core.Path.{_≡_, refl, sym, ap, _∙_}
 use mathlib.Core.Logic.{_≢_, _⊎_, inl, inr}
 use Prim.Native.Nat.{ℕ, _+_, _≤_}
 use native.Mathlib.Omega.{arith}
+use mathlib.Core.Bool.{true}
 use mathlib.Core.Option.{none}
 use mathlib.Core.List.{List, [], _∷_}
 use lib.ListN.{length}
@@ -119,7 +120,7 @@ refusal-keeps c s =
     (λ w p u.
     let e : callBank c k .run ≡ start k = kept-run (boardNamed c) k (LateIn c k) (callBank c k) (late-replaying c k) (call-ended c k) p u in
     record {
-      bytes = ap (λ (r : Run). encode (r .bank)) e ∙ encode-decode today s w;
+      bytes = ap (λ (r : Run). encode (r .bank)) e ∙ encode-decode today true s w;
       stores = ap (λ (r : Run). r .stores) e;
     })
     (λ w p u. record { bytes = refl; stores = refl })

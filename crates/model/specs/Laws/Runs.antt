@@ -142,8 +142,8 @@ sizes-powerOff b k = record { boards = boards-powerOff b k; pages = directory-po
 pub sizes-giveCopy : (o b p : ℕ) (k : Bank) → SameSizes k (giveCopy o b p k)
 sizes-giveCopy o b p k = record { boards = boards-giveCopy o b p k; pages = directory-giveCopy o b p k }
 
-pub sizes-dropCopies : (p : ℕ) (k : Bank) → SameSizes k (dropCopies p k)
-sizes-dropCopies p k = record { boards = boards-dropCopies p k; pages = directory-dropCopies p k }
+pub sizes-dropCopies : (w p : ℕ) (k : Bank) → SameSizes k (dropCopies w p k)
+sizes-dropCopies w p k = record { boards = boards-dropCopies w p k; pages = directory-dropCopies w p k }
 
 pub sizes-passOwnership : (o w p : ℕ) (k : Bank) → SameSizes k (passOwnership o w p k)
 sizes-passOwnership o w p k = record { boards = boards-passOwnership o w p k; pages = directory-passOwnership o w p k }
@@ -201,25 +201,25 @@ follows-checkpoint b r =
     (follows-step (onBoard b (onWorking restedWorking)) stored (sizes-onBoard b (onWorking restedWorking) (stored .bank)))
 
 -- a record noted, with bytes that may be read off the bank, and flushed
-pub follows-note-flush : (b : ℕ) (kind : Kind) (bytes : Bank → List ℕ) (r : Run)
-    → Follows r (flush b (step (λ k. note b kind (bytes k) k) r))
+pub follows-note-flush : (b : ℕ) (kind : Kind) (peer : ℕ) (bytes : Bank → List ℕ) (r : Run)
+    → Follows r (flush b (step (λ k. note b kind peer (bytes k) k) r))
 unfolding note
-follows-note-flush b kind bytes r =
-    let noted : Bank → Bank = λ k. note b kind (bytes k) k in
+follows-note-flush b kind peer bytes r =
+    let noted : Bank → Bank = λ k. note b kind peer (bytes k) k in
     follows-trans
-    (follows-step noted r (sizes-onBoard b (onWorking (recorded kind (bytes (r .bank)))) (r .bank)))
+    (follows-step noted r (sizes-onBoard b (onWorking (recorded kind peer (bytes (r .bank)))) (r .bank)))
     (follows-flush b (step noted r))
 
-pub follows-show : (o p : ℕ) (r : Run) → Follows r (show o p r)
+pub follows-show : (o b p : ℕ) (r : Run) → Follows r (show o b p r)
 unfolding show
-follows-show o p r = follows-note-flush o (Shown p) (λ k. zeros pageSize) r
+follows-show o b p r = follows-note-flush o (Shown p) b (λ k. zeros pageSize) r
 
-pub follows-showAll : (ps : List ℕ) (r : Run) → Follows r (showAll ps r)
+pub follows-showAll : (b : ℕ) (ps : List ℕ) (r : Run) → Follows r (showAll b ps r)
 unfolding showAll
-follows-showAll [] r = follows-refl r
-follows-showAll (p ∷ ps) r =
+follows-showAll b [] r = follows-refl r
+follows-showAll b (p ∷ ps) r =
     let o : ℕ = giver GotCopy (r .bank) p in
-    follows-trans (follows-show o p r) (follows-showAll ps (show o p r))
+    follows-trans (follows-show o b p r) (follows-showAll b ps (show o b p r))
 
 pub sizes-giveCopies : (b : ℕ) (ps : List ℕ) (k : Bank) → SameSizes k (giveCopies b ps k)
 unfolding giveCopies
@@ -229,17 +229,17 @@ sizes-giveCopies b (p ∷ ps) k = let o : ℕ = giver GotCopy k p in sizes-trans
 pub follows-readFetch : (b : ℕ) (ps : List ℕ) (r : Run) → Follows r (readFetch b ps r)
 unfolding readFetch
 follows-readFetch b ps r =
-    follows-trans (follows-showAll ps r) (follows-step (giveCopies b ps) (showAll ps r) (sizes-giveCopies b ps (showAll ps r .bank)))
+    follows-trans (follows-showAll b ps r) (follows-step (giveCopies b ps) (showAll b ps r) (sizes-giveCopies b ps (showAll b ps r .bank)))
 
 pub follows-writeFetch : (w p : ℕ) (r : Run) → Follows r (writeFetch w p r)
 unfolding writeFetch
 follows-writeFetch w p r =
     let o : ℕ = giver GotOwn (r .bank) p in
     let bytes : Bank → List ℕ = λ k. frameOf k o p .bytes in
-    let got : Run = flush w (step (λ k. note w (Got GotOwn p) (bytes k) k) (show o p r)) in
-    follows-trans (follows-show o p r)
+    let got : Run = flush w (step (λ k. note w (Got GotOwn p) o (bytes k) k) (show o w p r)) in
+    follows-trans (follows-show o w p r)
     (follows-trans
-    (follows-note-flush w (Got GotOwn p) bytes (show o p r))
+    (follows-note-flush w (Got GotOwn p) o bytes (show o w p r))
     (follows-step (passOwnership o w p) got (sizes-passOwnership o w p (got .bank))))
 
 pub follows-fetch : (g : CopyOrOwn) (b : ℕ) (ps : List ℕ) (r : Run) → Follows r (fetch g b ps r)

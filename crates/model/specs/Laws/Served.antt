@@ -96,18 +96,18 @@ storedRecord-fuse : (x : Board) → storedRecord x .fuse ≡ x .fuse
 unfolding storedRecord movedRecord
 storedRecord-fuse x = storedRecord-cases (λ y. y .fuse ≡ x .fuse) x (λ e. refl) (λ r rs e. refl)
 
-show-safe : (o p : ℕ) (r : Run) → Safe r → Safe (show o p r)
+show-safe : (o b p : ℕ) (r : Run) → Safe r → Safe (show o b p r)
 unfolding show flush note onWorking
-show-safe o p r q =
-    let noted : Run = step (note o (Shown p) (zeros pageSize)) r in
+show-safe o b p r q =
+    let noted : Run = step (note o (Shown p) b (zeros pageSize)) r in
     storeAll-safe o (recordStores (boardAt (noted .bank) o)) noted
     (each-recordStores {P = λ f. (x : Board) → f x .fuse ≡ x .fuse} storedRecord-fuse (boardAt (noted .bank) o))
-    (step-safe (note o (Shown p) (zeros pageSize)) r (onBoard-unfused o (onWorking (recorded (Shown p) (zeros pageSize))) (r .bank) (λ x e. e)) q)
+    (step-safe (note o (Shown p) b (zeros pageSize)) r (onBoard-unfused o (onWorking (recorded (Shown p) b (zeros pageSize))) (r .bank) (λ x e. e)) q)
 
-showAll-safe : (ps : List ℕ) (r : Run) → Safe r → Safe (showAll ps r)
+showAll-safe : (b : ℕ) (ps : List ℕ) (r : Run) → Safe r → Safe (showAll b ps r)
 unfolding showAll
-showAll-safe [] r q = q
-showAll-safe (p ∷ ps) r q = let o : ℕ = giver GotCopy (r .bank) p in showAll-safe ps (show o p r) (show-safe o p r q)
+showAll-safe b [] r q = q
+showAll-safe b (p ∷ ps) r q = let o : ℕ = giver GotCopy (r .bank) p in showAll-safe b ps (show o b p r) (show-safe o b p r q)
 
 -- a step loses no power
 step-keeps-power : (f : Bank → Bank) (r : Run) → r .lost ≡ none → step f r .lost ≡ none
@@ -115,7 +115,7 @@ step-keeps-power f r e = step-cases (λ s. s .lost ≡ none) f r (λ c n. lost-n
 
 fetch-power : (g : CopyOrOwn) (b : ℕ) (ps : List ℕ) (r : Run) → g ≡ GotCopy → Safe r → fetch g b ps r .lost ≡ none
 unfolding fetch readFetch
-fetch-power GotCopy b ps r e q = step-keeps-power (giveCopies b ps) (showAll ps r) (showAll-safe ps r q .lost)
+fetch-power GotCopy b ps r e q = step-keeps-power (giveCopies b ps) (showAll b ps r) (showAll-safe b ps r q .lost)
 fetch-power GotOwn b ps r e q = never (cc)
 
 module _ (b : ℕ) (a : Access) (copy : takes a ≡ GotCopy) where

@@ -120,14 +120,14 @@ module _ (bound : ℕ → ℕ) where
   unfolding powerOff poweredOff boardAt
   within-powerOff b k h = within-onBoard b poweredOff _ (λ x. omega arith) h
 
-  within-dropAt : (loses : ℕ → Bool) (p : ℕ) (k : Bank) → Within k → Within (dropAt loses p k)
+  within-dropAt : (loses : ℕ → Bool) (w p : ℕ) (k : Bank) → Within k → Within (dropAt loses w p k)
   unfolding droppedIf dropped withFrame onFrames onWorking recorded noBoard
-  within-dropAt loses p k h c =
+  within-dropAt loses w p k h c =
       byBoard k c
       (λ l.
-      rw (boardAt-dropAt loses p k c l)
+      rw (boardAt-dropAt loses w p k c l)
       (cases (λ (x : Board). x .working .since ≤ bound c) (loses c) (λ t. omega arith) (λ t. h c)))
-      (λ out. rw (boardAt-out (dropAt loses p k) c (rw (boards-dropAt loses p k) out)) (omega arith))
+      (λ out. rw (boardAt-out (dropAt loses w p k) c (rw (boards-dropAt loses w p k) out)) (omega arith))
 
   -- ---- runs
 
@@ -158,31 +158,31 @@ module _ (bound : ℕ → ℕ) where
 
   -- ---- fetches
 
-  within-note : (b : ℕ) (kind : Kind) (bytes : List ℕ) (k : Bank) → Within k → Within (note b kind bytes k)
+  within-note : (b : ℕ) (kind : Kind) (peer : ℕ) (bytes : List ℕ) (k : Bank) → Within k → Within (note b kind peer bytes k)
   unfolding note onWorking recorded
-  within-note b kind bytes k h = within-onBoard b (onWorking (recorded kind bytes)) k (λ x. omega arith) h
+  within-note b kind peer bytes k h = within-onBoard b (onWorking (recorded kind peer bytes)) k (λ x. omega arith) h
 
-  within-show : (o p : ℕ) (r : Run) → Within (r .bank) → Within (show o p r .bank)
+  within-show : (o b p : ℕ) (r : Run) → Within (r .bank) → Within (show o b p r .bank)
   unfolding show
-  within-show o p r h = within-flush o _ (within-step _ r h (within-note o (Shown p) (zeros pageSize) (r .bank) h))
+  within-show o b p r h = within-flush o _ (within-step _ r h (within-note o (Shown p) b (zeros pageSize) (r .bank) h))
 
   within-giveCopy : (o b p : ℕ) (k : Bank) → Within k → Within (giveCopy o b p k)
   unfolding giveCopy
   within-giveCopy o b p k h =
-      within-onEntry p _ _ (within-onBoard b (withFrame p _) _ (quiet-withFrame p _) (within-note b (Got GotCopy p) (frameOf k o p .bytes) k h))
+      within-onEntry p _ _ (within-onBoard b (withFrame p _) _ (quiet-withFrame p _) (within-note b (Got GotCopy p) o (frameOf k o p .bytes) k h))
 
-  within-dropCopies : (p : ℕ) (k : Bank) → Within k → Within (dropCopies p k)
+  within-dropCopies : (w p : ℕ) (k : Bank) → Within k → Within (dropCopies w p k)
   unfolding dropCopies
-  within-dropCopies p k h = within-onEntry p _ _ (within-dropAt (λ c. member c (entryAt k p .copies)) p k h)
+  within-dropCopies w p k h = within-onEntry p _ _ (within-dropAt (λ c. member c (entryAt k p .copies)) w p k h)
 
   within-passOwnership : (o w p : ℕ) (k : Bank) → Within k → Within (passOwnership o w p k)
   unfolding passOwnership
-  within-passOwnership o w p k h = within-onEntry p _ _ (within-onBoard w (withFrame p _) _ (quiet-withFrame p _) (within-dropAt _ p k h))
+  within-passOwnership o w p k h = within-onEntry p _ _ (within-onBoard w (withFrame p _) _ (quiet-withFrame p _) (within-dropAt _ w p k h))
 
-  within-showAll : (ps : List ℕ) (r : Run) → Within (r .bank) → Within (showAll ps r .bank)
+  within-showAll : (b : ℕ) (ps : List ℕ) (r : Run) → Within (r .bank) → Within (showAll b ps r .bank)
   unfolding showAll
-  within-showAll [] r h = h
-  within-showAll (p ∷ ps) r h = let o : ℕ = giver GotCopy (r .bank) p in within-showAll ps (show o p r) (within-show o p r h)
+  within-showAll b [] r h = h
+  within-showAll b (p ∷ ps) r h = let o : ℕ = giver GotCopy (r .bank) p in within-showAll b ps (show o b p r) (within-show o b p r h)
 
   within-giveCopies : (b : ℕ) (ps : List ℕ) (k : Bank) → Within k → Within (giveCopies b ps k)
   unfolding giveCopies
@@ -193,18 +193,18 @@ module _ (bound : ℕ → ℕ) where
   unfolding writeFetch
   within-writeFetch b p r h =
       let o : ℕ = giver GotOwn (r .bank) p in
-      let s : Run = show o p r in
-      let w : Within (s .bank) = within-show o p r h in
-      let t : Run = step (λ k. note b (Got GotOwn p) (frameOf k o p .bytes) k) s in
+      let s : Run = show o b p r in
+      let w : Within (s .bank) = within-show o b p r h in
+      let t : Run = step (λ k. note b (Got GotOwn p) o (frameOf k o p .bytes) k) s in
       let v : Within (flush b t .bank) =
-      within-flush b t (within-step _ s w (within-note b (Got GotOwn p) (frameOf (s .bank) o p .bytes) (s .bank) w)) in
+      within-flush b t (within-step _ s w (within-note b (Got GotOwn p) o (frameOf (s .bank) o p .bytes) (s .bank) w)) in
       within-step _ (flush b t) v (within-passOwnership o b p _ v)
 
   within-fetch : (g : CopyOrOwn) (b : ℕ) (ps : List ℕ) (r : Run) → Within (r .bank) → Within (fetch g b ps r .bank)
   unfolding fetch readFetch
   within-fetch GotCopy b ps r h =
-      let w : Within (showAll ps r .bank) = within-showAll ps r h in
-      within-step (giveCopies b ps) (showAll ps r) w (within-giveCopies b ps _ w)
+      let w : Within (showAll b ps r .bank) = within-showAll b ps r h in
+      within-step (giveCopies b ps) (showAll b ps r) w (within-giveCopies b ps _ w)
   within-fetch GotOwn b [] r h = h
   within-fetch GotOwn b (p ∷ ps) r h = within-fetch GotOwn b ps (writeFetch b p r) (within-writeFetch b p r h)
 
@@ -215,7 +215,7 @@ module _ (bound : ℕ → ℕ) where
       (λ t. within-fetch (takes a) b (pagesLacking b a (r .bank)) r h)
       (λ t.
       cases (λ (s : Run). Within (s .bank)) (copiesOut a (r .bank))
-      (λ u. within-step _ r h (within-dropCopies (pageWritten a) (r .bank) h))
+      (λ u. within-step _ r h (within-dropCopies b (pageWritten a) (r .bank) h))
       (λ u. h))
 
   -- ---- a replay's end

@@ -27,25 +27,25 @@ states-onBoard b f k h =
     (λ e. rw e (ap (λ (x : Board). x .state) (boardAt-same b f k (rw e at l)) ∙ h))
     (λ n. ap (λ (x : Board). x .state) (boardAt-other b f k c n)))
 
-droppedIf-state : (t : Bool) (p : ℕ) (x : Board) → droppedIf t p x .state ≡ x .state
+droppedIf-state : (t : Bool) (w p : ℕ) (x : Board) → droppedIf t w p x .state ≡ x .state
 unfolding droppedIf dropped withFrame onWorking
-droppedIf-state t p x = cases (λ (y : Board). y .state ≡ x .state) t (λ e. refl) (λ e. refl)
+droppedIf-state t w p x = cases (λ (y : Board). y .state ≡ x .state) t (λ e. refl) (λ e. refl)
 
-states-dropAt : (loses : ℕ → Bool) (p : ℕ) (k : Bank) → SameStates k (dropAt loses p k)
-states-dropAt loses p k =
-    states-in k (dropAt loses p k) (boards-dropAt loses p k)
-    (λ c l. ap (λ (x : Board). x .state) (boardAt-dropAt loses p k c l) ∙ droppedIf-state (loses c) p (boardAt k c))
+states-dropAt : (loses : ℕ → Bool) (w p : ℕ) (k : Bank) → SameStates k (dropAt loses w p k)
+states-dropAt loses w p k =
+    states-in k (dropAt loses w p k) (boards-dropAt loses w p k)
+    (λ c l. ap (λ (x : Board). x .state) (boardAt-dropAt loses w p k c l) ∙ droppedIf-state (loses c) w p (boardAt k c))
 
 pub states-giveCopy : (o b p : ℕ) (k : Bank) → SameStates k (giveCopy o b p k)
 unfolding tookCopy withFrame onWorking
-states-giveCopy o b p k c = rw (giveCopy-parts o b p k, boardAt-onEntry) (states-onBoard b (tookCopy p (frameOf k o p .bytes)) k refl c)
+states-giveCopy o b p k c = rw (giveCopy-parts o b p k, boardAt-onEntry) (states-onBoard b (tookCopy o p (frameOf k o p .bytes)) k refl c)
 
-pub states-dropCopies : (p : ℕ) (k : Bank) → SameStates k (dropCopies p k)
-states-dropCopies p k c = rw (dropCopies-parts p k, boardAt-onEntry) (states-dropAt (holds p k) p k c)
+pub states-dropCopies : (w p : ℕ) (k : Bank) → SameStates k (dropCopies w p k)
+states-dropCopies w p k c = rw (dropCopies-parts w p k, boardAt-onEntry) (states-dropAt (holds w p k) w p k c)
 
 pub states-passOwnership : (o w p : ℕ) (k : Bank) → SameStates k (passOwnership o w p k)
 unfolding tookOwn withFrame onWorking
 states-passOwnership o w p k c =
-    let j : Bank = dropAt (loses o w p k) p k in
+    let j : Bank = dropAt (loses o w p k) w p k in
     rw (passOwnership-parts o w p k, boardAt-onEntry)
-    (states-onBoard w (tookOwn p (frameOf k o p .bytes)) j refl c ∙ states-dropAt (loses o w p k) p k c)
+    (states-onBoard w (tookOwn p (frameOf k o p .bytes)) j refl c ∙ states-dropAt (loses o w p k) w p k c)

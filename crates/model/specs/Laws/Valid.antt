@@ -155,14 +155,15 @@ module _ {pages : ℕ} {l : Log} where
 -- ---- what a record may hold
 
 -- a shown or dropped
-pub recordable-plain : {pages : ℕ} (kind : Kind) → isGot kind ≡ false → pageOf kind < pages → Recordable pages kind (zeros pageSize)
-recordable-plain kind g m n l =
-    record { count = omega arith; page = m; size = zeros-length pageSize; bytes = zeros-bytes pageSize; plain = λ e. refl }
+pub recordable-plain : {pages : ℕ} (kind : Kind) {peer : ℕ} → isGot kind ≡ false → pageOf kind < pages → peer < byteValues
+    → Recordable pages kind peer (zeros pageSize)
+recordable-plain kind g m h n l =
+    record { count = omega arith; page = m; peer = h; size = zeros-length pageSize; bytes = zeros-bytes pageSize; plain = λ e. refl }
 
 -- a got with the bytes of a frame
-pub recordable-got : {pages p : ℕ} {f : Frame} (g : CopyOrOwn) → FrameOk f → p < pages → Recordable pages (Got g p) (f .bytes)
+pub recordable-got : {pages p peer : ℕ} {f : Frame} (g : CopyOrOwn) → FrameOk f → p < pages → peer < byteValues → Recordable pages (Got g p) peer (f .bytes)
 unfolding pageOf isGot
-recordable-got g h m n l = record { count = omega arith; page = m; size = h .size; bytes = h .bytes; plain = λ e. clash refl e }
+recordable-got g h m i n l = record { count = omega arith; page = m; peer = i; size = h .size; bytes = h .bytes; plain = λ e. clash refl e }
 
 -- ---- an area, field by field
 

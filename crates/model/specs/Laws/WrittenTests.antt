@@ -75,7 +75,7 @@ slot-valid {form} pages r ok =
     let bytes : part (encodeRecordIn form r) (slotBytesAtIn form) pageSize ≡ r .bytes = ap (λ (q : Record). q .bytes) (decode-encodeRecord pages r ok) in
     and-both
     (mark-valid (r .kind) _ (λ g. rw bytes (says-zero (r .bytes) pageSize (ok .size) .1 (ok .plain g))))
-    (and-both (lt-ltb (pageOf (r .kind)) pages (ok .page)) refl)
+    (lt-ltb (pageOf (r .kind)) pages (ok .page))
 
 -- ---- a log
 
@@ -181,7 +181,7 @@ module _ (pages : ℕ) (few : pages ≤ mostPages) where
       byte (mark0 (r .kind)) (mark0-byte (r .kind))
       (byte (mark1 (r .kind)) (mark1-byte (r .kind))
       (byte (pageOf (r .kind)) (omega (arith, ok .page))
-      (byte 0 (lit< tt) (each-append (bytesOf (form .sinceWidth) (r .count)) (r .bytes) (bytes-bytesOf (form .sinceWidth) (r .count)) (ok .bytes)))))
+      (byte (r .peer) (ok .peer) (each-append (bytesOf (form .sinceWidth) (r .count)) (r .bytes) (bytes-bytesOf (form .sinceWidth) (r .count)) (ok .bytes)))))
 
   pub bytes-log : {form : Form} (l : Log) → LogOkIn form pages l → Bytes (encodeLogIn form l)
   unfolding encodeLogIn

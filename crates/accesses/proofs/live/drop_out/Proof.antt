@@ -27,7 +27,7 @@ returns c =
     let start = c .before .before .before .before .before .before .before .before .before in
     let e = c .before .before .before .before .before .count-copies .ensures
     ∙ ap ones (c .before .before .before .before .before .before .read-copies .ensures ∙ copies-told (start .pre .0) _ (start .pre .1)) in
-    rw (← out-some (start .args .page) (decode (start .args .bank .now)) (copies-some _ _ e (c .before .before .before .before .if1 .taken)))
+    rw (← out-some (start .args .board) (start .args .page) (decode (start .args .bank .now)) (copies-some _ _ e (c .before .before .before .before .if1 .taken)))
     (c .before .before .drop-copies .ensures)
 
 same-length-2 : tie.Need-same-length-2
@@ -38,7 +38,7 @@ returns-2 c =
     let start = c .before .before .before .before .before in
     let e = c .before .count-copies .ensures
     ∙ ap ones (c .before .before .read-copies .ensures ∙ copies-told (start .pre .0) _ (start .pre .1)) in
-    rw (← out-none (start .args .page) (decode (start .args .bank .now)) (copies-none _ _ e (omega arith))) (of-holds (start .pre .0))
+    rw (← out-none (start .args .board) (start .args .page) (decode (start .args .bank .now)) (copies-none _ _ e (omega arith))) (of-holds (start .pre .0))
 
 pub drop-out-spec : {M : Type 1} → statement M
 drop-out-spec =

@@ -3,7 +3,6 @@ use mathlib.Core.Path.{sym}
 use native.Mathlib.Omega.{arith}
 use Rattle.model.specs.Laws.Keeps.Rights as rights
 use Rattle.model.specs.Laws.Keeps.Live.{can-fetch}
-use Rattle.exchange.specs.Directory.{of-board}
 use Rattle.accesses.specs.Prepared.{asks-frames, pages-lacking, one-lacking, prepared-fetch, prepared-own-write, prepared-local-read}
 use Rattle.accesses.specs.Prepared.{holder-space, came-idle}
 use borrow.Author.Needs.{needs}
@@ -37,7 +36,7 @@ drop-out-requires c κs =
     let asks = start .pre .0 in
     let way = start .pre .2 .1 in
     let page = start .pre .1 (c .before .if2 .taken) in (
-      of-board (asks .bank) 0 (omega (arith, asks .bank .board)),
+      asks .bank,
       page,
       rights.entry-at (asks .formed) _ (rw (asks .bank .count) at page),
       holder-space (way .lacking) (asks-frames asks) (omega arith) (c .before .if2 .taken) (c .before .before .if1 .left) (asks .formed)

@@ -63,6 +63,12 @@ enum-told-3 c = search needs
 row-requires-10 : tie.Need-row-requires-10
 row-requires-10 c κs = search needs
 
+enum-told-4 : tie.Need-enum-told-4
+enum-told-4 c = search needs
+
+row-requires-11 : tie.Need-row-requires-11
+row-requires-11 c κs = search needs
+
 returns : tie.Need-returns
 returns c = cc
 
@@ -93,6 +99,9 @@ returns-9 c = cc
 returns-10 : tie.Need-returns-10
 returns-10 c = cc
 
+returns-11 : tie.Need-returns-11
+returns-11 c = cc
+
 pub numbers-of-spec : {M : Type 1} → statement M
 numbers-of-spec =
     tie.close
@@ -117,6 +126,8 @@ numbers-of-spec =
     row-requires-9
     enum-told-3
     row-requires-10
+    enum-told-4
+    row-requires-11
     returns
     returns-2
     returns-3
@@ -126,4 +137,5 @@ numbers-of-spec =
     returns-7
     returns-8
     returns-9
-    returns-10)
+    returns-10
+    returns-11)

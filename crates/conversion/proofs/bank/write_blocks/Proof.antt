@@ -8,7 +8,7 @@ use Rattle.model.specs.Definitions.Layout.{blocksAt, blockSize, blockSizeIn}
 use Rattle.model.specs.Definitions.Bank.{Board}
 use Rattle.model.specs.Definitions.Codec.{encodeBoard, decodeBoardIn}
 use Rattle.model.specs.Definitions.Older.{older, clearedBoard}
-use Rattle.conversion.specs.Logs.{written-none}
+use Rattle.conversion.specs.Rewritten.{written-none}
 use Rattle.conversion.specs.Banks.{rewrittenBlocks, few-pages, few-boards, blocks-in, NextBlock, next-read, next-kept, next-in, next-lent, next-length}
 use Rattle.conversion.specs.Banks.{next-written}
 use Rattle.conversion.proofs.bank.write_blocks.Statement.{statement}

@@ -1,14 +1,16 @@
--- `conversion::block::write_area` meets its contract: the head and the frames, then the log. Assumes nothing.
+-- `conversion::block::write_area` meets its contract: the head and the frames, then zeros. Assumes nothing.
 use mathlib.Core.Path.{_≡_, _∙_}
 use Prim.Native.Nat.{ℕ}
 use native.Mathlib.Omega.{arith}
 use mathlib.Core.List.{List}
 use lib.ListN.{length}
-use Rattle.model.specs.Definitions.Parts.{part, byteAt}
-use Rattle.model.specs.Definitions.Layout.{areaCountAt, areaSlotsAt, slotsSize}
+use Rattle.model.specs.Definitions.Parts.{part, zeros}
+use Rattle.model.specs.Definitions.Layout.{areaSlotsAt, slotsSize}
 use Rattle.model.specs.Laws.Parts.{length-part}
+use Rattle.model.specs.Laws.Fresh.{zeros-length}
+use Rattle.fields.proofs.Lent.{lent-cleared}
 use Rattle.fields.proofs.Splices.{splice-pair}
-use Rattle.conversion.specs.Blocks.{logAt, log-length, area-written}
+use Rattle.conversion.specs.Blocks.{area-written}
 use borrow.Author.Needs.{needs}
 use Rattle.conversion.proofs.block.write_area.Statement.{statement}
 use Rattle.conversion.proofs.block.write_area.Tie as tie
@@ -19,37 +21,38 @@ area-slots-at-requires c κs = search needs
 copy-requires : tie.Need-copy-requires
 copy-requires c κs = search needs
 
-get-requires : tie.Need-get-requires
-get-requires c κs = search needs
+add-clear : tie.Need-add-clear
+add-clear c = search needs
 
-wide-requires : tie.Need-wide-requires
-wide-requires c κs = search needs
+sub-clear : tie.Need-sub-clear
+sub-clear c = search needs
 
-write-log-requires : tie.Need-write-log-requires
-write-log-requires c κs = search needs
+part-clear-start : tie.Need-part-clear-start
+part-clear-start c = search needs
+
+part-clear-end : tie.Need-part-clear-end
+part-clear-end c = search needs
+
+clear-requires : tie.Need-clear-requires
+clear-requires c κs = search needs
 
 same-length : tie.Need-same-length
 same-length c = search needs
 
 returns : tie.Need-returns
 returns c =
-    let start = c .before .before .before .before .before .before .before .before .before .before .before .before .before in
+    let start = c .before .before .before .before .before .before .before .before .before .before .before in
     let pages = start .args .pages in
     let old : List ℕ = start .args .old .now in
     let new = start .args .new .now in
     let n : ℕ = areaSlotsAt pages in
-    let log : List ℕ = logAt (byteAt old areaCountAt) n old in
+    let at = c .before .before .before .before .before .before .before .before .area-slots-at in
+    let wrote = c .before .before .clear in
+    let copied = c .before .before .before .before .before .before .copy in
     let h : length (part old 0 n) ≡ n = length-part old 0 n (omega (arith, start .pre .0 .size)) in
-    let g : length log ≡ slotsSize = log-length (byteAt old areaCountAt) n old (start .pre .0 .passes .log .few) (omega (arith, start .pre .0 .size)) in
-    c .before .before .write-log .ensures
-    ∙ rw (
-      c .before .before .before .before .before .before .before .before .copy .ensures,
-      c .before .before .before .before .wide .ensures .0,
-      c .before
-          .before .before .before .before .get .ensures,
-      c .before .before .before .before .before .before .before .before .before .before .area-slots-at .ensures,
-    )
-    (splice-pair new (part old 0 n) log n h (omega (arith, start .pre .1)) ∙ area-written pages old (start .pre .0))
+    lent-cleared (copied .last .1 .1 .0) (wrote .last .0) (at .result) slotsSize (omega arith) (wrote .kept .0) (wrote .ensures)
+    ∙ rw (copied .ensures, at .ensures)
+    (splice-pair new (part old 0 n) (zeros slotsSize) n h (omega (arith, start .pre .1, zeros-length slotsSize)) ∙ area-written pages old (start .pre .0))
 
 pub write-area-spec : {M : Type 1} → statement M
 write-area-spec =
@@ -57,8 +60,10 @@ write-area-spec =
     (tie.spec
     area-slots-at-requires
     copy-requires
-    get-requires
-    wide-requires
-    write-log-requires
+    add-clear
+    sub-clear
+    part-clear-start
+    part-clear-end
+    clear-requires
     same-length
     returns)

@@ -8,8 +8,7 @@ use Rattle.model.specs.Definitions.Codec.{encodeArea, decodeAreaIn}
 use Rattle.model.specs.Definitions.Older.{older}
 use Rattle.model.specs.Laws.CodecBack.{area-inside}
 use Rattle.fields.proofs.Lent.{lent-written}
-use Rattle.conversion.specs.Logs.{clearedArea}
-use Rattle.conversion.specs.Blocks.{lent-area, lent-widened}
+use Rattle.conversion.specs.Blocks.{clearedArea, lent-area, lent-widened}
 use borrow.Author.Needs.{needs}
 use Rattle.conversion.proofs.block.write_area_at.Statement.{statement}
 use Rattle.conversion.proofs.block.write_area_at.Tie as tie

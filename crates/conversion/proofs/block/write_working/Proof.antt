@@ -1,8 +1,5 @@
 -- `conversion::block::write_working` meets its contract: four parts side by side. Assumes nothing.
 use mathlib.Core.Path.{_∙_}
-use Prim.Native.Nat.{_≤_}
-use native.Mathlib.Omega.{arith}
-use Rattle.model.specs.Definitions.Layout.{slotCount}
 use Rattle.conversion.specs.Blocks.{working-written}
 use borrow.Author.Needs.{needs}
 use Rattle.conversion.proofs.block.write_working.Statement.{statement}
@@ -32,35 +29,8 @@ sub-copy c = search needs
 copy-requires-2 : tie.Need-copy-requires-2
 copy-requires-2 c κs = search needs
 
-volatile-count-at-in-requires : tie.Need-volatile-count-at-in-requires
-volatile-count-at-in-requires c κs = search needs
-
-get-requires : tie.Need-get-requires
-get-requires c κs = search needs
-
-wide-requires : tie.Need-wide-requires
-wide-requires c κs = search needs
-
-slots-at-in-requires : tie.Need-slots-at-in-requires
-slots-at-in-requires c κs = search needs
-
-slots-at-requires-2 : tie.Need-slots-at-requires-2
-slots-at-requires-2 c κs = search needs
-
-write-log-requires : tie.Need-write-log-requires
-write-log-requires c κs =
-    let byte = c .before .before .before .before in
-    let behind = byte .before .before .before .before in
-    let put = behind .before .before .before .before .before .before in
-    let front = put .before .before .before .before .before in
-    let start = front .before .before .before .before in
-    let count : c .before .before .before .wide .result ≤ slotCount
-    = rw (c .before .before .before .wide .ensures .0, byte .get .ensures, byte .before .volatile-count-at-in .ensures)
-    (start .pre .0 .readable .log .few) in (
-      omega (arith, start .pre .0 .size, start .pre .0 .few, c .before .before .slots-at-in .ensures),
-      count,
-      omega (arith, start .pre .1, start .pre .0 .few, behind .copy2 .kept .1 .1 .0, put .put-u32 .kept .0, front .copy .kept .1 .1 .0),
-    )
+clear-volatiles-requires : tie.Need-clear-volatiles-requires
+clear-volatiles-requires c κs = search needs
 
 same-length : tie.Need-same-length
 same-length c = search needs
@@ -68,21 +38,15 @@ same-length c = search needs
 returns : tie.Need-returns
 returns c =
     let log = c .before .before in
-    let byte = log .before .before .before .before .before in
-    let behind = byte .before .before .before .before in
+    let behind = log .before .before .before .before in
     let put = behind .before .before .before .before .before .before in
     let front = put .before .before .before .before .before in
     let start = front .before .before .before .before in
-    log .write-log .ensures
+    log .clear-volatiles .ensures
     ∙ rw (
       behind .copy2 .ensures,
       put .put-u32 .ensures,
       front .copy .ensures,
-      log .before .slots-at2 .ensures,
-      log .before .before .before .slots-at-in .ensures,
-      log .before .before .before .before .wide .ensures .0,
-      byte .get .ensures,
-      byte .before .volatile-count-at-in .ensures,
       put .before .get-u16 .ensures,
       behind .before .slots-at .ensures,
       behind .before .before .before .place-at-in .ensures,
@@ -101,11 +65,6 @@ write-working-spec =
     slots-at-requires
     sub-copy
     copy-requires-2
-    volatile-count-at-in-requires
-    get-requires
-    wide-requires
-    slots-at-in-requires
-    slots-at-requires-2
-    write-log-requires
+    clear-volatiles-requires
     same-length
     returns)

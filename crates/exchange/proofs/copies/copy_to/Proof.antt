@@ -45,8 +45,8 @@ returns c =
     let start = c .before .before .before .before .before .before .before in
     let block = lent (c .before .before .before .before) in
     let done = c .before .before .take-copy in
-    lent-holds (start .pre .0) block (tookCopy (start .args .page) (start .args .frame .bytes)) (done .last .0)
-    (tookCopy-fields (lent-fields block) _ (start .args .frame) (start .pre .3) (start .pre .2) (start .pre .1)) (done .kept .0) (done .ensures)
+    lent-holds (start .pre .0) block (tookCopy (start .args .giver) (start .args .page) (start .args .frame .bytes)) (done .last .0)
+    (tookCopy-fields (lent-fields block) _ _ (start .args .frame) (start .pre .3) (start .pre .2) (omega arith) (start .pre .1)) (done .kept .0) (done .ensures)
 
 pub copy-to-spec : {M : Type 1} → statement M
 copy-to-spec =

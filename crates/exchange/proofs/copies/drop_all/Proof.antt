@@ -10,13 +10,13 @@ use Rattle.exchange.proofs.copies.drop_all.Statement.{statement}
 use Rattle.exchange.proofs.copies.drop_all.Tie as tie
 
 abbrev Inv-loop : tie.InvT-loop
-Inv-loop bank₀ pages losers page left₀ bank left = (length bank ≡ length bank₀) × Dropping bank (decode bank₀) losers left page
+Inv-loop bank₀ pages writer losers page left₀ bank left = (length bank ≡ length bank₀) × Dropping bank (decode bank₀) losers left writer page
 
 abbrev μ-loop : tie.MeasureT-loop
-μ-loop bank₀ pages losers page left₀ bank left = left
+μ-loop bank₀ pages writer losers page left₀ bank left = left
 
 loop-holds : tie.Need-loop-holds Inv-loop μ-loop
-loop-holds c = (refl, dropping-first (of-holds (c .before .pre .0)) _ _)
+loop-holds c = (refl, dropping-first (of-holds (c .before .pre .0)) _ _ _)
 
 lowest-holder-requires : tie.Need-lowest-holder-requires Inv-loop μ-loop
 lowest-holder-requires c κs = search needs
@@ -60,7 +60,7 @@ returns : tie.Need-returns Inv-loop μ-loop
 returns c =
     let start = c .before .before .before in
     let loop = c .before .loop in
-    dropping-last (start .args .losers) (start .args .page) (rw (c .loop-test .left) at (loop .inv .1))
+    dropping-last (start .args .losers) (start .args .writer) (start .args .page) (rw (c .loop-test .left) at (loop .inv .1))
 
 pub drop-all-spec : {M : Type 1} → statement M
 drop-all-spec =

@@ -45,7 +45,7 @@ returns c =
     let start = c .before .before .before .before .before .before .before in
     let block = lent (c .before .before .before .before) in
     let done = c .before .before .drop-right in
-    lent-holds (start .pre .0) block (dropped (start .args .page)) (done .last .0) (dropped-fields (lent-fields block) _ (start .pre .2) (start .pre .1))
+    lent-holds (start .pre .0) block (dropped (start .args .writer) (start .args .page)) (done .last .0) (dropped-fields (lent-fields block) _ _ (start .pre .2) (omega arith) (start .pre .1))
     (done .kept .0) (done .ensures)
 
 pub drop-at-spec : {M : Type 1} → statement M

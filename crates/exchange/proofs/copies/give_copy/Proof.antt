@@ -11,6 +11,9 @@ use Rattle.exchange.proofs.copies.give_copy.Tie as tie
 page-frame-requires : tie.Need-page-frame-requires
 page-frame-requires c κs = search needs
 
+cast-copy-to : tie.Need-cast-copy-to
+cast-copy-to c = search needs
+
 copy-to-requires : tie.Need-copy-to-requires
 copy-to-requires c κs = search needs
 
@@ -51,6 +54,7 @@ give-copy-spec =
     tie.close
     (tie.spec
     page-frame-requires
+    cast-copy-to
     copy-to-requires
     read-owner-requires
     read-copies-requires

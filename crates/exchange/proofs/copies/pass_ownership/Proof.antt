@@ -24,6 +24,9 @@ without-holder-requires c κs = search needs
 with-holder-requires : tie.Need-with-holder-requires
 with-holder-requires c κs = search needs
 
+cast-drop-all : tie.Need-cast-drop-all
+cast-drop-all c = search needs
+
 drop-all-requires : tie.Need-drop-all-requires
 drop-all-requires c κs =
     let start = c .before .before .before .before .before .before .before .before in
@@ -43,7 +46,7 @@ unfolding dropAt
 own-to-requires c κs =
     let pre = c .before .before .before .before .before .before .before .before .before .before .before .before .pre in
     let dropped = c .before .before .before .drop-all .ensures in (
-      holds-of dropped _ _ (pre .0 .count) (rw (boards-dropAt _ _ _) (pre .0 .board)),
+      holds-of dropped _ _ (pre .0 .count) (rw (boards-dropAt _ _ _ _) (pre .0 .board)),
       pre .3,
       c .before .before .before .before .before .before .before .before .before .page-frame .ensures .1,
     )
@@ -83,6 +86,7 @@ pass-ownership-spec =
     read-copies-requires
     without-holder-requires
     with-holder-requires
+    cast-drop-all
     drop-all-requires
     own-to-requires
     cast-write-entry

@@ -1,4 +1,5 @@
 -- `exchange::fetch::show` meets its contract. Assumes nothing.
+use native.Mathlib.Omega.{arith}
 use mathlib.Core.Path.{refl}
 use Rattle.model.specs.Definitions.Parts.{zeros}
 use Rattle.model.specs.Definitions.Codec.{pageOf}
@@ -9,14 +10,17 @@ use borrow.Author.Needs.{needs}
 use Rattle.exchange.proofs.fetch.show.Statement.{statement}
 use Rattle.exchange.proofs.fetch.show.Tie as tie
 
-cast-t7 : tie.Need-cast-t7
-cast-t7 c = search needs
+cast-t8 : tie.Need-cast-t8
+cast-t8 c = search needs
+
+cast-log-through : tie.Need-cast-log-through
+cast-log-through c = let pre = c .before .before .pre in omega (arith, pre .2, pre .0 .bank .sizes .boards)
 
 log-through-requires : tie.Need-log-through-requires
 unfolding zeros pageOf isGot
 log-through-requires c κs =
-    let start = c .before .before in
-    (start .pre .0, start .pre .1, start .pre .3 .0, start .pre .3 .1, recordable-plain _ refl (start .pre .2))
+    let pre = c .before .before .pre in
+    (pre .0, pre .1, pre .4 .0, pre .4 .1, recordable-plain _ refl (pre .3) (omega (arith, pre .2, pre .0 .bank .sizes .boards)))
 
 same-length : tie.Need-same-length
 same-length c = search needs
@@ -26,4 +30,4 @@ unfolding show zeros
 returns c = c .before .before .log-through .ensures
 
 pub show-spec : {M : Type 1} → statement M
-show-spec = tie.close (tie.spec cast-t7 log-through-requires same-length returns)
+show-spec = tie.close (tie.spec cast-t8 cast-log-through log-through-requires same-length returns)

@@ -14,10 +14,10 @@ use Rattle.exchange.proofs.fetch.show_all.Statement.{statement}
 use Rattle.exchange.proofs.fetch.show_all.Tie as tie
 
 abbrev Inv-loop : tie.InvT-loop
-Inv-loop bank₀ pages lacking stores₀ page₀ bank stores page = (length bank ≡ length bank₀) × Showing pages lacking (decode bank₀) bank stores page
+Inv-loop bank₀ pages board lacking stores₀ page₀ bank stores page = (length bank ≡ length bank₀) × Showing pages lacking board (decode bank₀) bank stores page
 
 abbrev μ-loop : tie.MeasureT-loop
-μ-loop bank₀ pages lacking stores₀ page₀ bank stores page = pages - page
+μ-loop bank₀ pages board lacking stores₀ page₀ bank stores page = pages - page
 
 loop-holds : tie.Need-loop-holds Inv-loop μ-loop
 loop-holds c = (refl, showing-first _ (c .before .pre .0) (c .before .pre .1) (c .before .pre .2))
@@ -39,16 +39,16 @@ show-requires c κs =
     = omega arith in
     let among = sym (c .before .before .before .before .has .ensures) ∙ c .before .before .before .if1 .taken in
     let from = c .before .giver .ensures in
-    (of-board (showing .bank) _ (show-giver showing inside among _ from), showing .formed, inside, show-can showing inside among _ from)
+    (of-board (showing .bank) _ (show-giver showing inside among _ from), showing .formed, showing .bank .board, inside, show-can showing inside among _ from)
 
 add-stores : tie.Need-add-stores Inv-loop μ-loop
 add-stores c =
     let showing = c .before .before .before .before .before .before .before .before .before .before .loop .inv .1 in
     omega (arith, showing .few, c .before .before .before .show .ensures .1, showing .bank .count, showing .bank .bank .sizes .pages)
 
-cast-t15 : tie.Need-cast-t15 Inv-loop μ-loop
+cast-t16 : tie.Need-cast-t16 Inv-loop μ-loop
 unfolding got
-cast-t15 c =
+cast-t16 c =
     let given = c .before .before .before .before .before .before in
     let has = given .before .before .before in
     let showing = has .before .before .loop .inv .1 in
@@ -112,7 +112,7 @@ show-all-spec =
     giver-requires
     show-requires
     add-stores
-    cast-t15
+    cast-t16
     same-length
     returns
     add-page

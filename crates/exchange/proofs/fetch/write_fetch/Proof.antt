@@ -12,7 +12,7 @@ use Rattle.exchange.proofs.fetch.write_fetch.Tie as tie
 show-requires : tie.Need-show-requires
 show-requires c κs =
     let pre = c .before .before .pre in
-    (fetch-of pre, pre .1, fetch-page pre, fetch-shows pre)
+    (fetch-of pre, pre .1, pre .0 .board, fetch-page pre, fetch-shows pre)
 
 cast-t12 : tie.Need-cast-t12
 cast-t12 c = let pre = c .before .before .before .before .before .before .pre in omega (arith, fetch-owner pre, pre .0 .bank .sizes .boards)

@@ -23,10 +23,10 @@ lent c = lent-of (c .before .before .before .pre .0) _ _ (c .before .block-at .e
 -- the board as its run leaves it
 fields : (c : tie.After-block-size)
     → FieldsOk (c .before .before .before .args .pages)
-    (loggedOn (c .before .before .before .args .kind) (c .before .before .before .args .bytes)
+    (loggedOn (c .before .before .before .args .kind) (c .before .before .before .args .peer) (c .before .before .before .args .bytes)
     (boardAt (decode (c .before .before .before .args .bank .now)) (c .before .before .before .args .board)) .board)
 fields c = let start = c .before .before .before
-    in loggedOn-fields (start .args .kind) (start .args .bytes) _ (lent-fields (lent c)) (start .pre .3) (start .pre .4)
+    in loggedOn-fields (start .args .kind) (start .args .peer) (start .args .bytes) _ (lent-fields (lent c)) (start .pre .3) (start .pre .4)
 
 block-at-requires : tie.Need-block-at-requires
 block-at-requires c κs = search needs
@@ -55,7 +55,7 @@ forget-requires c κs =
     let start = c .before .before .before .before .before .before .before .before .before in
     let lends = c .before .before .before .before .before .before in
     let ran = c .before .before .before .before .log-through in
-    let bank = run-of (start .pre .0) (lent lends) (loggedOn (start .args .kind) (start .args .bytes)) (fields lends) (ran .last .0) (ran .kept .0)
+    let bank = run-of (start .pre .0) (lent lends) (loggedOn (start .args .kind) (start .args .peer) (start .args .bytes)) (fields lends) (ran .last .0) (ran .kept .0)
     (ran .ensures .0 .0) in
     (bank .bank, bank .count, omega (arith, bank .board, bank .bank .sizes .boards))
 
@@ -68,8 +68,8 @@ returns c =
     let lends = c .before .before .before .before .before .before .before .before .before in
     let ran = c .before .before .before .before .before .before .before .log-through in (
       λ n.
-          rw (logged-lifted (start .args .board) n (decode (start .args .bank .now)) (start .pre .0 .board) (start .args .kind) (start .args .bytes))
-          (run-lost (start .pre .0) (lent lends) (loggedOn (start .args .kind) (start .args .bytes)) (fields lends) (ran .last .0) (ran .kept .0)
+          rw (logged-lifted (start .args .board) n (decode (start .args .bank .now)) (start .pre .0 .board) (start .args .kind) (start .args .peer) (start .args .bytes))
+          (run-lost (start .pre .0) (lent lends) (loggedOn (start .args .kind) (start .args .peer) (start .args .bytes)) (fields lends) (ran .last .0) (ran .kept .0)
           (ran .ensures .0 .0) _ _ (ran .ensures .0 .1) (ran .ensures .0 .2)
           (c .before .before .before .before .if1 .taken) _ (c .before .before .forget .ensures) n),
       ran .ensures .1,
@@ -84,8 +84,8 @@ returns-2 c =
     let lends = c .before .before .before .before .before in
     let ran = c .before .before .before .log-through in (
       λ n.
-          rw (logged-lifted (start .args .board) n (decode (start .args .bank .now)) (start .pre .0 .board) (start .args .kind) (start .args .bytes))
-          (run-going (start .pre .0) (lent lends) (loggedOn (start .args .kind) (start .args .bytes)) (fields lends) (ran .last .0) (ran .kept .0)
+          rw (logged-lifted (start .args .board) n (decode (start .args .bank .now)) (start .pre .0 .board) (start .args .kind) (start .args .peer) (start .args .bytes))
+          (run-going (start .pre .0) (lent lends) (loggedOn (start .args .kind) (start .args .peer) (start .args .bytes)) (fields lends) (ran .last .0) (ran .kept .0)
           (ran .ensures .0 .0) _ _ (ran .ensures .0 .1) (ran .ensures .0 .2) (c .if1 .left) n),
       ran .ensures .1,
     )

@@ -10,24 +10,24 @@ use Rattle.types.specs.declared.Record.{Record}
 use Rattle.model.specs.Definitions.Parts.{splice}
 use Rattle.model.specs.Definitions.Layout.{pageSize, sinceSize, mark0At, recordCountAt, slotBytesAt, slotSize}
 use Rattle.model.specs.Definitions.Codec.{encodeRecord}
-use Rattle.fields.specs.SlotParts.{kindBytes, encodeRecord-parts, length-kindBytes}
+use Rattle.fields.specs.SlotParts.{frontBytes, encodeRecord-parts, length-frontBytes}
 use Rattle.fields.proofs.Splices.{splice-triple}
 use borrow.Author.Needs.{needs}
 use Rattle.fields.proofs.slot.write_record.Statement.{statement}
 use Rattle.fields.proofs.slot.write_record.Tie as tie
 
--- the kind, the count and the page, side by side over the whole slot
-written : (l m n o : List ℕ) (r : Record) → length l ≡ slotSize → length (r .bytes) ≡ pageSize → m ≡ splice l mark0At (kindBytes (r .kind))
+-- the front, the count and the page, side by side over the whole slot
+written : (l m n o : List ℕ) (r : Record) → length l ≡ slotSize → length (r .bytes) ≡ pageSize → m ≡ splice l mark0At (frontBytes (r .kind) (r .peer))
     → n ≡ splice m recordCountAt (bytesOf sinceSize (r .count)) → o ≡ splice n slotBytesAt (r .bytes)
     → o ≡ encodeRecord r
 written l m n o r e g p q s =
-    let h : length (kindBytes (r .kind)) ≡ recordCountAt = length-kindBytes (r .kind) in
+    let h : length (frontBytes (r .kind) (r .peer)) ≡ recordCountAt = length-frontBytes (r .kind) (r .peer) in
     let k : length (bytesOf sinceSize (r .count)) ≡ sinceSize = length-bytesOf sinceSize (r .count) in
     rw (s, q, p, encodeRecord-parts r)
-    (splice-triple l (kindBytes (r .kind)) (bytesOf sinceSize (r .count)) (r .bytes) recordCountAt slotBytesAt h (omega arith) (omega arith))
+    (splice-triple l (frontBytes (r .kind) (r .peer)) (bytesOf sinceSize (r .count)) (r .bytes) recordCountAt slotBytesAt h (omega arith) (omega arith))
 
-write-kind-requires : tie.Need-write-kind-requires
-write-kind-requires c κs = search needs
+write-front-requires : tie.Need-write-front-requires
+write-front-requires c κs = search needs
 
 put-u32-requires : tie.Need-put-u32-requires
 put-u32-requires c κs = search needs
@@ -43,10 +43,10 @@ returns c =
     let start = c .before .before .before .before .before .before .before .before .before .before .before .before .before .before in
     let wrote = c .before .before .write-page in
     written _ _ _ _ (start .args .r) (start .pre) (wrote .ensures .1)
-    (c .before .before .before .before .before .before .before .before .before .before .before .write-kind .ensures)
+    (c .before .before .before .before .before .before .before .before .before .before .before .write-front .ensures)
     (c .before .before .before .before .before .before .before .put-u32 .ensures) (wrote .ensures .0)
 
 pub write-record-spec : {M : Type 1} → statement M
 write-record-spec =
     tie.close
-    (tie.spec write-kind-requires put-u32-requires write-page-requires same-length returns)
+    (tie.spec write-front-requires put-u32-requires write-page-requires same-length returns)

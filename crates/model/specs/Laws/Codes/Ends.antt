@@ -13,7 +13,7 @@ use Rattle.types.specs.declared.Frame.{Frame}
 use Rattle.types.specs.declared.State.the-variants.{Replaying}
 use Rattle.types.specs.declared.Answer.{Answer}
 use Rattle.types.specs.declared.Answer.the-variants.{Done, Malformed, OutOfRange, WrongState, CountersFull, ReplayDiffers, OwnerNotUp, LogFull}
-use Rattle.types.specs.declared.Answer.the-variants.{PowerLost, WrongCells}
+use Rattle.types.specs.declared.Answer.the-variants.{PowerLost, WrongCells, HasRecords}
 use Rattle.model.specs.Definitions.Layout.{noFuse}
 use Rattle.model.specs.Definitions.Bank.{Bank, boardAt, onBoard}
 use Rattle.model.specs.Definitions.WellFormed.{isUp, isDown}
@@ -163,6 +163,7 @@ refused-value (OwnerNotUp b) z = refl
 refused-value (LogFull b) z = refl
 refused-value (PowerLost b) z = refl
 refused-value WrongCells z = refl
+refused-value HasRecords z = refl
 
 finished-value : (v : ℕ) (given : List ℕ) (r : Run) → v ≡ 0 → value (finished v given r .answer) ≡ 0
 unfolding finished value

@@ -10,7 +10,7 @@ use lib.ListN.{length}
 use lib.Dec.{ltb}
 use Rattle.types.specs.declared.Answer.{Answer}
 use Rattle.types.specs.declared.Answer.the-variants.{Done, Malformed, OutOfRange, WrongState, CountersFull, ReplayDiffers, OwnerNotUp, LogFull, PowerLost}
-use Rattle.types.specs.declared.Answer.the-variants.{WrongCells}
+use Rattle.types.specs.declared.Answer.the-variants.{WrongCells, HasRecords}
 use Rattle.model.specs.Definitions.Layout.{noFuse}
 use Rattle.model.specs.Definitions.Bank.{Bank, boardAt}
 use Rattle.model.specs.Definitions.WellFormed.{WellFormed, isDown}
@@ -56,6 +56,7 @@ fed-lost c (OwnerNotUp d) given b n e = never (cc)
 fed-lost c (LogFull d) given b n e = never (cc)
 fed-lost c (PowerLost d) given b n e = let i : d ≡ b = cc in ap PowerLost i
 fed-lost c WrongCells given b n e = never (cc)
+fed-lost c HasRecords given b n e = never (cc)
 
 pub loses-power : (c : Call) (k : Bank) → WellFormed k → (b : ℕ) → (callBank c k .answer ≡ PowerLost b) ↔ LosesPower c k b
 unfolding CutIn

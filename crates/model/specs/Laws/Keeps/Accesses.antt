@@ -24,6 +24,7 @@ use Rattle.model.specs.Laws.Below.{has-right, written-named}
 use Rattle.model.specs.Laws.Keeps.Clauses.{place-kept, onBoard-keeps}
 use Rattle.model.specs.Contracts.{Alone, Agreed}
 use Rattle.model.specs.Laws.Valid.{Writable, right-withBytes}
+use Rattle.model.specs.Laws.Keeps.Peers.{accessed-peers}
 use Rattle.model.specs.Laws.BoardFields.{accessed-fields}
 
 -- ---- the access
@@ -63,6 +64,7 @@ access-keeps b a k w u s n v =
       place = accessed-place a x (h .place);
       agreed = accessed-agreed a x (k .directory) b (h .agreed);
     })
+    (accessed-peers a)
 
 -- right none is too little, whatever is taken
 lacks-none : (g : CopyOrOwn) → lacks g None ≡ true

@@ -14,11 +14,11 @@ use Rattle.words.specs.Bytes.{Each}
 use Rattle.model.specs.Definitions.Parts.{member}
 use Rattle.model.specs.Definitions.Bank.{Entry, Working, Board, Bank, noBoard, boardAt, entryIn, entryAt, onBoard}
 use Rattle.model.specs.Definitions.WellFormed.{FieldsOk, FuseOk, RoomOk, PlaceOk, Blank, rightIn, BoardOk, EntryOk, SizesOk, isUp, isDown}
-use Rattle.model.specs.Definitions.WellFormed.{isReplaying, WellFormed}
+use Rattle.model.specs.Definitions.WellFormed.{isReplaying, PeersOk, WellFormed}
 use Rattle.model.specs.Contracts.{Alone, Fits, WellFormedBut}
 use Rattle.model.specs.Laws.Logic.{byEq, clash}
 use Rattle.model.specs.Laws.Lists.{length-update}
-use Rattle.model.specs.Laws.Boards.{boardAt-out, boardAt-same, boardAt-other}
+use Rattle.model.specs.Laws.Boards.{boardAt-out, boardAt-same, boardAt-other, onBoard-out}
 
 -- ---- a board is in one state
 
@@ -145,17 +145,18 @@ fits-boardOk k b h =
 pub fits : {k : Bank} → WellFormed k → (b : ℕ) → b < length (k .boards) → Fits (k .directory) b (boardAt k b)
 fits {k} w b h = boardOk-fits k b (w .boards b h)
 
--- a bank is well formed where every board fits
+-- a bank is well formed where every board fits and names others
 pub wellFormed-fits : (k : Bank) → SizesOk (length (k .boards)) (length (k .directory))
     → Each (EntryOk (length (k .boards))) (k .directory)
-    → ((b : ℕ) → b < length (k .boards) → Fits (k .directory) b (boardAt k b)) → WellFormed k
-wellFormed-fits k s d f = record { sizes = s; directory = d; boards = λ b h. fits-boardOk k b (f b h) }
+    → ((b : ℕ) → b < length (k .boards) → Fits (k .directory) b (boardAt k b))
+    → ((b : ℕ) → b < length (k .boards) → PeersOk (length (k .boards)) b (boardAt k b)) → WellFormed k
+wellFormed-fits k s d f n = record { sizes = s; directory = d; boards = λ b h. fits-boardOk k b (f b h); peers = n }
 
 module _ {b : ℕ} {k : Bank} where
   -- any clauses of board b that follow from all of them
   pub but : {Kept : List Entry → ℕ → Board → Type 0} → WellFormed k → (Fits (k .directory) b (boardAt k b) → Kept (k .directory) b (boardAt k b))
       → WellFormedBut b Kept k
-  but w f = record { sizes = w .sizes; directory = w .directory; others = λ c h n. fits w c h; this = λ h. f (fits w b h) }
+  but w f = record { sizes = w .sizes; directory = w .directory; others = λ c h n. fits w c h; this = λ h. f (fits w b h); peers = w .peers }
 
   -- the clauses that were left out restored
   pub whole : {Kept : List Entry → ℕ → Board → Type 0} → WellFormedBut b Kept k
@@ -163,24 +164,39 @@ module _ {b : ℕ} {k : Bank} where
   whole {Kept} w f =
       wellFormed-fits k (w .sizes) (w .directory)
       (λ c h. byEq c b (λ e. rw e (f (w .this (rw e at h)))) (λ n. w .others c h n))
+      (w .peers)
+
+-- whom a board's records name after a change of board b alone
+pub peers-onBoard : {n : ℕ} (b : ℕ) (f : Board → Board) (k : Bank) → (PeersOk n b (boardAt k b) → PeersOk n b (f (boardAt k b)))
+    → (c : ℕ) → PeersOk n c (boardAt k c) → PeersOk n c (boardAt (onBoard b f k) c)
+peers-onBoard {n} b f k m c h =
+    byEq c b
+    (λ e.
+    elim (decLt b (length (k .boards))) [
+      | yes l ↦ rw (e, boardAt-same b f k l) (m (rw e at h))
+      | no o ↦ rw (onBoard-out b f k (omega arith)) h
+    ])
+    (λ o. rw (boardAt-other b f k c o) h)
 
 -- a change of board b alone
 pub onBoard-but : (b : ℕ) (f : Board → Board) (k : Bank) {Kept Left : List Entry → ℕ → Board → Type 0} → WellFormedBut b Kept k
     → (b < length (k .boards) → Kept (k .directory) b (boardAt k b) → Left (k .directory) b (f (boardAt k b)))
-    → WellFormedBut b Left (onBoard b f k)
+    → (PeersOk (length (k .boards)) b (boardAt k b) → PeersOk (length (k .boards)) b (f (boardAt k b))) → WellFormedBut b Left (onBoard b f k)
 unfolding onBoard
-onBoard-but b f k {Kept} {Left} w g =
+onBoard-but b f k {Kept} {Left} w g m =
     record {
       sizes = rw (length-update b f (k .boards)) (w .sizes);
       directory = rw (length-update b f (k .boards)) (w .directory);
       others = λ c h n. rw (boardAt-other b f k c n) (w .others c (rw (length-update b f (k .boards)) at h) n);
       this = λ h. let l : b < length (k .boards) = rw (length-update b f (k .boards)) at h in rw (boardAt-same b f k l) (g l (w .this l));
+      peers = λ c h. rw (length-update b f (k .boards)) (peers-onBoard b f k m c (w .peers c (rw (length-update b f (k .boards)) at h)));
     }
 
 -- a change of board b that keeps its clauses keeps the bank well formed
 pub onBoard-keeps : (b : ℕ) (f : Board → Board) (k : Bank) → WellFormed k
-    → (b < length (k .boards) → Fits (k .directory) b (boardAt k b) → Fits (k .directory) b (f (boardAt k b))) → WellFormed (onBoard b f k)
-onBoard-keeps b f k w g = whole {Kept = Fits} (onBoard-but b f k (but {Kept = Fits} w (λ h. h)) g) (λ h. h)
+    → (b < length (k .boards) → Fits (k .directory) b (boardAt k b) → Fits (k .directory) b (f (boardAt k b)))
+    → (PeersOk (length (k .boards)) b (boardAt k b) → PeersOk (length (k .boards)) b (f (boardAt k b))) → WellFormed (onBoard b f k)
+onBoard-keeps b f k w g m = whole {Kept = Fits} (onBoard-but b f k (but {Kept = Fits} w (λ h. h)) g m) (λ h. h)
 
 -- an up board is one of the bank's
 pub up-below : (k : Bank) (b : ℕ) → boardAt k b .state ≡ Up → b < length (k .boards)

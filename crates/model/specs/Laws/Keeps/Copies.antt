@@ -43,24 +43,24 @@ use Rattle.model.specs.Laws.Keeps.Fetches.{room-noted, room-less, Taken}
 -- ---- a giver after its part
 
 -- a record noted and flushed leaves its board with all that it counted stable
-pub note-flush-secure : (b : ℕ) (kind : Kind) (bytes : Bank → List ℕ) (s : Run) → boardAt (s .bank) b .state ≡ Up
-    → flush b (step (λ k. note b kind (bytes k) k) s) .lost ≡ none → Secure (boardAt (flush b (step (λ k. note b kind (bytes k) k) s) .bank) b)
+pub note-flush-secure : (b : ℕ) (kind : Kind) (peer : ℕ) (bytes : Bank → List ℕ) (s : Run) → boardAt (s .bank) b .state ≡ Up
+    → flush b (step (λ k. note b kind peer (bytes k) k) s) .lost ≡ none → Secure (boardAt (flush b (step (λ k. note b kind peer (bytes k) k) s) .bank) b)
 unfolding onWorking recorded note
-note-flush-secure b kind bytes s u e =
+note-flush-secure b kind peer bytes s u e =
     let l : b < length (s .bank .boards) = up-below (s .bank) b u in
-    let t : FlushedWith kind (bytes (s .bank)) (boardAt (s .bank) b) (boardAt (flush b (step (λ k. note b kind (bytes k) k) s) .bank) b) =
-    note-flush-changed b kind bytes s e .this l in
+    let t : FlushedWith kind peer (bytes (s .bank)) (boardAt (s .bank) b) (boardAt (flush b (step (λ k. note b kind peer (bytes k) k) s) .bank) b) =
+    note-flush-changed b kind peer bytes s e .this l in
     record {
       up = t .state ∙ u;
       since = t .since;
       volatile =
-          flush-empties b (step (λ k. note b kind (bytes k) k) s)
-          (rw (follows-step (λ k. note b kind (bytes k) k) s (sizes-onBoard b _ (s .bank)) .sizes .boards) l) e;
+          flush-empties b (step (λ k. note b kind peer (bytes k) k) s)
+          (rw (follows-step (λ k. note b kind peer (bytes k) k) s (sizes-onBoard b _ (s .bank)) .sizes .boards) l) e;
     }
 
-pub show-secure : (o p : ℕ) (s : Run) → boardAt (s .bank) o .state ≡ Up → show o p s .lost ≡ none → Secure (boardAt (show o p s .bank) o)
+pub show-secure : (o b p : ℕ) (s : Run) → boardAt (s .bank) o .state ≡ Up → show o b p s .lost ≡ none → Secure (boardAt (show o b p s .bank) o)
 unfolding show
-show-secure o p s u e = note-flush-secure o (Shown p) (λ k. zeros pageSize) s u e
+show-secure o b p s u e = note-flush-secure o (Shown p) b (λ k. zeros pageSize) s u e
 
 -- the room that a giver's own record needs
 pub room-giver : (b p : ℕ) (ps : List ℕ) (k : Bank) → CanFetch GotCopy b (p ∷ ps) k → RoomFor 1 (boardAt k (giver GotCopy k p))
@@ -115,16 +115,16 @@ module _ (b p : ℕ) (ps : List ℕ) (s : Run) (c : CanFetch GotCopy b (p ∷ ps
   o = giver GotCopy (s .bank) p
 
   abbrev u : Run
-  u = show o p s
+  u = show o b p s
 
-  module _ (n : show (giver GotCopy (s .bank) p) p s .lost ≡ none) where
-    changed : Changed o (FlushedWith (Shown p) (zeros pageSize)) (s .bank) (u .bank)
-    changed = show-changed o p s n
+  module _ (n : show (giver GotCopy (s .bank) p) b p s .lost ≡ none) where
+    changed : Changed o (FlushedWith (Shown p) b (zeros pageSize)) (s .bank) (u .bank)
+    changed = show-changed o b p s n
 
-    flushed : FlushedWith (Shown p) (zeros pageSize) (boardAt (s .bank) o) (boardAt (u .bank) o)
+    flushed : FlushedWith (Shown p) b (zeros pageSize) (boardAt (s .bank) o) (boardAt (u .bank) o)
     flushed = changed .this (up-below (s .bank) o (each-head (c .givers)))
 
-    show-shared : Shared b (s .bank) (u .bank)
+    pub show-shared : Shared b (s .bank) (u .bank)
     unfolding onWorking recorded
     show-shared =
         record {
@@ -134,7 +134,7 @@ module _ (b p : ℕ) (ps : List ℕ) (s : Run) (c : CanFetch GotCopy b (p ∷ ps
           reader = changed .others b (λ i. each-head (c .others) (sym i));
           frames = λ d.
               byEq d o (λ i. rw i (flushed .frames)) (λ i. ap (λ (x : Board). x .working .frames) (changed .others d i));
-          secure = λ d v. byEq d o (λ i. rw i (show-secure o p s (each-head (c .givers)) n)) (λ i. rw (changed .others d i) v);
+          secure = λ d v. byEq d o (λ i. rw i (show-secure o b p s (each-head (c .givers)) n)) (λ i. rw (changed .others d i) v);
         }
 
     -- the pages behind it can still be fetched
@@ -158,33 +158,33 @@ module _ (b p : ℕ) (ps : List ℕ) (s : Run) (c : CanFetch GotCopy b (p ∷ ps
               (byEq d o
               (λ i.
               rw i
-              (room-noted (fetchNeeds GotCopy (s .bank) b ps o) (Shown p) (zeros pageSize) (boardAt (s .bank) o) (boardAt (u .bank) o) flushed left))
+              (room-noted (fetchNeeds GotCopy (s .bank) b ps o) (Shown p) b (zeros pageSize) (boardAt (s .bank) o) (boardAt (u .bank) o) flushed left))
               (λ i. rw (changed .others d i) (room-less (fetchNeed GotCopy (s .bank) b o p d) need (boardAt (s .bank) d) (c .room d m))));
         }
 
 -- all givers' parts: the reader, the directory and the frames are as they were
-pub showAll-shared : (b : ℕ) (ps : List ℕ) (s : Run) → CanFetch GotCopy b ps (s .bank) → showAll ps s .lost ≡ none
-    → Shared b (s .bank) (showAll ps s .bank)
+pub showAll-shared : (b : ℕ) (ps : List ℕ) (s : Run) → CanFetch GotCopy b ps (s .bank) → showAll b ps s .lost ≡ none
+    → Shared b (s .bank) (showAll b ps s .bank)
 unfolding showAll
 showAll-shared b [] s c n = shared-refl b (s .bank)
 showAll-shared b (p ∷ ps) s c n =
-    let u : Run = show (giver GotCopy (s .bank) p) p s in
-    let m : u .lost ≡ none = follows-none (follows-showAll ps u) n in
+    let u : Run = show (giver GotCopy (s .bank) p) b p s in
+    let m : u .lost ≡ none = follows-none (follows-showAll b ps u) n in
     shared-trans (show-shared b p ps s c m) (showAll-shared b ps u (shown-can b p ps s c m) n)
 
 -- .. and each giver has all that it counted stable
-pub showAll-secure : (b : ℕ) (ps : List ℕ) (s : Run) → CanFetch GotCopy b ps (s .bank) → showAll ps s .lost ≡ none
-    → Each (λ p. Secure (boardAt (showAll ps s .bank) (giver GotCopy (s .bank) p))) ps
+pub showAll-secure : (b : ℕ) (ps : List ℕ) (s : Run) → CanFetch GotCopy b ps (s .bank) → showAll b ps s .lost ≡ none
+    → Each (λ p. Secure (boardAt (showAll b ps s .bank) (giver GotCopy (s .bank) p))) ps
 unfolding showAll
 showAll-secure b [] s c n = each-nil
 showAll-secure b (p ∷ ps) s c n =
     let o : ℕ = giver GotCopy (s .bank) p in
-    let u : Run = show o p s in
-    let m : u .lost ≡ none = follows-none (follows-showAll ps u) n in
+    let u : Run = show o b p s in
+    let m : u .lost ≡ none = follows-none (follows-showAll b ps u) n in
     let t : Shared b (s .bank) (u .bank) = show-shared b p ps s c m in
     let can : CanFetch GotCopy b ps (u .bank) = shown-can b p ps s c m in
     each-cons
-    (showAll-shared b ps u can n .secure o (show-secure o p s (each-head (c .givers)) m))
+    (showAll-shared b ps u can n .secure o (show-secure o b p s (each-head (c .givers)) m))
     (each-imp ps
     (λ q v. rw (← shared-giver t GotCopy q) v)
     (showAll-secure b ps u can n))
@@ -209,10 +209,10 @@ needs-reader k b (p ∷ ps) =
 
 -- after the givers' part they can be taken
 pub shown-take : (b : ℕ) (ps : List ℕ) (s : Run) → WellFormed (s .bank) → CanFetch GotCopy b ps (s .bank)
-    → Each (λ p. frameOf (s .bank) b p .right ≡ None) ps → showAll ps s .lost ≡ none → CanTake b ps (showAll ps s .bank)
+    → Each (λ p. frameOf (s .bank) b p .right ≡ None) ps → showAll b ps s .lost ≡ none → CanTake b ps (showAll b ps s .bank)
 unfolding frameOf giver
 shown-take b ps s w c lack n =
-    let j : Bank = showAll ps s .bank in
+    let j : Bank = showAll b ps s .bank in
     let t : Shared b (s .bank) j = showAll-shared b ps s c n in
     let l : b < length (s .bank .boards) = up-below (s .bank) b (c .taker) in
     let same : (q : ℕ) → giver GotCopy j q ≡ giver GotCopy (s .bank) q = shared-giver t GotCopy in
@@ -240,7 +240,7 @@ module _ (b p : ℕ) (ps : List ℕ) (k : Bank) (c : CanTake b (p ∷ ps) k) (ri
   abbrev j : Bank
   j = giveCopy (giver GotCopy k p) b p k
 
-  pub reader-after : boardAt j b ≡ tookCopy p (frameOf k from p .bytes) (boardAt k b)
+  pub reader-after : boardAt j b ≡ tookCopy from p (frameOf k from p .bytes) (boardAt k b)
   reader-after = boardAt-giveCopy-same from b p k (up-below k b (c .up))
 
   -- the pages behind it can still be taken
@@ -268,7 +268,7 @@ module _ (b p : ℕ) (ps : List ℕ) (k : Bank) (c : CanTake b (p ∷ ps) k) (ri
               arith,
               c .room,
               length-append (boardAt k b .working .log .records)
-                  (record { count = boardAt k b .working .since; kind = Got GotCopy p; bytes = frameOf k from p .bytes } ∷ []),
+                  (record { count = boardAt k b .working .since; kind = Got GotCopy p; peer = from; bytes = frameOf k from p .bytes } ∷ []),
             ));
         rights =
             rw reader-after
@@ -336,7 +336,7 @@ pub readFetch-taken : (b p : ℕ) (ps : List ℕ) (s : Run) → WellFormed (s .b
     → Taken GotCopy (p ∷ ps) (boardAt (s .bank) b) (boardAt (readFetch b (p ∷ ps) s .bank) b)
 unfolding readFetch
 readFetch-taken b p ps s w c lack r n =
-    let u : Run = showAll (p ∷ ps) s in
+    let u : Run = showAll b (p ∷ ps) s in
     let e : u .lost ≡ none = step-none (giveCopies b (p ∷ ps)) u n in
     rw (step-done (giveCopies b (p ∷ ps)) u n, ← showAll-shared b (p ∷ ps) s c e .reader)
     (giveCopies-taken b p ps (u .bank) (shown-take b (p ∷ ps) s w c lack e) r)

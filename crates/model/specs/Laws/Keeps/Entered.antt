@@ -25,6 +25,7 @@ use Rattle.model.specs.Laws.Runs.{Changed}
 use Rattle.model.specs.Laws.Runs.Stores.{Ended, endReplay-changed}
 use Rattle.model.specs.Laws.Keeps.Clauses.{fits, but, onBoard-but, isDown-not, up-left}
 use Rattle.model.specs.Contracts.{InReplay, WellFormedBut, CanAccess, Entered}
+use Rattle.model.specs.Laws.Keeps.Peers.{tookDue-peers, replayed-peers}
 use Rattle.model.specs.Laws.Keeps.Accesses.{writable}
 use Rattle.model.specs.Laws.Keeps.Rights.{or-cases, or-none}
 use Rattle.model.specs.Laws.Keeps.Live.{NoneOf, firstOf-none}
@@ -55,6 +56,7 @@ module _ (b : ℕ) (a : Access) (k : Bank) (w : WellFormed k) (i : Entered b a k
   taken-inReplay =
       onBoard-but b tookDue k (but {Kept = InReplay} w (λ h. fits-inReplay (k .directory) b x h rep))
       (λ l h. tookDue-inReplay (k .directory) b x h)
+      (tookDue-peers x)
 
   -- the access goes on after the end of the replay: the board is up, its number is that of entry
   pub live-can : endReplay b (start taken) .lost ≡ none → CanAccess b a (endReplay b (start taken) .bank)
@@ -85,6 +87,7 @@ module _ (b : ℕ) (a : Access) (k : Bank) (w : WellFormed k) (i : Entered b a k
       (rw board-taken
       (writable a (tookDue x .working .frames) (fits-has a x same over)
       (λ p n. rw (v .alone .fields .working .frames .count) (i .pages p n)) (i .values))))
+      (replayed-peers a (boardAt taken b))
 
 -- ---- any access
 

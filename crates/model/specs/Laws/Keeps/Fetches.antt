@@ -28,9 +28,9 @@ use Rattle.model.specs.Laws.Lists.{each-head}
 use Rattle.model.specs.Laws.Below.{listed}
 use Rattle.model.specs.Laws.Boards.{frameAt-same, frameAt-other, tookOwn, boardAt-passOwnership-same}
 use Rattle.model.specs.Laws.Runs.{step-done, step-none, Changed, follows-none, follows-note-flush}
-use Rattle.model.specs.Laws.Runs.Stores.{recordsOf, FlushedWith, note-flush-changed, show-changed}
+use Rattle.model.specs.Laws.Runs.Stores.{FlushedWith, note-flush-changed, show-changed}
 use Rattle.model.specs.Laws.Keeps.Clauses.{fits, up-below}
-use Rattle.model.specs.Contracts.{RoomFor, fetchNeeds, CanFetch}
+use Rattle.model.specs.Contracts.{RoomFor, fetchNeeds, CanFetch, recordsOf}
 use Rattle.model.specs.Laws.Keeps.Rights.{or-cases, or-none}
 
 -- ---- rooms
@@ -41,15 +41,15 @@ unfolding recordsOf
 length-records x = length-append (x .stable .selected .log .records) (x .working .log .records)
 
 -- a record noted takes one slot of the room, a flush takes none
-pub room-noted : (n : ℕ) (kind : Kind) (bytes : List ℕ) (x y : Board) → FlushedWith kind bytes x y → RoomFor (n + 1) x → RoomFor n y
+pub room-noted : (n : ℕ) (kind : Kind) (peer : ℕ) (bytes : List ℕ) (x y : Board) → FlushedWith kind peer bytes x y → RoomFor (n + 1) x → RoomFor n y
 unfolding onWorking recorded appended
-room-noted n kind bytes x y f m =
+room-noted n kind peer bytes x y f m =
     omega (
       arith,
       ap length (f .records),
       length-records y,
-      length-records (onWorking (recorded kind bytes) x),
-      length-append (x .working .log .records) (record { count = x .working .since; kind = kind; bytes = bytes } ∷ []),
+      length-records (onWorking (recorded kind peer bytes) x),
+      length-append (x .working .log .records) (record { count = x .working .since; kind = kind; peer = peer; bytes = bytes } ∷ []),
     )
 
 -- room for fewer
@@ -122,50 +122,50 @@ module _ (w p : ℕ) (r : Run) (wf : WellFormed (r .bank)) (c : CanFetch GotOwn 
 
   -- the run after the owner's part, and after the writer's got own
   abbrev pub gave : Run
-  gave = show from p r
+  gave = show from w p r
 
   abbrev pub gotBytes : Bank → List ℕ
   gotBytes k = frameOf k from p .bytes
 
   abbrev pub noted : Run
-  noted = step (λ k. note w (Got GotOwn p) (gotBytes k) k) gave
+  noted = step (λ k. note w (Got GotOwn p) from (gotBytes k) k) gave
 
   abbrev pub got : Run
   got = flush w noted
 
-  pub gave-changed : gave .lost ≡ none → Changed from (FlushedWith (Shown p) (zeros pageSize)) (r .bank) (gave .bank)
-  gave-changed e = show-changed from p r e
+  pub gave-changed : gave .lost ≡ none → Changed from (FlushedWith (Shown p) w (zeros pageSize)) (r .bank) (gave .bank)
+  gave-changed e = show-changed from w p r e
 
   -- the owner's flush leaves the writer alone
   pub writer-same : gave .lost ≡ none → boardAt (gave .bank) w ≡ boardAt (r .bank) w
   writer-same e = gave-changed e .others w (λ i. owner-other (sym i))
 
-  pub got-changed : got .lost ≡ none → Changed w (FlushedWith (Got GotOwn p) (gotBytes (gave .bank))) (gave .bank) (got .bank)
-  got-changed e = note-flush-changed w (Got GotOwn p) gotBytes gave e
+  pub got-changed : got .lost ≡ none → Changed w (FlushedWith (Got GotOwn p) from (gotBytes (gave .bank))) (gave .bank) (got .bank)
+  got-changed e = note-flush-changed w (Got GotOwn p) from gotBytes gave e
 
   pub gave-none : got .lost ≡ none → gave .lost ≡ none
-  gave-none e = follows-none (follows-note-flush w (Got GotOwn p) gotBytes gave) e
+  gave-none e = follows-none (follows-note-flush w (Got GotOwn p) from gotBytes gave) e
 
   -- whoever gives its right up has room left for that record
   pub room-got : (h : ℕ) → got .lost ≡ none → h < length (r .bank .boards) → h ≢ w → (eqb h from || member h (entryAt (r .bank) p .copies)) ≡ true
       → RoomFor 1 (boardAt (got .bank) h)
   room-got h e l n t =
-      let g : Changed from (FlushedWith (Shown p) (zeros pageSize)) (r .bank) (gave .bank) = gave-changed (gave-none e) in
+      let g : Changed from (FlushedWith (Shown p) w (zeros pageSize)) (r .bank) (gave .bank) = gave-changed (gave-none e) in
       let held : h ≢ from → member h (entryAt (r .bank) p .copies) ≡ true =
       λ m. or-cases (eqb h from) (member h (entryAt (r .bank) p .copies)) t (λ i. absurd (m (eqb-true h from i))) (λ i. i) in
       rw (got-changed e .others h n)
       (byEq h from
-      (λ i. rw i (room-noted 1 (Shown p) (zeros pageSize) (boardAt (r .bank) from) (boardAt (gave .bank) from) (g .this (rw i at l)) room-owner))
+      (λ i. rw i (room-noted 1 (Shown p) w (zeros pageSize) (boardAt (r .bank) from) (boardAt (gave .bank) from) (g .this (rw i at l)) room-owner))
       (λ m. rw (g .others h m) (room-holder h l n m (held m))))
 
   pub writeFetch-taken : writeFetch w p r .lost ≡ none → Taken GotOwn (p ∷ []) (boardAt (r .bank) w) (boardAt (writeFetch w p r .bank) w)
   unfolding writeFetch giver tookOwn withFrame onWorking onFrames recorded rightGot
   writeFetch-taken n =
       let e : got .lost ≡ none = step-none (passOwnership from w p) got n in
-      let g : Changed from (FlushedWith (Shown p) (zeros pageSize)) (r .bank) (gave .bank) = gave-changed (gave-none e) in
-      let t : Changed w (FlushedWith (Got GotOwn p) (gotBytes (gave .bank))) (gave .bank) (got .bank) = got-changed e in
+      let g : Changed from (FlushedWith (Shown p) w (zeros pageSize)) (r .bank) (gave .bank) = gave-changed (gave-none e) in
+      let t : Changed w (FlushedWith (Got GotOwn p) from (gotBytes (gave .bank))) (gave .bank) (got .bank) = got-changed e in
       let i : w < length (r .bank .boards) = up-below (r .bank) w (c .taker) in
-      let f : FlushedWith (Got GotOwn p) (gotBytes (gave .bank)) (boardAt (r .bank) w) (boardAt (got .bank) w) =
+      let f : FlushedWith (Got GotOwn p) from (gotBytes (gave .bank)) (boardAt (r .bank) w) (boardAt (got .bank) w) =
       rw (writer-same (gave-none e)) at (t .this (rw (g .boards) i)) in
       let y : Board = boardAt (got .bank) w in
       let put : Frame = record { right = Own; bytes = frameOf (got .bank) from p .bytes } in

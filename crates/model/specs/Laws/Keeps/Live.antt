@@ -9,7 +9,7 @@ use mathlib.Core.List.{List, [], _∷_}
 use lib.ListN.{length}
 use borrow.Author.Tests.{eqb-true, eq-eqb, ltb-false}
 use lib.Dec.{eqb}
-use Rattle.types.specs.declared.Right.the-variants.{None, Copy}
+use Rattle.types.specs.declared.Right.the-variants.{None}
 use Rattle.types.specs.declared.Frame.{Frame}
 use Rattle.types.specs.declared.CopyOrOwn.{CopyOrOwn}
 use Rattle.types.specs.declared.CopyOrOwn.the-variants.{GotCopy, GotOwn}
@@ -19,23 +19,23 @@ use Rattle.words.specs.Bytes.{Each}
 use Rattle.model.specs.Definitions.Parts.{allBelow, member}
 use Rattle.model.specs.Definitions.Layout.{slotCount}
 use Rattle.model.specs.Definitions.Bank.{Board, Bank, boardAt, entryAt, frameAt}
-use Rattle.model.specs.Definitions.WellFormed.{WellFormed}
+use Rattle.model.specs.Definitions.WellFormed.{WellFormed, rightIn}
 use Rattle.model.specs.Definitions.Steps.{Run, Access, Read, Write, ReadCells, cellsRead, cellsWritten, anyCell, anyWrite, names, takes}
 use Rattle.model.specs.Definitions.Steps.{lacks, lacksPage, lackingPages, frameOf, giver, dropCopies, fetch}
 use Rattle.model.specs.Definitions.Replay.{lacking}
 use Rattle.model.specs.Definitions.Calls.{firstOf, pageWritten, copiesOut, fetchNeed, dropNeed, lackingOf, pagesLacking, pageNeed, need, short}
 use Rattle.model.specs.Definitions.Calls.{shortBoard, isSome, nobodyGives, pageMissing, liveRefusals, prepared}
-use Rattle.model.specs.Laws.Logic.{cases, byBool, clash, and-both}
+use Rattle.model.specs.Laws.Logic.{cases, byBool, clash, and-both, byEq}
 use Rattle.model.specs.Laws.Lists.{firstBelow-none, each-head, each-tail, each-imp}
 use Rattle.model.specs.Laws.Below.{listed, Lacks, or-right, sumOver, sumBelow-part, sumBelow-at, allBelow-one, allBelow-listed, lacks-no-page}
 use Rattle.model.specs.Laws.Below.{no-page-lacks, lacks-passes, passes-names, page-enough, page-same, has-right, lackingPages-lack, lackingPages-rise}
-use Rattle.model.specs.Laws.Boards.{droppedIf, boardAt-dropCopies}
+use Rattle.model.specs.Laws.Boards.{droppedIf, boardAt-dropCopies, rightIn-copy, rightIn-none}
 use Rattle.model.specs.Laws.Runs.{lost-not, step-done}
 use Rattle.model.specs.Laws.Keeps.Clauses.{up-below, up-not-down, fits}
 use Rattle.model.specs.Contracts.{RoomFor, fetchNeeds, CanFetch, CanAccess, Ready}
 use Rattle.model.specs.Laws.Keeps.Accesses.{takes-enough}
-use Rattle.model.specs.Laws.Keeps.Rights.{or-cases}
-use Rattle.model.specs.Laws.Keeps.Givers.{copy-none, holder-right, giver-other, giver-up}
+use Rattle.model.specs.Laws.Keeps.Rights.{or-cases, entry-at}
+use Rattle.model.specs.Laws.Keeps.Givers.{copy-none, giver-other, giver-up}
 use Rattle.model.specs.Laws.Keeps.Fetches.{Taken, writeFetch-taken}
 use Rattle.model.specs.Laws.Keeps.Copies.{readFetch-taken}
 
@@ -201,20 +201,30 @@ module _ (b : ℕ) (a : Access) (k : Bank) (w : WellFormed k) (can : CanAccess b
         let e : pageNeed b a k c p ≡ 1 = cc in
         omega (arith, e, sumBelow-at (pageNeed b a k c) (length (k .directory)) p i, room-for c l)
 
-    -- a writer that has its right is the owner, so it holds no copy
-    pub writer-none : lackingOf b a k ≡ false → copiesOut a k ≡ true → member b (entryAt k (pageWritten a) .copies) ≡ false
-    unfolding lackingOf lacks frameOf
-    writer-none t o =
+    -- a writer that has its right is the owner ..
+    pub local-owner : lackingOf b a k ≡ false → takes a ≡ GotOwn → entryAt k (pageWritten a) .owner ≡ b
+    unfolding lackingOf lacks
+    local-owner t own =
         let p : ℕ = pageWritten a in
-        let own : takes a ≡ GotOwn = writes-own a k o in
         let named : names a p ≡ true = named-written a p (own-writes a own) in
         let i : p < length (k .directory) = can .pages p named in
+        let right : frameAt fs p .right ≡ rightIn (entryAt k p) b = w .boards b (up-below k b (can .up)) .rights (can .up) p i in
+        let enough : lacks (takes a) (frameAt fs p .right) ≡ false = has-right a fs t p (rw frames-count i) named in
+        byEq (entryAt k p .owner) b (λ e. e)
+        (λ n.
         byBool (member b (entryAt k p .copies))
-        (λ m.
-        let copy : frameAt fs p .right ≡ Copy = holder-right w p i b (can .up) m in
-        let z : lacks (takes a) (frameAt fs p .right) ≡ true = rw (own, copy) in
-        clash z (has-right a fs t p (rw frames-count i) named))
-        (λ m. m)
+        (λ m. let z : lacks (takes a) (frameAt fs p .right) ≡ true = rw (own, right, rightIn-copy (entryAt k p) b n m) in clash z enough)
+        (λ m. let z : lacks (takes a) (frameAt fs p .right) ≡ true = rw (own, right, rightIn-none (entryAt k p) b n m) in clash z enough))
+
+    pub writer-owns : lackingOf b a k ≡ false → copiesOut a k ≡ true → entryAt k (pageWritten a) .owner ≡ b
+    writer-owns t o = local-owner t (writes-own a k o)
+
+    -- .. so it holds no copy
+    pub writer-none : lackingOf b a k ≡ false → copiesOut a k ≡ true → member b (entryAt k (pageWritten a) .copies) ≡ false
+    writer-none t o =
+        let p : ℕ = pageWritten a in
+        let i : p < length (k .directory) = can .pages p (named-written a p (own-writes a (writes-own a k o))) in
+        rw (writer-owns t o) at (entry-at w p i .ownerBit)
 
 -- ---- the whole
 
@@ -269,6 +279,6 @@ module _ (b : ℕ) (a : Access) (r : Run) (w : WellFormed (r .bank)) (can : CanA
         (λ t.
         cases P (copiesOut a k)
         (λ o n.
-        let e : boardAt (dropCopies p k) b ≡ boardAt k b = cc (boardAt-dropCopies p k b (up-below k b (can .up)), writer-none b a k w can passed t o) in
-        rw (step-done (dropCopies p) r n, e) (ready-now t))
+        let e : boardAt (dropCopies b p k) b ≡ boardAt k b = cc (boardAt-dropCopies b p k b (up-below k b (can .up)), writer-none b a k w can passed t o) in
+        rw (step-done (dropCopies b p) r n, e) (ready-now t))
         (λ o n. ready-now t))

@@ -10,29 +10,31 @@ use Rattle.types.specs.declared.State.the-variants.{Up}
 use Rattle.model.specs.Definitions.Bank.{Entry, Board, Bank, boardAt, onWorking}
 use Rattle.model.specs.Definitions.WellFormed.{WellFormed}
 use Rattle.model.specs.Definitions.Steps.{appended, recorded, note, movedRecord, storedRecord}
-use Rattle.model.specs.Contracts.{Recordable, RoomFor, Fits}
+use Rattle.model.specs.Contracts.{Recordable, RoomFor, Another, Fits}
 use Rattle.model.specs.Laws.Boards.{storedRecord-cases}
 use Rattle.model.specs.Laws.Keeps.Clauses.{onBoard-keeps, fits-kept, alone-up}
+use Rattle.model.specs.Laws.Keeps.Peers.{recorded-peers}
 use Rattle.model.specs.Laws.BoardFields.{recorded-fields, movedRecord-fields}
 
 -- ---- a record noted
 
 -- nothing that the place or the directory is compared with changes
-pub recorded-fits : (d : List Entry) (b : ℕ) (kind : Kind) (bytes : List ℕ) (x : Board) → Fits d b x → x .state ≡ Up → RoomFor 1 x
-    → Recordable (length d) kind bytes → Fits d b (onWorking (recorded kind bytes) x)
+pub recorded-fits : (d : List Entry) (b : ℕ) (kind : Kind) (peer : ℕ) (bytes : List ℕ) (x : Board) → Fits d b x → x .state ≡ Up → RoomFor 1 x
+    → Recordable (length d) kind peer bytes → Fits d b (onWorking (recorded kind peer bytes) x)
 unfolding onWorking recorded appended
-recorded-fits d b kind bytes x h u m v =
-    fits-kept x (onWorking (recorded kind bytes) x) h
-    (alone-up u (recorded-fields (h .alone .fields) kind bytes v (omega arith)) (h .alone .fuse)
-    (rw (length-append (x .working .log .records) (record { count = x .working .since; kind = kind; bytes = bytes } ∷ [])) (omega arith)))
+recorded-fits d b kind peer bytes x h u m v =
+    fits-kept x (onWorking (recorded kind peer bytes) x) h
+    (alone-up u (recorded-fields (h .alone .fields) kind peer bytes v (omega arith)) (h .alone .fuse)
+    (rw (length-append (x .working .log .records) (record { count = x .working .since; kind = kind; peer = peer; bytes = bytes } ∷ [])) (omega arith)))
     refl refl refl (omega arith)
 
--- "Record: ..", by an up board with room for one more
-pub note-keeps : (b : ℕ) (kind : Kind) (bytes : List ℕ) (k : Bank) → WellFormed k → boardAt k b .state ≡ Up → RoomFor 1 (boardAt k b)
-    → Recordable (length (k .directory)) kind bytes → WellFormed (note b kind bytes k)
+-- "Record: ..", by an up board with room for one more, of another board
+pub note-keeps : (b : ℕ) (kind : Kind) (peer : ℕ) (bytes : List ℕ) (k : Bank) → WellFormed k → boardAt k b .state ≡ Up → RoomFor 1 (boardAt k b)
+    → Recordable (length (k .directory)) kind peer bytes → Another peer b k → WellFormed (note b kind peer bytes k)
 unfolding note
-note-keeps b kind bytes k w u m v =
-    onBoard-keeps b (onWorking (recorded kind bytes)) k w (λ l h. recorded-fits (k .directory) b kind bytes (boardAt k b) h u m v)
+note-keeps b kind peer bytes k w u m v o =
+    onBoard-keeps b (onWorking (recorded kind peer bytes)) k w (λ l h. recorded-fits (k .directory) b kind peer bytes (boardAt k b) h u m v)
+    (recorded-peers peer (o .board) (o .other) kind bytes)
 
 -- ---- a record stored
 

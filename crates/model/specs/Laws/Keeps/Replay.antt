@@ -27,7 +27,7 @@ use Rattle.model.specs.Definitions.WellFormed.{isGot, RecordOk, FramesOk
 use Rattle.model.specs.Definitions.Steps.{Access, cellsWritten, accessed}
 use Rattle.model.specs.Definitions.Replay.{loaded, recordsLeft, used, useUp, usedUp, gotsDue, due, sameGot, lacking, needsGots, differs, rightGot}
 use Rattle.model.specs.Definitions.Replay.{tookGot, tookGots, tookDue, replayOver, settledFrame, settled, replayed, settle}
-use Rattle.model.specs.Laws.Logic.{cases, byBool, clash, and-both, true-not}
+use Rattle.model.specs.Laws.Logic.{cases, casesKind, byBool, clash, and-both, true-not}
 use Rattle.model.specs.Laws.Lists.{each-head, each-tail, each-drop}
 use Rattle.model.specs.Laws.Boards.{rightIn-owner, rightIn-none, frameAt-each}
 use Rattle.model.specs.Laws.Keeps.Clauses.{up-not-down, up-not-replaying, down-not-replaying, replaying-place, whole, onBoard-but, alone-up}
@@ -35,6 +35,7 @@ use Rattle.model.specs.Contracts.{Fits, InReplay, WellFormedBut}
 use Rattle.model.specs.Laws.Keeps.Accesses.{accessed-alone, accessed-agreed}
 use Rattle.model.specs.Laws.Keeps.Rights.{or-none}
 use Rattle.model.specs.Laws.Valid.{copy-some, own-some, frameOk-empty, framesOk-set, Writable, workingOk-used}
+use Rattle.model.specs.Laws.Keeps.Peers.{settled-peers}
 use Rattle.model.specs.Laws.BoardFields.{loaded-fields, onWorking-fields, settled-fields}
 
 -- ---- restart
@@ -63,12 +64,6 @@ fits-inReplay d b x h u =
     record { alone = h .alone; state = u; place = le-of-lt (replaying-place (x .state) x u (h .place)); agreed = h .agreed }
 
 -- ---- records used
-
-casesKind : {A : Type 0} (P : A → Type 0) (k : Kind) {f : CopyOrOwn → ℕ → A} {g h : ℕ → A} → ((c : CopyOrOwn) (p : ℕ) → k ≡ Got c p → P (f c p))
-    → ((p : ℕ) → k ≡ Shown p → P (g p)) → ((p : ℕ) → k ≡ Dropped p → P (h p)) → P (elim k [ Got c p ↦ f c p | Shown p ↦ g p | Dropped p ↦ h p ])
-casesKind P (Got c p) f g h = f c p refl
-casesKind P (Shown p) f g h = g p refl
-casesKind P (Dropped p) f g h = h p refl
 
 -- working memory v is w after at most n records were used
 pub record Used (pages n : ℕ) (w v : Working) : Type 0 where
@@ -246,5 +241,6 @@ pub settle-restores : (b : ℕ) (k : Bank) → WellFormedBut b InReplay k → We
 unfolding settle entryAt
 settle-restores b k w =
     whole {Kept = Fits}
-    (onBoard-but b (settled (λ p. eqb (entryAt k p .owner) b)) k w (λ l h. settled-fits (k .directory) b (boardAt k b) h))
+    (onBoard-but b (settled (λ p. eqb (entryAt k p .owner) b)) k w (λ l h. settled-fits (k .directory) b (boardAt k b) h)
+    (settled-peers _ (boardAt k b)))
     (λ h. h)

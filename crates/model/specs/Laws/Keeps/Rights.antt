@@ -16,11 +16,11 @@ use Rattle.types.specs.declared.CopyOrOwn.the-variants.{GotCopy}
 use Rattle.types.specs.declared.Kind.the-variants.{Got, Dropped}
 use Rattle.types.specs.declared.State.the-variants.{Up}
 use Rattle.model.specs.Definitions.Parts.{zeros, update, member, withMember}
-use Rattle.model.specs.Definitions.Layout.{pageSize}
+use Rattle.model.specs.Definitions.Layout.{byteValues, pageSize}
 use Rattle.model.specs.Definitions.Bank.{Entry, Board, Bank, emptyFrame, noBoard, boardAt, entryAt, frameAt, onBoard, onEntry, onWorking, onFrames}
 use Rattle.model.specs.Definitions.Bank.{noEntry, entryIn}
 use Rattle.model.specs.Definitions.Codec.{pageOf}
-use Rattle.model.specs.Definitions.WellFormed.{FrameOk, isGot, rightIn, EntryOk, WellFormed}
+use Rattle.model.specs.Definitions.WellFormed.{FrameOk, isGot, rightIn, EntryOk, PeersOk, WellFormed}
 use Rattle.model.specs.Definitions.Steps.{recorded, note, withFrame, frameOf, giveCopy, dropped, dropAt, dropCopies, passOwnership}
 use Rattle.model.specs.Laws.Logic.{cases, byBool, byEq, byState, clash}
 use Rattle.model.specs.Laws.Lists.{length-update, getD-update-same, getD-update-other, update-set, each-getD, each-set}
@@ -30,7 +30,8 @@ use Rattle.model.specs.Laws.Boards.{withCopy, droppedIf, withoutCopies, 
 use Rattle.model.specs.Laws.Boards.{boardAt-dropCopies, boardAt-passOwnership-same, boardAt-passOwnership-other}
 use Rattle.model.specs.Laws.Runs.{SameSizes, sizes-giveCopy, sizes-dropCopies, sizes-passOwnership}
 use Rattle.model.specs.Laws.Keeps.Clauses.{up-not-down, up-not-replaying, SameFor, place-kept, fits, wellFormed-fits, fits-directory, up-below, alone-up}
-use Rattle.model.specs.Contracts.{Fits, RoomFor}
+use Rattle.model.specs.Contracts.{Fits, Another, RoomFor}
+use Rattle.model.specs.Laws.Keeps.Peers.{withFrame-peers, tookCopy-peers, dropped-peers}
 use Rattle.model.specs.Laws.Keeps.NotedRecords.{recorded-fits}
 use Rattle.model.specs.Laws.Valid.{copy-some, own-some, frameOk-empty, frameOk-right, frameOk-at, recordable-plain, recordable-got}
 use Rattle.model.specs.Laws.BoardFields.{withFrame-fields}
@@ -40,14 +41,16 @@ use Rattle.model.specs.Laws.BoardFields.{withFrame-fields}
 -- the entry is valid, and every board fits in the changed directory
 entry-keeps : (p : ℕ) (f : Entry → Entry) (k j : Bank) → WellFormed k → p < length (k .directory) → SameSizes k j
     → j .directory ≡ update p f (k .directory) → EntryOk (length (k .boards)) (f (entryAt k p))
-    → ((c : ℕ) → c < length (k .boards) → Fits (update p f (k .directory)) c (boardAt j c)) → WellFormed j
+    → ((c : ℕ) → c < length (k .boards) → Fits (update p f (k .directory)) c (boardAt j c))
+    → ((c : ℕ) → c < length (k .boards) → PeersOk (length (k .boards)) c (boardAt j c)) → WellFormed j
 unfolding entryAt boardAt
-entry-keeps p f k j w l s d e g =
+entry-keeps p f k j w l s d e g n =
     wellFormed-fits j
     (rw (s .boards, s .pages) (w .sizes))
     (rw (s .boards, d, update-set p f (k .directory) noEntry l)
     (each-set (k .directory) p (f (entryIn (k .directory) p)) (w .directory) e))
     (λ c h. rw d (g c (rw (s .boards) at h)))
+    (λ c h. rw (s .boards) (n c (rw (s .boards) at h)))
 
 module _ (d : List Entry) (p : ℕ) (f : Entry → Entry) where
   pub entryIn-same : p < length d → entryIn (update p f d) p ≡ f (entryIn d p)
@@ -84,12 +87,12 @@ module _ (d : List Entry) (p : ℕ) (f : Entry → Entry) (l : p < length d) (b 
       }
 
 -- an up board that gives page p up: it has room for the record, and the changed entry gives it no right
-dropped-fits : (d : List Entry) (p : ℕ) (f : Entry → Entry) → p < length d → (b : ℕ) (x : Board) → Fits d b x → x .state ≡ Up → RoomFor 1 x
-    → rightIn (f (entryIn d p)) b ≡ None → Fits (update p f d) b (dropped p x)
+dropped-fits : (d : List Entry) (w p : ℕ) (f : Entry → Entry) → p < length d → w < byteValues → (b : ℕ) (x : Board) → Fits d b x → x .state ≡ Up
+    → RoomFor 1 x → rightIn (f (entryIn d p)) b ≡ None → Fits (update p f d) b (dropped w p x)
 unfolding dropped emptyFrame onWorking recorded pageOf isGot
-dropped-fits d p f l b x h u m r =
-    exchanged-fits d p f l b (onWorking (recorded (Dropped p) (zeros pageSize)) x)
-    (recorded-fits d b (Dropped p) (zeros pageSize) x h u m (recordable-plain (Dropped p) refl l))
+dropped-fits d w p f l i b x h u m r =
+    exchanged-fits d p f l b (onWorking (recorded (Dropped p) w (zeros pageSize)) x)
+    (recorded-fits d b (Dropped p) w (zeros pageSize) x h u m (recordable-plain (Dropped p) refl l i))
     emptyFrame u frameOk-empty (sym r)
 
 -- ---- entries
@@ -149,14 +152,18 @@ right-from e b h =
     (λ t. inl (eqb-true (e .owner) b t))
     (λ t. byBool (member b (e .copies)) (λ m. inr m) (λ m. absurd (h (cc))))
 
+-- a board's number fits in a byte
+pub board-byte : {k : Bank} → WellFormed k → (b : ℕ) → b < length (k .boards) → b < byteValues
+board-byte w b h = omega (arith, w .sizes .boards)
+
 -- ---- a copy given
 
 module _ (o b p : ℕ) (k : Bank) where
   -- "reader records got copy, gains the copy and its bit": the reader is up, has room for one record and isn't the owner
   pub giveCopy-keeps : WellFormed k → boardAt k b .state ≡ Up → RoomFor 1 (boardAt k b) → p < length (k .directory) → entryAt k p .owner ≢ b
-      → WellFormed (giveCopy o b p k)
+      → Another o b k → WellFormed (giveCopy o b p k)
   unfolding giveCopy note onBoard onEntry withCopy tookCopy onWorking recorded entryAt
-  giveCopy-keeps w u m l n =
+  giveCopy-keeps w u m l n other =
       let d : List Entry = k .directory in
       let bytes : List ℕ = frameOf k o p .bytes in
       let x : Board = boardAt k b in
@@ -168,8 +175,8 @@ module _ (o b p : ℕ) (k : Bank) where
       byEq c b
       (λ e.
       rw (e, boardAt-giveCopy-same o b p k i)
-      (exchanged-fits d p (withCopy b) l b (onWorking (recorded (Got GotCopy p) bytes) x)
-      (recorded-fits d b (Got GotCopy p) bytes x (fits w b i) u m (recordable-got GotCopy v l))
+      (exchanged-fits d p (withCopy b) l b (onWorking (recorded (Got GotCopy p) o bytes) x)
+      (recorded-fits d b (Got GotCopy p) o bytes x (fits w b i) u m (recordable-got GotCopy v l (board-byte w o (other .board))))
       (record { right = Copy; bytes = bytes }) u
       (frameOk-right Copy copy-some v)
       (sym (rightIn-copy (withCopy b (entryAt k p)) b n (member-with-same b (entryAt k p .copies))))))
@@ -178,6 +185,10 @@ module _ (o b p : ℕ) (k : Bank) where
       rw (boardAt-giveCopy-other o b p k c e)
       (unaffected-fits d p (withCopy b) l c (boardAt k c) (fits w c j)
       (record { right = rightIn-same (entryAt k p) (withCopy b (entryAt k p)) c refl s; copies = s }))))
+      (λ c j.
+      byEq c b
+      (λ e. rw (e, boardAt-giveCopy-same o b p k i) (tookCopy-peers o (other .board) (other .other) p bytes (w .peers b i)))
+      (λ e. rw (boardAt-giveCopy-other o b p k c e) (w .peers c j)))
 
 -- ---- the copies of a page dropped
 
@@ -191,26 +202,35 @@ holder-up {k} w c p i l m =
     (λ e. clash m (fits w c i .agreed .copies (λ u. up-not-down u e) p l))
     (λ e. clash m (fits w c i .agreed .copies (λ u. up-not-replaying u e) p l))
 
-module _ (p : ℕ) (k : Bank) where
-  -- "each holder records dropped and loses its copy, the copy-set empties": each holder has room for one record
-  pub dropCopies-keeps : WellFormed k → p < length (k .directory)
-      → ((c : ℕ) → c < length (k .boards) → member c (entryAt k p .copies) ≡ true → RoomFor 1 (boardAt k c)) → WellFormed (dropCopies p k)
+-- a board that loses its right to writer w, another board
+droppedIf-peers : (n w p c : ℕ) (t : Bool) (x : Board) → w < n → (t ≡ true → w ≢ c) → PeersOk n c x → PeersOk n c (droppedIf t w p x)
+unfolding droppedIf
+droppedIf-peers n w p c t x i o h = cases (PeersOk n c) t (λ e. dropped-peers w i (o e) p h) (λ e. h)
+
+module _ (w p : ℕ) (k : Bank) where
+  -- "each holder records dropped and loses its copy, the copy-set empties": each holder has room for one record, and the writer is the owner
+  pub dropCopies-keeps : WellFormed k → p < length (k .directory) → entryAt k p .owner ≡ w
+      → ((c : ℕ) → c < length (k .boards) → member c (entryAt k p .copies) ≡ true → RoomFor 1 (boardAt k c)) → WellFormed (dropCopies w p k)
   unfolding dropCopies dropAt onEntry withoutCopies droppedIf entryAt
-  dropCopies-keeps w l m =
+  dropCopies-keeps wf l own m =
       let d : List Entry = k .directory in
       let e : Entry = entryAt k p in
-      let o : EntryOk (length (k .boards)) e = entry-at w p l in
-      entry-keeps p withoutCopies k (dropCopies p k) w l (sizes-dropCopies p k) refl
+      let o : EntryOk (length (k .boards)) e = entry-at wf p l in
+      let i : w < length (k .boards) = rw (← own) (o .owner) in
+      entry-keeps p withoutCopies k (dropCopies w p k) wf l (sizes-dropCopies w p k) refl
       (entryOk-alone (length (k .boards)) (e .owner) (o .owner))
       (λ c j.
-      rw (boardAt-dropCopies p k c j)
+      rw (boardAt-dropCopies w p k c j)
       (cases (Fits (update p withoutCopies d) c) (member c (e .copies))
       (λ t.
-      dropped-fits d p withoutCopies l c (boardAt k c) (fits w c j) (holder-up w c p j l t) (m c j t)
+      dropped-fits d w p withoutCopies l (board-byte wf w i) c (boardAt k c) (fits wf c j) (holder-up wf c p j l t) (m c j t)
       (rightIn-none (withoutCopies e) c (λ i. clash (rw i t) (o .ownerBit)) (member-none c)))
       (λ t.
-      unaffected-fits d p withoutCopies l c (boardAt k c) (fits w c j)
+      unaffected-fits d p withoutCopies l c (boardAt k c) (fits wf c j)
       (record { right = rightIn-same e (withoutCopies e) c refl (member-none c ∙ sym t); copies = member-none c ∙ sym t }))))
+      (λ c j.
+      rw (boardAt-dropCopies w p k c j)
+      (droppedIf-peers (length (k .boards)) w p c (member c (e .copies)) (boardAt k c) i (λ t s. clash t (rw (own, s) at (o .ownerBit))) (wf .peers c j)))
 
 -- ---- a page passed on
 
@@ -245,7 +265,7 @@ module _ (o w p : ℕ) (k : Bank) where
       rw (boardAt-passOwnership-other o w p k c j n)
       (cases (Fits (update p (ownedBy w) d) c) (eqb c o || member c (e .copies))
       (λ t.
-      dropped-fits d p (ownedBy w) l c (boardAt k c) (fits wf c j)
+      dropped-fits d w p (ownedBy w) l (board-byte wf w i) c (boardAt k c) (fits wf c j)
       (or-cases (eqb c o) (member c (e .copies)) t (λ s. rw (eqb-true c o s) up) (holder-up wf c p j l))
       (m c j n t)
       (rightIn-none (ownedBy w e) c (λ s. n (sym s)) (member-none c)))
@@ -258,3 +278,9 @@ module _ (o w p : ℕ) (k : Bank) where
             ∙ sym (rightIn-none e c (λ s. eqb-false c o (f .0) (sym s ∙ own)) (f .1));
         copies = member-none c ∙ sym (f .1);
       })))))
+      (λ c j.
+      byEq c w
+      (λ q. rw (q, boardAt-passOwnership-same o w p k i) (withFrame-peers p _ (wf .peers w i)))
+      (λ n.
+      rw (boardAt-passOwnership-other o w p k c j n)
+      (droppedIf-peers (length (k .boards)) w p c (eqb c o || member c (e .copies)) (boardAt k c) i (λ t s. n (sym s)) (wf .peers c j))))

@@ -25,6 +25,7 @@ use Rattle.model.specs.Laws.Runs.{step-cases, store-cases}
 use Rattle.model.specs.Laws.Runs.Stores.{burnt-working, burnt-stable}
 use Rattle.model.specs.Laws.Keeps.Clauses.{up-not-down, SameFor, wellFormed-fits, onBoard-keeps, fits-directory, fits, fits-kept}
 use Rattle.model.specs.Contracts.{Fits}
+use Rattle.model.specs.Laws.Keeps.Peers.{withFuse-peers, burnt-peers, poweredOff-peers}
 use Rattle.model.specs.Laws.BoardFields.{poweredOff-fields, withFuse-fields}
 
 -- ---- a power loss
@@ -99,6 +100,12 @@ powerOff-keeps b k w =
     (fits-directory (k .directory) (map (forgotten b) (k .directory)) c (boardAt k c) l
     (λ p i. rw (entry p i) (forgotten-same b c (entryIn (k .directory) p) n))
     (fits w c m))))
+    (λ c h.
+    let m : c < length (k .boards) = rw (boards-powerOff b k) at h in
+    rw (boards-powerOff b k)
+    (byEq c b
+    (λ e. rw (e, boardAt-powerOff-same b k (rw e at m)) (poweredOff-peers (boardAt k b) (w .peers b (rw e at m))))
+    (λ n. rw (boardAt-powerOff-other b k c n) (w .peers c m))))
 
 -- ---- a fuse
 
@@ -118,7 +125,7 @@ withFuse-fits d b n x h p m u =
 
 -- "Fuse k .."
 pub withFuse-keeps : (b n : ℕ) (k : Bank) → WellFormed k → 0 < n → n ≤ noFuse → boardAt k b .state ≢ Down → WellFormed (onBoard b (withFuse n) k)
-withFuse-keeps b n k w p m u = onBoard-keeps b (withFuse n) k w (λ l h. withFuse-fits (k .directory) b n (boardAt k b) h p m u)
+withFuse-keeps b n k w p m u = onBoard-keeps b (withFuse n) k w (λ l h. withFuse-fits (k .directory) b n (boardAt k b) h p m u) (withFuse-peers n)
 
 -- a board whose fuse is set has power
 burnt-fits : (d : List Entry) (b : ℕ) (x : Board) → Fits d b x → burnt x .fuse ≢ 0 → Fits d b (burnt x)
@@ -147,7 +154,8 @@ store-keeps b f r w g =
     (λ n e. rw (powerOff-onBoard b (onBoard b f (r .bank)) burnt poweredOff-burnt) (powerOff-keeps b (onBoard b f (r .bank)) (g n)))
     (λ n e.
     onBoard-keeps b burnt (onBoard b f (r .bank)) (g n)
-    (λ l h. burnt-fits (onBoard b f (r .bank) .directory) b (boardAt (onBoard b f (r .bank)) b) h (rw (boardAt-same b burnt (onBoard b f (r .bank)) l) at e)))
+    (λ l h. burnt-fits (onBoard b f (r .bank) .directory) b (boardAt (onBoard b f (r .bank)) b) h (rw (boardAt-same b burnt (onBoard b f (r .bank)) l) at e))
+    (burnt-peers (boardAt (onBoard b f (r .bank)) b)))
 
 -- a step that stores nothing
 pub step-keeps : (f : Bank → Bank) (r : Run) → WellFormed (r .bank) → (r .lost ≡ none → WellFormed (f (r .bank))) → WellFormed (step f r .bank)

@@ -30,7 +30,7 @@ use Rattle.model.specs.Definitions.Calls.{liveAfterEnd, replaying, acces
 use Rattle.model.specs.Moves.{NoteShown, NoteGot, StoreRecord, StoreFrame, StoreHead, StoreSelector, PassOwnership, DropCopies, Perform, Settle}
 use Rattle.model.specs.Moves.{does}
 use Rattle.model.specs.Likeness.{EachPair, pairs-nil, pairs-cons, FrameAlike, RecordAlike, FramesAlike, BoardAlike, Alike, RunAlike, mappedAccess}
-use Rattle.model.specs.Likeness.{mapped, mappedValue, onValue, ResultAlike}
+use Rattle.model.specs.Likeness.{mapped, mappedValue, onValue, ResultAlike, Change}
 use Rattle.model.specs.Laws.Lists.{foldl-both, each-replicate}
 use Rattle.model.specs.Laws.States.{SameStates}
 use Rattle.model.specs.Laws.Runs.{each-spareStores, checkpoint-selector}
@@ -42,7 +42,7 @@ use Rattle.model.specs.Laws.Likeness.Moves.{alike-due, alike-tookDue, al
 
 -- ==== several moves
 
-module _ (f : ℕ → ℕ) where
+module _ (f : Change) where
   pub alike-start : {k j : Bank} → Alike f k j → RunAlike f (start k) (start j)
   unfolding start
   alike-start e = record { bank = e; stores = refl; lost = refl }
@@ -57,7 +57,7 @@ module _ (f : ℕ → ℕ) where
   unfolding replayOver
   sameOver e = rw (pairs-length (RecordAlike f) (e .stable .selected .log .records), e .working .place)
 
-module _ (f : ℕ → ℕ) (z : f 0 ≡ 0) where
+module _ (f : Change) (z : f .bytes 0 ≡ 0) where
   alike-flush : (b : ℕ) {r s : Run} → RunAlike f r s → RunAlike f (flush b r) (flush b s)
   unfolding flush storeAll recordStores does mapped
   alike-flush b {r} {s} e =
@@ -75,14 +75,14 @@ module _ (f : ℕ → ℕ) (z : f 0 ≡ 0) where
       (each-spareStores (λ p r s d. moves-alike f z (StoreFrame b p) d) (λ r s d. moves-alike f z (StoreHead b) d) n) r s e in
       rw (checkpoint-selector b r, checkpoint-selector b s, i) (moves-alike f z (StoreSelector b) h)
 
-  alike-show : (o p : ℕ) {r s : Run} → RunAlike f r s → RunAlike f (show o p r) (show o p s)
+  alike-show : (o b p : ℕ) {r s : Run} → RunAlike f r s → RunAlike f (show o b p r) (show o b p s)
   unfolding show does mapped
-  alike-show o p e = alike-flush o (moves-alike f z (NoteShown o p) e)
+  alike-show o b p e = alike-flush o (moves-alike f z (NoteShown o b p) e)
 
-  alike-showAll : (ps : List ℕ) {r s : Run} → RunAlike f r s → RunAlike f (showAll ps r) (showAll ps s)
+  alike-showAll : (b : ℕ) (ps : List ℕ) {r s : Run} → RunAlike f r s → RunAlike f (showAll b ps r) (showAll b ps s)
   unfolding showAll
-  alike-showAll [] e = e
-  alike-showAll (p ∷ ps) {r} e = alike-showAll ps (rw (sameGiver f GotCopy p (e .bank)) (alike-show (giver GotCopy (r .bank) p) p e))
+  alike-showAll b [] e = e
+  alike-showAll b (p ∷ ps) {r} e = alike-showAll b ps (rw (sameGiver f GotCopy p (e .bank)) (alike-show (giver GotCopy (r .bank) p) b p e))
 
   alike-giveCopies : (b : ℕ) (ps : List ℕ) → Preserve (Alike f) (giveCopies b ps) (giveCopies b ps)
   unfolding giveCopies
@@ -94,11 +94,11 @@ module _ (f : ℕ → ℕ) (z : f 0 ≡ 0) where
   alike-writeFetch b p {r} e =
       let o : ℕ = giver GotOwn (r .bank) p in
       rw (sameGiver f GotOwn p (e .bank))
-      (moves-alike f z (PassOwnership o b p) (alike-flush b (moves-alike f z (NoteGot b o p) (alike-show o p e))))
+      (moves-alike f z (PassOwnership o b p) (alike-flush b (moves-alike f z (NoteGot b o p) (alike-show o b p e))))
 
   alike-fetch : (g : CopyOrOwn) (b : ℕ) (ps : List ℕ) {r s : Run} → RunAlike f r s → RunAlike f (fetch g b ps r) (fetch g b ps s)
   unfolding fetch readFetch
-  alike-fetch GotCopy b ps e = alike-step f (alike-giveCopies b ps) (alike-showAll ps e)
+  alike-fetch GotCopy b ps e = alike-step f (alike-giveCopies b ps) (alike-showAll b ps e)
   alike-fetch GotOwn b [] e = e
   alike-fetch GotOwn b (p ∷ ps) e = alike-fetch GotOwn b ps (alike-writeFetch b p e)
 
@@ -125,13 +125,13 @@ module _ (g : ℕ → ℕ) where
   alike-firstOf pairs-nil = neither
   alike-firstOf (pairs-cons i is) = casesBoth (Perhaps (λ x y. y ≡ onValue g x)) (i .0) (both (i .1)) (alike-firstOf is)
 
-module _ (f g : ℕ → ℕ) where
+module _ (f : Change) (g : ℕ → ℕ) where
   pub alike-unless : {ts us : List (Bool × Answer)} {r s : Run} {x y : Result} → EachPair (RowAlike g) ts us → RunAlike f r s → ResultAlike f g x y
       → ResultAlike f g (unless ts r x) (unless us s y)
   unfolding unless
   alike-unless is e q = optionsBoth (ResultAlike f g) (λ x y. y ≡ onValue g x) (alike-firstOf g is) q (λ x y i. record { answer = i; run = e; given = refl })
 
-  pub alike-finished : {v w : ℕ} (l : List ℕ) {m : List ℕ} {r s : Run} → w ≡ g v → m ≡ map f l → RunAlike f r s
+  pub alike-finished : {v w : ℕ} (l : List ℕ) {m : List ℕ} {r s : Run} → w ≡ g v → m ≡ map (f .bytes) l → RunAlike f r s
       → ResultAlike f g (finished v l r) (finished w m s)
   unfolding finished onValue
   alike-finished l i h e =
@@ -177,174 +177,174 @@ module _ (f : ℕ → ℕ) where
   sameWrongCells (Write p o v) = refl
   sameWrongCells (ReadCells cells outLength) = refl
 
-module _ (f : ℕ → ℕ) (z : f 0 ≡ 0) (a : Access) where
-  sameLacksPage : (p : ℕ) {fs gs : List Frame} → FramesAlike f fs gs → lacksPage (mappedAccess f a) gs p ≡ lacksPage a fs p
+module _ (f : Change) (z : f .bytes 0 ≡ 0) (a : Access) where
+  sameLacksPage : (p : ℕ) {fs gs : List Frame} → FramesAlike f fs gs → lacksPage (mappedAccess (f .bytes) a) gs p ≡ lacksPage a fs p
   unfolding lacksPage
-  sameLacksPage p e = rw (sameNames f a p, sameTakes f a, alike-frameAt f z p e .right)
+  sameLacksPage p e = rw (sameNames (f .bytes) a p, sameTakes (f .bytes) a, alike-frameAt f z p e .right)
 
-  sameLackingPages : {fs gs : List Frame} → FramesAlike f fs gs → lackingPages (mappedAccess f a) gs ≡ lackingPages a fs
+  sameLackingPages : {fs gs : List Frame} → FramesAlike f fs gs → lackingPages (mappedAccess (f .bytes) a) gs ≡ lackingPages a fs
   unfolding lackingPages
   sameLackingPages e = rw (pairs-length (FrameAlike f) e, fun-ext (λ p. sameLacksPage p e))
 
-  sameLacking : {fs gs : List Frame} → FramesAlike f fs gs → lacking (mappedAccess f a) gs ≡ lacking a fs
+  sameLacking : {fs gs : List Frame} → FramesAlike f fs gs → lacking (mappedAccess (f .bytes) a) gs ≡ lacking a fs
   unfolding lacking
   sameLacking e = rw (sameLackingPages e, lacking)
 
-  sameLackingOf : (b : ℕ) {k j : Bank} → Alike f k j → lackingOf b (mappedAccess f a) j ≡ lackingOf b a k
+  sameLackingOf : (b : ℕ) {k j : Bank} → Alike f k j → lackingOf b (mappedAccess (f .bytes) a) j ≡ lackingOf b a k
   unfolding lackingOf
   sameLackingOf b e = sameLacking (alike-boardAt f b e .working .frames)
 
-  samePagesLacking : (b : ℕ) {k j : Bank} → Alike f k j → pagesLacking b (mappedAccess f a) j ≡ pagesLacking b a k
+  samePagesLacking : (b : ℕ) {k j : Bank} → Alike f k j → pagesLacking b (mappedAccess (f .bytes) a) j ≡ pagesLacking b a k
   unfolding pagesLacking
   samePagesLacking b e = sameLackingPages (alike-boardAt f b e .working .frames)
 
-module _ (f : ℕ → ℕ) (z : f 0 ≡ 0) where
-  sameByte : (c : Cell) {fs gs : List Frame} → FramesAlike f fs gs → cellByte gs c ≡ f (cellByte fs c)
+module _ (f : Change) (z : f .bytes 0 ≡ 0) where
+  sameByte : (c : Cell) {fs gs : List Frame} → FramesAlike f fs gs → cellByte gs c ≡ f .bytes (cellByte fs c)
   unfolding cellByte
   sameByte c {fs} e =
       let l : List ℕ = frameAt fs (c .page) .bytes in
-      let i : getD (map f l) (c .offset) 0 ≡ getD (map f l) (c .offset) (f 0) = rw z in
-      ap (λ (m : List ℕ). getD m (c .offset) 0) (alike-frameAt f z (c .page) e .bytes) ∙ i ∙ List·getD-map f l (c .offset) 0
+      let i : getD (map (f .bytes) l) (c .offset) 0 ≡ getD (map (f .bytes) l) (c .offset) (f .bytes 0) = rw z in
+      ap (λ (m : List ℕ). getD m (c .offset) 0) (alike-frameAt f z (c .page) e .bytes) ∙ i ∙ List·getD-map (f .bytes) l (c .offset) 0
 
   -- the byte read, or 0
-  sameValue : (a : Access) {fs gs : List Frame} → FramesAlike f fs gs → valueOf (mappedAccess f a) gs ≡ mappedValue f a (valueOf a fs)
+  sameValue : (a : Access) {fs gs : List Frame} → FramesAlike f fs gs → valueOf (mappedAccess (f .bytes) a) gs ≡ mappedValue (f .bytes) a (valueOf a fs)
   unfolding valueOf mappedAccess mappedValue
   sameValue (Read p o) e = sameByte (record { page = p; offset = o }) e
   sameValue (Write p o v) e = refl
   sameValue (ReadCells cells outLength) e = refl
 
-  sameBytes : (cs : List Cell) {fs gs : List Frame} → FramesAlike f fs gs → map (cellByte gs) cs ≡ map f (map (cellByte fs) cs)
+  sameBytes : (cs : List Cell) {fs gs : List Frame} → FramesAlike f fs gs → map (cellByte gs) cs ≡ map (f .bytes) (map (cellByte fs) cs)
   sameBytes [] e = refl
   sameBytes (c ∷ cs) e = rw (sameByte c e, sameBytes cs e)
 
   -- the bytes of a second buffer, if there is one
-  sameGiven : (a : Access) {fs gs : List Frame} → FramesAlike f fs gs → givenOf (mappedAccess f a) gs ≡ map f (givenOf a fs)
+  sameGiven : (a : Access) {fs gs : List Frame} → FramesAlike f fs gs → givenOf (mappedAccess (f .bytes) a) gs ≡ map (f .bytes) (givenOf a fs)
   unfolding givenOf readFrom cellsRead mappedAccess
   sameGiven (Read p o) e = refl
   sameGiven (Write p o v) e = refl
   sameGiven (ReadCells cells outLength) e = sameBytes (cellsAsked cells) e
 
-sameCopiesOut : (f : ℕ → ℕ) (a : Access) {k j : Bank} → Alike f k j → copiesOut (mappedAccess f a) j ≡ copiesOut a k
+sameCopiesOut : (f : Change) (a : Access) {k j : Bank} → Alike f k j → copiesOut (mappedAccess (f .bytes) a) j ≡ copiesOut a k
 unfolding copiesOut cellsWritten mappedAccess
 sameCopiesOut f (Read p o) e = refl
 sameCopiesOut f (Write p o v) e = rw (alike-entryAt f p e)
 sameCopiesOut f (ReadCells cells outLength) e = refl
 
-sameFetchNeed : (f : ℕ → ℕ) (g : CopyOrOwn) (b o p c : ℕ) {k j : Bank} → Alike f k j → fetchNeed g j b o p c ≡ fetchNeed g k b o p c
+sameFetchNeed : (f : Change) (g : CopyOrOwn) (b o p c : ℕ) {k j : Bank} → Alike f k j → fetchNeed g j b o p c ≡ fetchNeed g k b o p c
 unfolding fetchNeed
 sameFetchNeed f GotCopy b o p c e = refl
 sameFetchNeed f GotOwn b o p c e = cc (alike-entryAt f p e)
 
-sameNobody : (f : ℕ → ℕ) (g : CopyOrOwn) (p : ℕ) {k j : Bank} → Alike f k j → nobodyGives g j p ≡ nobodyGives g k p
+sameNobody : (f : Change) (g : CopyOrOwn) (p : ℕ) {k j : Bank} → Alike f k j → nobodyGives g j p ≡ nobodyGives g k p
 unfolding nobodyGives
 sameNobody f GotCopy p {k} {j} e = rw (ownerUp-same k j p (alike-entryAt f p e) (sameStates f e), alike-entryAt f p e)
 sameNobody f GotOwn p {k} {j} e = rw (ownerUp-same k j p (alike-entryAt f p e) (sameStates f e))
 
-module _ (f : ℕ → ℕ) (z : f 0 ≡ 0) (b : ℕ) (a : Access) {k j : Bank} (e : Alike f k j) where
-  sameDropNeed : (p c : ℕ) → dropNeed (mappedAccess f a) j p c ≡ dropNeed a k p c
+module _ (f : Change) (z : f .bytes 0 ≡ 0) (b : ℕ) (a : Access) {k j : Bank} (e : Alike f k j) where
+  sameDropNeed : (p c : ℕ) → dropNeed (mappedAccess (f .bytes) a) j p c ≡ dropNeed a k p c
   unfolding dropNeed
-  sameDropNeed p c = cc (sameAnyWrite f a p, alike-entryAt f p e)
+  sameDropNeed p c = cc (sameAnyWrite (f .bytes) a p, alike-entryAt f p e)
 
-  samePageNeed : (c p : ℕ) → pageNeed b (mappedAccess f a) j c p ≡ pageNeed b a k c p
+  samePageNeed : (c p : ℕ) → pageNeed b (mappedAccess (f .bytes) a) j c p ≡ pageNeed b a k c p
   unfolding pageNeed
   samePageNeed c p =
       casesBoth (λ m n. n ≡ m) (sameLacksPage f z a p (alike-boardAt f b e .working .frames))
-      (rw (sameTakes f a, sameGiver f (takes a) p e) (sameFetchNeed f (takes a) b (giver (takes a) k p) p c e))
+      (rw (sameTakes (f .bytes) a, sameGiver f (takes a) p e) (sameFetchNeed f (takes a) b (giver (takes a) k p) p c e))
       (sameDropNeed p c)
 
-  sameNeed : (c : ℕ) → need b (mappedAccess f a) j c ≡ need b a k c
+  sameNeed : (c : ℕ) → need b (mappedAccess (f .bytes) a) j c ≡ need b a k c
   unfolding need
   sameNeed c = rw (fun-ext (samePageNeed c), e .directory)
 
-  sameShort : (c : ℕ) → short b (mappedAccess f a) j c ≡ short b a k c
+  sameShort : (c : ℕ) → short b (mappedAccess (f .bytes) a) j c ≡ short b a k c
   unfolding short
   sameShort c =
       let x : BoardAlike f (boardAt k c) (boardAt j c) = alike-boardAt f c e in
       rw
       (pairs-length (RecordAlike f) (x .stable .selected .log .records), pairs-length (RecordAlike f) (x .working .log .records), sameNeed c)
 
-  sameShortBoard : shortBoard b (mappedAccess f a) j ≡ shortBoard b a k
+  sameShortBoard : shortBoard b (mappedAccess (f .bytes) a) j ≡ shortBoard b a k
   unfolding shortBoard
   sameShortBoard = rw (pairs-length (BoardAlike f) (e .boards), fun-ext sameShort)
 
-  sameMissing : (p : ℕ) → (lacksPage (mappedAccess f a) (boardAt j b .working .frames) p && nobodyGives (takes (mappedAccess f a)) j p)
+  sameMissing : (p : ℕ) → (lacksPage (mappedAccess (f .bytes) a) (boardAt j b .working .frames) p && nobodyGives (takes (mappedAccess (f .bytes) a)) j p)
       ≡ (lacksPage a (boardAt k b .working .frames) p && nobodyGives (takes a) k p)
-  sameMissing p = rw (sameLacksPage f z a p (alike-boardAt f b e .working .frames), sameTakes f a, sameNobody f (takes a) p e)
+  sameMissing p = rw (sameLacksPage f z a p (alike-boardAt f b e .working .frames), sameTakes (f .bytes) a, sameNobody f (takes a) p e)
 
-  samePageMissing : pageMissing b (mappedAccess f a) j ≡ pageMissing b a k
+  samePageMissing : pageMissing b (mappedAccess (f .bytes) a) j ≡ pageMissing b a k
   unfolding pageMissing
   samePageMissing = rw (fun-ext sameMissing, e .directory)
 
-  rows-live : EachPair (RowAlike (mappedValue f a)) (liveRefusals b a k) (liveRefusals b (mappedAccess f a) j)
+  rows-live : EachPair (RowAlike (mappedValue (f .bytes) a)) (liveRefusals b a k) (liveRefusals b (mappedAccess (f .bytes) a) j)
   unfolding liveRefusals onValue
   rows-live =
-      let owner : entryAt j (numberIn (pageMissing b (mappedAccess f a) j)) .owner ≡ entryAt k (numberIn (pageMissing b a k)) .owner =
+      let owner : entryAt j (numberIn (pageMissing b (mappedAccess (f .bytes) a) j)) .owner ≡ entryAt k (numberIn (pageMissing b a k)) .owner =
       rw (samePageMissing, alike-entryAt f (numberIn (pageMissing b a k)) e) in
       pairs-cons (ap isSome samePageMissing, ap OwnerNotUp owner)
       (pairs-cons (ap isSome sameShortBoard, ap (λ (m : Option ℕ). LogFull (numberIn m)) sameShortBoard) pairs-nil)
 
-sameInRange : (f : ℕ → ℕ) → ((v : ℕ) → ltb (f v) byteValues ≡ ltb v byteValues) → (b : ℕ) (a : Access) {k j : Bank} → Alike f k j
-    → accessInRange b (mappedAccess f a) j ≡ accessInRange b a k
+sameInRange : (f : Change) → ((v : ℕ) → ltb (f .bytes v) byteValues ≡ ltb v byteValues) → (b : ℕ) (a : Access) {k j : Bank} → Alike f k j
+    → accessInRange b (mappedAccess (f .bytes) a) j ≡ accessInRange b a k
 unfolding accessInRange every cellsRead cellsWritten mappedAccess
 sameInRange f bytes b (Read p o) e = rw (pairs-length (BoardAlike f) (e .boards), e .directory)
 sameInRange f bytes b (Write p o v) e = rw (pairs-length (BoardAlike f) (e .boards), e .directory, bytes v)
 sameInRange f bytes b (ReadCells cells outLength) e = rw (pairs-length (BoardAlike f) (e .boards), e .directory)
 
-module _ (f : ℕ → ℕ) (z : f 0 ≡ 0) (b : ℕ) (a : Access) where
-  alike-prepared : {r s : Run} → RunAlike f r s → RunAlike f (prepared b a r) (prepared b (mappedAccess f a) s)
+module _ (f : Change) (z : f .bytes 0 ≡ 0) (b : ℕ) (a : Access) where
+  alike-prepared : {r s : Run} → RunAlike f r s → RunAlike f (prepared b a r) (prepared b (mappedAccess (f .bytes) a) s)
   unfolding prepared does mapped
   alike-prepared {r} e =
       casesBoth (RunAlike f) (sameLackingOf f z a b (e .bank))
-      (rw (sameTakes f a, samePagesLacking f z a b (e .bank)) (alike-fetch f z (takes a) b (pagesLacking b a (r .bank)) e))
+      (rw (sameTakes (f .bytes) a, samePagesLacking f z a b (e .bank)) (alike-fetch f z (takes a) b (pagesLacking b a (r .bank)) e))
       (casesBoth (RunAlike f) (sameCopiesOut f a (e .bank))
-      (rw (samePageWritten f a) (moves-alike f z (DropCopies (pageWritten a)) e))
+      (rw (samePageWritten (f .bytes) a) (moves-alike f z (DropCopies b (pageWritten a)) e))
       e)
 
-  alike-performed : {r s : Run} → RunAlike f r s → ResultAlike f (mappedValue f a) (performed b a r) (performed b (mappedAccess f a) s)
+  alike-performed : {r s : Run} → RunAlike f r s → ResultAlike f (mappedValue (f .bytes) a) (performed b a r) (performed b (mappedAccess (f .bytes) a) s)
   unfolding performed does mapped
   alike-performed e =
       let fs : FramesAlike f _ _ = alike-boardAt f b (e .bank) .working .frames in
-      alike-finished f (mappedValue f a) _ (sameValue f z a fs) (sameGiven f z a fs) (moves-alike f z (Perform b a) e)
+      alike-finished f (mappedValue (f .bytes) a) _ (sameValue f z a fs) (sameGiven f z a fs) (moves-alike f z (Perform b a) e)
 
-  alike-live : {r s : Run} → RunAlike f r s → ResultAlike f (mappedValue f a) (live b a r) (live b (mappedAccess f a) s)
+  alike-live : {r s : Run} → RunAlike f r s → ResultAlike f (mappedValue (f .bytes) a) (live b a r) (live b (mappedAccess (f .bytes) a) s)
   unfolding live
-  alike-live e = alike-unless f (mappedValue f a) (rows-live f z b a (e .bank)) e (alike-performed (alike-prepared e))
+  alike-live e = alike-unless f (mappedValue (f .bytes) a) (rows-live f z b a (e .bank)) e (alike-performed (alike-prepared e))
 
-  alike-liveAfterEnd : {r s : Run} → RunAlike f r s → ResultAlike f (mappedValue f a) (liveAfterEnd b a r) (liveAfterEnd b (mappedAccess f a) s)
+  alike-liveAfterEnd : {r s : Run} → RunAlike f r s → ResultAlike f (mappedValue (f .bytes) a) (liveAfterEnd b a r) (liveAfterEnd b (mappedAccess (f .bytes) a) s)
   unfolding liveAfterEnd onValue
   alike-liveAfterEnd e =
-      optionsBoth (ResultAlike f (mappedValue f a)) (λ x y. y ≡ x) (perhaps-same (e .lost))
+      optionsBoth (ResultAlike f (mappedValue (f .bytes) a)) (λ x y. y ≡ x) (perhaps-same (e .lost))
       (alike-live e)
       (λ c d o. record { answer = ap PowerLost o; run = e; given = refl })
 
   -- ==== an access of a replaying board
 
-  alike-replaying : {k j : Bank} → Alike f k j → ResultAlike f (mappedValue f a) (replaying b a k) (replaying b (mappedAccess f a) j)
+  alike-replaying : {k j : Bank} → Alike f k j → ResultAlike f (mappedValue (f .bytes) a) (replaying b a k) (replaying b (mappedAccess (f .bytes) a) j)
   unfolding replaying
   alike-replaying {k} {j} e =
       let q : Alike f (onBoard b tookDue k) (onBoard b tookDue j) = alike-onBoard f b (alike-tookDue f z) k j e in
       let fs : FramesAlike f _ _ = alike-boardAt f b q .working .frames in
-      casesBoth (ResultAlike f (mappedValue f a)) (sameOver f (alike-boardAt f b q))
+      casesBoth (ResultAlike f (mappedValue (f .bytes) a)) (sameOver f (alike-boardAt f b q))
       (alike-liveAfterEnd (alike-endReplay f z b (alike-start f q)))
-      (alike-finished f (mappedValue f a) _ (sameValue f z a fs) (sameGiven f z a fs)
+      (alike-finished f (mappedValue (f .bytes) a) _ (sameValue f z a fs) (sameGiven f z a fs)
       (alike-endIfOver f z b (alike-start f (alike-onBoard f b (alike-replayed f z a) _ _ q))))
 
   -- ==== an access
 
-  sameNeedsGot : {fs gs : List Frame} {m n : Kind} → FramesAlike f fs gs → n ≡ m → needsGot (mappedAccess f a) gs n ≡ needsGot a fs m
+  sameNeedsGot : {fs gs : List Frame} {m n : Kind} → FramesAlike f fs gs → n ≡ m → needsGot (mappedAccess (f .bytes) a) gs n ≡ needsGot a fs m
   unfolding needsGot
   sameNeedsGot {m = m} e i =
       rw i
-      (elim m [ Got g p ↦ rw (sameTakes f a, sameLacksPage f z a p e) | Shown p ↦ refl | Dropped p ↦ refl ])
+      (elim m [ Got g p ↦ rw (sameTakes (f .bytes) a, sameLacksPage f z a p e) | Shown p ↦ refl | Dropped p ↦ refl ])
 
   sameNeedsGots : {fs gs : List Frame} {rs ss : List Record} (n : ℕ) → FramesAlike f fs gs → EachPair (RecordAlike f) rs ss
-      → needsGots (mappedAccess f a) gs n ss ≡ needsGots a fs n rs
+      → needsGots (mappedAccess (f .bytes) a) gs n ss ≡ needsGots a fs n rs
   unfolding needsGots
   sameNeedsGots n e pairs-nil = refl
   sameNeedsGots n e (pairs-cons {x} i is) =
       rw (sameNeedsGot e (i .kind), i .kind, sameNeedsGots (suc (pageOf (x .kind))) e is)
 
-  sameDiffers : {x y : Board} → BoardAlike f x y → differs (mappedAccess f a) y ≡ differs a x
+  sameDiffers : {x y : Board} → BoardAlike f x y → differs (mappedAccess (f .bytes) a) y ≡ differs a x
   unfolding differs
   sameDiffers e =
       let t : BoardAlike f _ _ = alike-tookDue f z _ _ e in
@@ -354,24 +354,24 @@ module _ (f : ℕ → ℕ) (z : f 0 ≡ 0) (b : ℕ) (a : Access) where
   unfolding countersFull
   sameFull largest e = rw (e .working .since, e .working .number)
 
-  module _ (bytes : (v : ℕ) → ltb (f v) byteValues ≡ ltb v byteValues) (largest : ℕ) where
+  module _ (bytes : (v : ℕ) → ltb (f .bytes v) byteValues ≡ ltb v byteValues) (largest : ℕ) where
     rows-access : {k j : Bank} → Alike f k j
-        → EachPair (RowAlike (mappedValue f a)) (refusalsWithin largest b a k) (refusalsWithin largest b (mappedAccess f a) j)
+        → EachPair (RowAlike (mappedValue (f .bytes) a)) (refusalsWithin largest b a k) (refusalsWithin largest b (mappedAccess (f .bytes) a) j)
     unfolding refusalsWithin onValue
     rows-access {k} {j} e =
         let x : BoardAlike f (boardAt k b) (boardAt j b) = alike-boardAt f b e in
         pairs-cons (ap not (sameInRange f bytes b a e), refl)
-        (pairs-cons (sameWrongCells f a, refl)
+        (pairs-cons (sameWrongCells (f .bytes) a, refl)
         (pairs-cons (ap isDown (x .state), refl)
         (pairs-cons (sameFull largest x, refl)
         (pairs-cons (sameAnd (ap isReplaying (x .state)) (sameDiffers x), refl)
         pairs-nil))))
 
     pub alike-accessWithin : {k j : Bank} → Alike f k j
-        → ResultAlike f (mappedValue f a) (accessWithin largest b a k) (accessWithin largest b (mappedAccess f a) j)
+        → ResultAlike f (mappedValue (f .bytes) a) (accessWithin largest b a k) (accessWithin largest b (mappedAccess (f .bytes) a) j)
     unfolding accessWithin
     alike-accessWithin e =
-        alike-unless f (mappedValue f a) (rows-access e) (alike-start f e)
-        (casesBoth (ResultAlike f (mappedValue f a)) (ap isReplaying (alike-boardAt f b e .state))
+        alike-unless f (mappedValue (f .bytes) a) (rows-access e) (alike-start f e)
+        (casesBoth (ResultAlike f (mappedValue (f .bytes) a)) (ap isReplaying (alike-boardAt f b e .state))
         (alike-replaying e)
         (alike-live (alike-start f e)))

@@ -16,12 +16,12 @@ use Rattle.model.specs.Definitions.Calls.{unless, finished, checkpointBa
 use Rattle.model.specs.Definitions.Calls.{Fusing, Restarting, callWithin}
 use Rattle.model.specs.Moves.{LosePower, SetFuse, does}
 use Rattle.model.specs.Likeness.{pairs-nil, pairs-cons, BoardAlike, Alike, mappedAccess, mapped, mappedCall, mappedValue, mappedCallValue, onValue}
-use Rattle.model.specs.Likeness.{RunAlike, ResultAlike}
+use Rattle.model.specs.Likeness.{RunAlike, ResultAlike, Change}
 use Rattle.model.specs.Laws.Likeness.{pairs-length, alike-boardAt, alike-onBoard}
 use Rattle.model.specs.Laws.Likeness.Moves.{alike-load, moves-alike}
 use Rattle.model.specs.Laws.Likeness.Accesses.{alike-checkpoint, alike-endIfOver, alike-start, alike-unless, alike-finished, alike-accessWithin}
 
-module _ (f : ℕ → ℕ) (z : f 0 ≡ 0) where
+module _ (f : Change) (z : f .bytes 0 ≡ 0) where
   -- the board that a call names is there on both sides or on neither
   sameThere : (b : ℕ) {k j : Bank} → Alike f k j → ltb b (length (j .boards)) ≡ ltb b (length (k .boards))
   sameThere b e = ap (λ (n : ℕ). ltb b n) (pairs-length (BoardAlike f) (e .boards))
@@ -58,8 +58,8 @@ module _ (f : ℕ → ℕ) (z : f 0 ≡ 0) where
       (alike-endIfOver f z b (alike-start f (alike-onBoard f b (alike-load f z) _ _ e)))
 
   -- whatever the largest since
-  pub calls-alike : ((v : ℕ) → ltb (f v) byteValues ≡ ltb v byteValues) → (largest : ℕ) (c : Call) {k j : Bank} → Alike f k j
-      → ResultAlike f (mappedCallValue f c) (callWithin largest c k) (callWithin largest (mappedCall f c) j)
+  pub calls-alike : ((v : ℕ) → ltb (f .bytes v) byteValues ≡ ltb v byteValues) → (largest : ℕ) (c : Call) {k j : Bank} → Alike f k j
+      → ResultAlike f (mappedCallValue (f .bytes) c) (callWithin largest c k) (callWithin largest (mappedCall (f .bytes) c) j)
   unfolding callWithin mappedCall mappedCallValue mappedAccess mappedValue
   calls-alike bytes largest (Accessing b a) e = alike-accessWithin f z b a bytes largest e
   calls-alike bytes largest (Checkpointing b) e = alike-checkpointBank b e

@@ -17,7 +17,7 @@ use Rattle.model.specs.Definitions.Steps.{Access, Run}
 use Rattle.model.specs.Definitions.Replay.{loaded, recordsLeft, used, useUp, usedUp, gotsDue, due, rightGot, tookGot, tookGots, tookDue, settledFrame}
 use Rattle.model.specs.Definitions.Replay.{settled, replayed, settle}
 use Rattle.model.specs.Likeness.{EachPair, pairs-nil, pairs-cons, FrameAlike, RecordAlike, FramesAlike, AreaAlike, WorkingAlike, BoardAlike, Alike}
-use Rattle.model.specs.Likeness.{mappedAccess, RunAlike, mapped}
+use Rattle.model.specs.Likeness.{mappedAccess, RunAlike, mapped, Change}
 use Rattle.model.specs.Laws.Likeness.{Preserve, casesBoth, pairs-set, pairs-each, pairs-drop, alike-emptyFrame}
 use Rattle.model.specs.Laws.Likeness.{alike-entryAt, alike-onBoard, alike-onWorking}
 use Rattle.model.specs.Laws.Likeness.Steps.{alike-accessed, alike-step, alike-withFuse, alike-noteShown, alike-notePage, alike-store, alike-storedRecord}
@@ -32,7 +32,7 @@ kindsBoth : {A B : Type 0} (R : A → B → Type 0) {k j : Kind} {a : CopyOrOwn 
     → R (elim k [ Got o p ↦ a o p | Shown p ↦ b p | Dropped p ↦ c p ]) (elim j [ Got o p ↦ d o p | Shown p ↦ e p | Dropped p ↦ g p ])
 kindsBoth R {k} i x y w = rw i (elim k [ Got o p ↦ x o p | Shown p ↦ y p | Dropped p ↦ w p ])
 
-module _ (f : ℕ → ℕ) (z : f 0 ≡ 0) where
+module _ (f : Change) (z : f .bytes 0 ≡ 0) where
   alike-loaded : Preserve (BoardAlike f) loaded loaded
   unfolding loaded
   alike-loaded x y e =
@@ -102,7 +102,7 @@ module _ (f : ℕ → ℕ) (z : f 0 ≡ 0) where
   unfolding tookDue
   alike-tookDue x y e = alike-onWorking f (alike-tookGots (alike-due e)) x y e
 
-  pub alike-replayed : (a : Access) → Preserve (BoardAlike f) (replayed a) (replayed (mappedAccess f a))
+  pub alike-replayed : (a : Access) → Preserve (BoardAlike f) (replayed a) (replayed (mappedAccess (f .bytes) a))
   unfolding replayed
   alike-replayed a x y e = alike-usedUp _ _ (alike-onWorking f (alike-accessed f z a) x y e)
 
@@ -134,9 +134,9 @@ module _ (f : ℕ → ℕ) (z : f 0 ≡ 0) where
 
   -- ---- every move
 
-  pub moves-alike : (m : Move) {r s : Run} → RunAlike f r s → RunAlike f (does m r) (does (mapped f m) s)
+  pub moves-alike : (m : Move) {r s : Run} → RunAlike f r s → RunAlike f (does m r) (does (mapped (f .bytes) m) s)
   unfolding does mapped settle
-  moves-alike (NoteShown b p) e = alike-step f (alike-noteShown f z b p) e
+  moves-alike (NoteShown b t p) e = alike-step f (alike-noteShown f z b t p) e
   moves-alike (NoteGot b o p) e = alike-step f (alike-notePage f z b o p (Got GotOwn p)) e
   moves-alike (StoreRecord b) e = alike-store f z b (alike-storedRecord f) e
   moves-alike (StoreFrame b p) e = alike-store f z b (alike-storedFrame f z p) e
@@ -145,7 +145,7 @@ module _ (f : ℕ → ℕ) (z : f 0 ≡ 0) where
       alike-step f (alike-onBoard f b (alike-onWorking f (alike-restedWorking f))) (alike-store f z b (alike-storedSelector f) e)
   moves-alike (GiveCopy o b p) e = alike-step f (alike-giveCopy f z o b p) e
   moves-alike (PassOwnership o b p) e = alike-step f (alike-passOwnership f z o b p) e
-  moves-alike (DropCopies p) e = alike-step f (alike-dropCopies f z p) e
+  moves-alike (DropCopies w p) e = alike-step f (alike-dropCopies f z w p) e
   moves-alike (Perform b a) e = alike-step f (alike-access f z b a) e
   moves-alike (LosePower b) e = alike-step f (alike-powerOff f z b) e
   moves-alike (SetFuse b n) e = alike-step f (alike-onBoard f b (alike-withFuse f n)) e

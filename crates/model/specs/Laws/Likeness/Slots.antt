@@ -1,17 +1,17 @@
--- No call reads a slot at or past a count: likeness with the identity for f, and any bytes written over those slots. Assumes nothing.
+-- No call reads a slot at or past a count or is decided by a name: likeness with the same page bytes, and any bytes written over those slots. Assumes nothing.
 use mathlib.Core.Path.{_≡_, refl, sym, ap, _∙_}
 use Prim.Native.Nat.{ℕ}
 use mathlib.Core.List.{List, map-id}
 use Rattle.types.specs.declared.Answer.{Answer}
 use Rattle.types.specs.declared.Answer.the-variants.{Done, Malformed, OutOfRange, WrongState, CountersFull, ReplayDiffers, OwnerNotUp, LogFull, PowerLost}
-use Rattle.types.specs.declared.Answer.the-variants.{WrongCells}
+use Rattle.types.specs.declared.Answer.the-variants.{WrongCells, HasRecords}
 use Rattle.types.specs.declared.Frame.{Frame}
 use Rattle.model.specs.Definitions.Layout.{lastSince}
 use Rattle.model.specs.Definitions.Bank.{Log, Area, Board, Bank, logOver, areaOver, boardOver}
 use Rattle.model.specs.Definitions.Steps.{Access, Read, Write, ReadCells}
 use Rattle.model.specs.Definitions.Calls.{Call, Accessing, Checkpointing, Fusing, Restarting, callWithin, callBank}
 use Rattle.model.specs.Likeness.{FrameAlike, RecordAlike, FramesAlike, LogAlike, AreaAlike, BoardAlike, slotsOver, mappedAccess, mappedValue, mappedCall}
-use Rattle.model.specs.Likeness.{mappedCallValue, onValue, ResultAlike, SameBelowCounts, SameAnswer}
+use Rattle.model.specs.Likeness.{mappedCallValue, onValue, ResultAlike, Change, Alike, samePages, SameBelowCounts, SameButNames, SameAnswer}
 use Rattle.model.specs.Laws.Likeness.{pairs-over, pairs-same}
 use Rattle.model.specs.Laws.Likeness.Calls.{calls-alike}
 
@@ -54,35 +54,48 @@ onValue-same g i (OwnerNotUp b) = refl
 onValue-same g i (LogFull b) = refl
 onValue-same g i (PowerLost b) = refl
 onValue-same g i WrongCells = refl
+onValue-same g i HasRecords = refl
 
--- No call reads a slot at or past a count: two banks that differ only there answer every call alike, and are left differing only there.
-pub unread-slots : (largest : ℕ) (c : Call) {k j : Bank} → SameBelowCounts k j → SameAnswer (callWithin largest c k) (callWithin largest c j)
-unread-slots largest c {k} {j} e =
-    let q : ResultAlike (λ v. v) (mappedCallValue (λ v. v) c) (callWithin largest c k) (callWithin largest c j) =
-    rw (mappedCall-same c) at (calls-alike (λ v. v) refl (λ v. refl) largest c e) in
-    record {
-      answer = q .answer ∙ onValue-same (mappedCallValue (λ v. v) c) (mappedCallValue-same c) (callWithin largest c k .answer);
-      given = q .given ∙ map-id (callWithin largest c k .given);
-      stores = q .run .stores;
-      lost = q .run .lost;
-      bank = q .run .bank;
-    }
+-- No call reads a slot at or past a count, and none is decided by a name: two banks that differ only there, or in names too, answer every call alike, and are
+-- left differing only there.
+module _ (Peers : ℕ → ℕ → Type 0) (same : (b : ℕ) → Peers b b) where
+  same-answer : (largest : ℕ) (c : Call) {k j : Bank} → Alike (samePages Peers same) k j
+      → SameAnswer (Alike (samePages Peers same)) (callWithin largest c k) (callWithin largest c j)
+  same-answer largest c {k} {j} e =
+      let q : ResultAlike (samePages Peers same) (mappedCallValue (λ v. v) c) (callWithin largest c k) (callWithin largest c j) =
+      rw (mappedCall-same c) at (calls-alike (samePages Peers same) refl (λ v. refl) largest c e) in
+      record {
+        answer = q .answer ∙ onValue-same (mappedCallValue (λ v. v) c) (mappedCallValue-same c) (callWithin largest c k .answer);
+        given = q .given ∙ map-id (callWithin largest c k .given);
+        stores = q .run .stores;
+        lost = q .run .lost;
+        bank = q .run .bank;
+      }
+
+pub unread-slots : (largest : ℕ) (c : Call) {k j : Bank} → SameBelowCounts k j → SameAnswer SameBelowCounts (callWithin largest c k) (callWithin largest c j)
+unread-slots largest c e = same-answer _ _ largest c e
+
+pub unread-names : (largest : ℕ) (c : Call) {k j : Bank} → SameButNames k j → SameAnswer SameButNames (callWithin largest c k) (callWithin largest c j)
+unread-names largest c e = same-answer _ _ largest c e
 
 -- ---- two such banks: any bytes written over the slots past a count
 
-same-frames : (fs : List Frame) → FramesAlike (λ v. v) fs fs
-same-frames = pairs-same (FrameAlike (λ v. v)) (λ x. record { right = refl; bytes = sym (map-id (x .bytes)) })
+abbrev pub below : Change
+below = samePages (λ x y. y ≡ x) (λ b. refl)
 
-same-log : (l : List ℕ) (x : Log) → LogAlike (λ v. v) x (logOver l x)
+same-frames : (fs : List Frame) → FramesAlike below fs fs
+same-frames = pairs-same (FrameAlike below) (λ x. record { right = refl; bytes = sym (map-id (x .bytes)) })
+
+same-log : (l : List ℕ) (x : Log) → LogAlike below x (logOver l x)
 unfolding logOver
 same-log l x =
-    record { records = pairs-same (RecordAlike (λ v. v)) (λ r. record { count = refl; kind = refl; bytes = sym (map-id (r .bytes)) }) (x .records) }
+    record { records = pairs-same (RecordAlike below) (λ r. record { count = refl; kind = refl; peer = refl; bytes = sym (map-id (r .bytes)) }) (x .records) }
 
-same-area : (l : List ℕ) (x : Area) → AreaAlike (λ v. v) x (areaOver l x)
+same-area : (l : List ℕ) (x : Area) → AreaAlike below x (areaOver l x)
 unfolding areaOver
 same-area l x = record { number = refl; frames = same-frames (x .frames); log = same-log l (x .log) }
 
-pub same-board : (v s t : List ℕ) (x : Board) → BoardAlike (λ v. v) x (boardOver v s t x)
+pub same-board : (v s t : List ℕ) (x : Board) → BoardAlike below x (boardOver v s t x)
 unfolding boardOver
 same-board v s t x =
     record {
@@ -102,9 +115,9 @@ same-board v s t x =
 pub same-slotsOver : (v s t : ℕ → List ℕ) (k : Bank) → SameBelowCounts k (slotsOver v s t k)
 unfolding slotsOver
 same-slotsOver v s t k =
-    record { directory = refl; boards = pairs-over (BoardAlike (λ v. v)) (λ b x. same-board (v b) (s b) (t b) x) (k .boards) }
+    record { directory = refl; boards = pairs-over (BoardAlike below) (λ b x. same-board (v b) (s b) (t b) x) (k .boards) }
 
 -- whatever stands in the slots at or past the counts, every call answers the same
-pub slotsOver-unread : (c : Call) (v s t : ℕ → List ℕ) (k : Bank) → SameAnswer (callBank c k) (callBank c (slotsOver v s t k))
+pub slotsOver-unread : (c : Call) (v s t : ℕ → List ℕ) (k : Bank) → SameAnswer SameBelowCounts (callBank c k) (callBank c (slotsOver v s t k))
 unfolding callBank
 slotsOver-unread c v s t k = unread-slots lastSince c (same-slotsOver v s t k)

@@ -18,14 +18,14 @@ use Rattle.model.specs.Definitions.Steps.{storedFrame, storedHead, store
 use Rattle.model.specs.Definitions.Steps.{withByte, withBytes, accessed, access, withFrame, frameOf, giveCopy, dropped, dropAt, dropCopies}
 use Rattle.model.specs.Definitions.Steps.{passOwnership}
 use Rattle.model.specs.Likeness.{EachPair, pairs-nil, pairs-cons, FrameAlike, RecordAlike, FramesAlike, LogAlike, AreaAlike, WorkingAlike, BoardAlike}
-use Rattle.model.specs.Likeness.{Alike, RunAlike, mappedAccess}
+use Rattle.model.specs.Likeness.{Alike, RunAlike, mappedAccess, Change}
 use Rattle.model.specs.Laws.Likeness.{Preserve, perhaps-same, casesBoth, optionsBoth, pairs-set, pairs-each, pairs-map, pairs-append, map-set, map-zeros}
 use Rattle.model.specs.Laws.Likeness.{alike-emptyFrame, alike-frameAt, alike-emptyLog, alike-boardAt, alike-entryAt, alike-onBoard, alike-onEntry}
 use Rattle.model.specs.Laws.Likeness.{alike-onWorking, alike-onSpare}
 
 -- ==== whatever f is
 
-module _ (f : ℕ → ℕ) where
+module _ (f : Change) where
   pub alike-step : {g h : Bank → Bank} {r s : Run} → Preserve (Alike f) g h → RunAlike f r s → RunAlike f (step g r) (step h s)
   unfolding step
   alike-step i e =
@@ -50,20 +50,20 @@ module _ (f : ℕ → ℕ) where
   unfolding appended
   alike-appended i e = record { records = pairs-append (RecordAlike f) (e .records) (pairs-cons i pairs-nil) }
 
-  alike-recorded : (kind : Kind) (l m : List ℕ) → m ≡ map f l → Preserve (WorkingAlike f) (recorded kind l) (recorded kind m)
+  alike-recorded : (kind : Kind) (peer : ℕ) (l m : List ℕ) → m ≡ map (f .bytes) l → Preserve (WorkingAlike f) (recorded kind peer l) (recorded kind peer m)
   unfolding recorded
-  alike-recorded kind l m i x y e =
+  alike-recorded kind peer l m i x y e =
       record {
         number = e .number;
         since = refl;
         place = e .place;
         frames = e .frames;
-        log = alike-appended (record { count = e .since; kind = refl; bytes = i }) (e .log);
+        log = alike-appended (record { count = e .since; kind = refl; peer = f .same peer; bytes = i }) (e .log);
       }
 
-  alike-note : (b : ℕ) (kind : Kind) (l m : List ℕ) → m ≡ map f l → Preserve (Alike f) (note b kind l) (note b kind m)
+  alike-note : (b : ℕ) (kind : Kind) (peer : ℕ) (l m : List ℕ) → m ≡ map (f .bytes) l → Preserve (Alike f) (note b kind peer l) (note b kind peer m)
   unfolding note
-  alike-note b kind l m i = alike-onBoard f b (alike-onWorking f (alike-recorded kind l m i))
+  alike-note b kind peer l m i = alike-onBoard f b (alike-onWorking f (alike-recorded kind peer l m i))
 
   alike-movedRecord : {r s : Record} {rs ss : List Record} {x y : Board} → RecordAlike f r s → EachPair (RecordAlike f) rs ss → BoardAlike f x y
       → BoardAlike f (movedRecord r rs x) (movedRecord s ss y)
@@ -126,7 +126,7 @@ module _ (f : ℕ → ℕ) where
 
 -- ==== if f keeps 0: what a step zeroes is zero on both sides
 
-module _ (f : ℕ → ℕ) (z : f 0 ≡ 0) where
+module _ (f : Change) (z : f .bytes 0 ≡ 0) where
   alike-poweredOff : Preserve (BoardAlike f) poweredOff poweredOff
   unfolding poweredOff
   alike-poweredOff x y e =
@@ -176,25 +176,25 @@ module _ (f : ℕ → ℕ) (z : f 0 ≡ 0) where
 
   -- ---- accesses
 
-  alike-withByte : (c : Cell) (v : ℕ) {fs gs : List Frame} → FramesAlike f fs gs → FramesAlike f (withByte c v fs) (withByte c (f v) gs)
+  alike-withByte : (c : Cell) (v : ℕ) {fs gs : List Frame} → FramesAlike f fs gs → FramesAlike f (withByte c v fs) (withByte c (f .bytes v) gs)
   unfolding withByte
   alike-withByte c v {fs} {gs} e =
       let i : FrameAlike f (frameAt fs (c .page)) (frameAt gs (c .page)) = alike-frameAt f z (c .page) e in
       pairs-set (FrameAlike f) (c .page)
       (record {
         right = i .right;
-        bytes = ap (λ (l : List ℕ). set l (c .offset) (f v)) (i .bytes) ∙ sym (map-set f (frameAt fs (c .page) .bytes) (c .offset) v);
+        bytes = ap (λ (l : List ℕ). set l (c .offset) (f .bytes v)) (i .bytes) ∙ sym (map-set (f .bytes) (frameAt fs (c .page) .bytes) (c .offset) v);
       })
       e
 
   alike-written : (a : Access) {fs gs : List Frame} → FramesAlike f fs gs
-      → FramesAlike f (withBytes (cellsWritten a) fs) (withBytes (cellsWritten (mappedAccess f a)) gs)
+      → FramesAlike f (withBytes (cellsWritten a) fs) (withBytes (cellsWritten (mappedAccess (f .bytes) a)) gs)
   unfolding withBytes cellsWritten mappedAccess
   alike-written (Read p o) e = e
   alike-written (Write p o v) e = alike-withByte (record { page = p; offset = o }) v e
   alike-written (ReadCells cells outLength) e = e
 
-  pub alike-accessed : (a : Access) → Preserve (WorkingAlike f) (accessed a) (accessed (mappedAccess f a))
+  pub alike-accessed : (a : Access) → Preserve (WorkingAlike f) (accessed a) (accessed (mappedAccess (f .bytes) a))
   unfolding accessed
   alike-accessed a x y e =
       record {
@@ -205,7 +205,7 @@ module _ (f : ℕ → ℕ) (z : f 0 ≡ 0) where
         log = e .log;
       }
 
-  pub alike-access : (b : ℕ) (a : Access) → Preserve (Alike f) (access b a) (access b (mappedAccess f a))
+  pub alike-access : (b : ℕ) (a : Access) → Preserve (Alike f) (access b a) (access b (mappedAccess (f .bytes) a))
   unfolding access
   alike-access b a = alike-onBoard f b (alike-onWorking f (alike-accessed a))
 
@@ -215,12 +215,12 @@ module _ (f : ℕ → ℕ) (z : f 0 ≡ 0) where
   unfolding frameOf
   alike-frameOf b p e = alike-frameAt f z p (alike-boardAt f b e .working .frames)
 
-  pub alike-noteShown : (b p : ℕ) → Preserve (Alike f) (note b (Shown p) (zeros pageSize)) (note b (Shown p) (zeros pageSize))
-  alike-noteShown b p = alike-note f b (Shown p) (zeros pageSize) (zeros pageSize) (map-zeros f z pageSize)
+  pub alike-noteShown : (b t p : ℕ) → Preserve (Alike f) (note b (Shown p) t (zeros pageSize)) (note b (Shown p) t (zeros pageSize))
+  alike-noteShown b t p = alike-note f b (Shown p) t (zeros pageSize) (zeros pageSize) (map-zeros (f .bytes) z pageSize)
 
-  -- a record with the page of board o
-  pub alike-notePage : (b o p : ℕ) (kind : Kind) → Preserve (Alike f) (λ k. note b kind (frameOf k o p .bytes) k) (λ k. note b kind (frameOf k o p .bytes) k)
-  alike-notePage b o p kind k j e = alike-note f b kind (frameOf k o p .bytes) (frameOf j o p .bytes) (alike-frameOf o p e .bytes) k j e
+  -- a record of board b that names board o, with its page
+  pub alike-notePage : (b o p : ℕ) (kind : Kind) → Preserve (Alike f) (λ k. note b kind o (frameOf k o p .bytes) k) (λ k. note b kind o (frameOf k o p .bytes) k)
+  alike-notePage b o p kind k j e = alike-note f b kind o (frameOf k o p .bytes) (frameOf j o p .bytes) (alike-frameOf o p e .bytes) k j e
 
   pub alike-giveCopy : (o b p : ℕ) → Preserve (Alike f) (giveCopy o b p) (giveCopy o b p)
   unfolding giveCopy
@@ -229,30 +229,30 @@ module _ (f : ℕ → ℕ) (z : f 0 ≡ 0) where
       (alike-onBoard f b (alike-withFrame f p (record { right = refl; bytes = alike-frameOf o p e .bytes })) _ _
       (alike-notePage b o p (Got GotCopy p) k j e))
 
-  alike-dropped : (p : ℕ) → Preserve (BoardAlike f) (dropped p) (dropped p)
+  alike-dropped : (w p : ℕ) → Preserve (BoardAlike f) (dropped w p) (dropped w p)
   unfolding dropped
-  alike-dropped p x y e =
+  alike-dropped w p x y e =
       alike-withFrame f p (alike-emptyFrame f z) _ _
-      (alike-onWorking f (alike-recorded f (Dropped p) (zeros pageSize) (zeros pageSize) (map-zeros f z pageSize)) x y e)
+      (alike-onWorking f (alike-recorded f (Dropped p) w (zeros pageSize) (zeros pageSize) (map-zeros (f .bytes) z pageSize)) x y e)
 
-  alike-dropAt : {loses gives : ℕ → Bool} (p : ℕ) {k j : Bank} → ((c : ℕ) → gives c ≡ loses c) → Alike f k j
-      → Alike f (dropAt loses p k) (dropAt gives p j)
+  alike-dropAt : {loses gives : ℕ → Bool} (w p : ℕ) {k j : Bank} → ((c : ℕ) → gives c ≡ loses c) → Alike f k j
+      → Alike f (dropAt loses w p k) (dropAt gives w p j)
   unfolding dropAt
-  alike-dropAt p i e =
+  alike-dropAt w p i e =
       record {
         directory = e .directory;
         boards =
-            pairs-each (BoardAlike f) (λ c x y o. casesBoth (BoardAlike f) (i c) (alike-dropped p x y o) o) (e .boards);
+            pairs-each (BoardAlike f) (λ c x y o. casesBoth (BoardAlike f) (i c) (alike-dropped w p x y o) o) (e .boards);
       }
 
-  pub alike-dropCopies : (p : ℕ) → Preserve (Alike f) (dropCopies p) (dropCopies p)
+  pub alike-dropCopies : (w p : ℕ) → Preserve (Alike f) (dropCopies w p) (dropCopies w p)
   unfolding dropCopies
-  alike-dropCopies p k j e =
-      alike-onEntry f p (λ e. record { owner = e .owner; copies = 0 }) _ _ (alike-dropAt p (λ c. rw (alike-entryAt f p e)) e)
+  alike-dropCopies w p k j e =
+      alike-onEntry f p (λ e. record { owner = e .owner; copies = 0 }) _ _ (alike-dropAt w p (λ c. rw (alike-entryAt f p e)) e)
 
   pub alike-passOwnership : (o w p : ℕ) → Preserve (Alike f) (passOwnership o w p) (passOwnership o w p)
   unfolding passOwnership
   alike-passOwnership o w p k j e =
       alike-onEntry f p (λ e. record { owner = w; copies = 0 }) _ _
       (alike-onBoard f w (alike-withFrame f p (record { right = refl; bytes = alike-frameOf o p e .bytes })) _ _
-      (alike-dropAt p (λ c. rw (alike-entryAt f p e)) e))
+      (alike-dropAt w p (λ c. rw (alike-entryAt f p e)) e))

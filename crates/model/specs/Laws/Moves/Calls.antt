@@ -45,16 +45,16 @@ use Rattle.model.specs.Laws.Codes.Statement.{boardNamed}
 use Rattle.model.specs.Laws.Keeps.Clauses.{up-below, isUp-up, isDown-down, isDown-not, isReplaying-replaying}
 use Rattle.model.specs.Laws.Lists.{each-imp}
 use Rattle.model.specs.Laws.Below.{Lacks, lacking-none, lackingPages-lack, lackingPages-rise}
-use Rattle.model.specs.Laws.Keeps.Fetches.{page-there, owner-up, room-owner, Taken, gave-none, gave-changed, got-changed}
+use Rattle.model.specs.Laws.Keeps.Fetches.{page-there, owner-up, room-owner, Taken, gave-none, gave-changed, got-changed, owner-other}
 use Rattle.model.specs.Laws.Keeps.Live.{firstOf-none, first-in, can-fetch, can-drop}
-use Rattle.model.specs.Laws.Keeps.Live.{writer-none, writes-own, own-writes, named-written, lacking-some, lacking-own, taken-has}
+use Rattle.model.specs.Laws.Keeps.Live.{writer-none, writer-owns, writes-own, own-writes, named-written, lacking-some, lacking-own, taken-has}
 use Rattle.model.specs.Laws.Keeps.Live.{fetched-taken}
 use Rattle.model.specs.Laws.Keeps.Givers.{copy-none}
 use Rattle.model.specs.Laws.Keeps.Entered.{entered-live, entered, fitting, board-taken, below-taken, live-can}
 use Rattle.model.specs.Laws.Moves.{moves-do}
 use Rattle.model.specs.Laws.Moves.Formed.{FormedIn, FormedRun, run-formed, formed-begun, fetched-formed, finished-formed, moves-formed}
 use Rattle.model.specs.Laws.Moves.Stores.{checkpoint-moves, show-moves}
-use Rattle.model.specs.Laws.Moves.Fetches.{readFetch-moves, writeFetch-moves}
+use Rattle.model.specs.Laws.Moves.Fetches.{readFetch-moves, writeFetch-moves, taker-other}
 
 -- ---- rights
 
@@ -159,7 +159,8 @@ module _ (b : ℕ) (s : Run) (formed : WellFormed (s .bank)) where
         rw j
         (writeFetch-moves b p s formed a e (named-written a p (own-writes a e)) c
         (show-moves (giver GotOwn (s .bank) p) p t
-        (λ z. owner-up b p s formed c) (λ z. omega (arith, room-owner b p s formed c)) (λ z. page-there b p s formed c)))
+        (λ z. owner-up b p s formed c) (λ z. omega (arith, room-owner b p s formed c)) (λ z. page-there b p s formed c)
+        (λ z. taker-other (s .bank) b (giver GotOwn (s .bank) p) (c .taker) (owner-other b p s formed c))))
 
     pub fetch-moves : {Again : Access → Type 0} {φ : Phase} {r : Run} → lackingOf b a (s .bank) ≡ true → Moves b Again φ r Begun s
         → Moves b Again φ r (Fetched a (map (giver (takes a) (s .bank)) (pagesLacking b a (s .bank))) (pagesLacking b a (s .bank)))
@@ -177,8 +178,8 @@ module _ (b : ℕ) (s : Run) (formed : WellFormed (s .bank)) where
         let one : lackingPages a fs ≡ p ∷ [] = lacking-own a fs e lack in
         let j : qs ≡ p ∷ [] = sym i ∙ one in
         let c : CanFetch GotOwn b (p ∷ []) (s .bank) = rw (e, one) at (can-fetch b a (s .bank) formed can passed) in
-        let noted : Bank → Bank = λ k. note b (Got GotOwn p) (frameOf k from p .bytes) k in
-        let got : Run = flush b (step noted (show from p s)) in
+        let noted : Bank → Bank = λ k. note b (Got GotOwn p) from (frameOf k from p .bytes) k in
+        let got : Run = flush b (step noted (show from b p s)) in
         let m : writeFetch b p s .lost ≡ none = rw j at n in
         let e : got .lost ≡ none = step-none (passOwnership from b p) got m in
         let l : p < length (got .bank .directory) =
@@ -226,28 +227,30 @@ module _ (b : ℕ) (s : Run) (formed : WellFormed (s .bank)) where
       module _ {Again : Access → Type 0} {φ : Phase} {r : Run} (t : Moves b Again φ r Begun s) (going : s .lost ≡ none) where
         -- the copies of an owned page dropped, then the access
         dropped-moves : lackingOf b a (s .bank) ≡ false → copiesOut a (s .bank) ≡ true
-            → MadeBy b Again φ r c k (performed b a (step (dropCopies (pageWritten a)) s))
+            → MadeBy b Again φ r c k (performed b a (step (dropCopies b (pageWritten a)) s))
         unfolding does lackingOf droppedIf withoutCopies
         dropped-moves has out =
             let j : Bank = s .bank in
-            let same : boardAt (dropCopies (pageWritten a) j) b ≡ boardAt j b =
-            cc (boardAt-dropCopies (pageWritten a) j b (up-below j b (can .up)), writer-none b a j formed can passed has out) in
-            let done : step (dropCopies (pageWritten a)) s .bank ≡ dropCopies (pageWritten a) j = step-going (dropCopies (pageWritten a)) s going in
-            let x : boardAt (step (dropCopies (pageWritten a)) s .bank) b ≡ boardAt j b = ap (λ (i : Bank). boardAt i b) done ∙ same in
-            performed-moves b a (step (dropCopies (pageWritten a)) s) makes (nobody-gives has)
-            (moves-do (DropCopies (pageWritten a)) t (λ n. dropsCopies (pageWritten a) (written-there out) (can-drop b a j formed can passed has out)))
+            let same : boardAt (dropCopies b (pageWritten a) j) b ≡ boardAt j b =
+            cc (boardAt-dropCopies b (pageWritten a) j b (up-below j b (can .up)), writer-none b a j formed can passed has out) in
+            let done : step (dropCopies b (pageWritten a)) s .bank ≡ dropCopies b (pageWritten a) j = step-going (dropCopies b (pageWritten a)) s going in
+            let x : boardAt (step (dropCopies b (pageWritten a)) s .bank) b ≡ boardAt j b = ap (λ (i : Bank). boardAt i b) done ∙ same in
+            performed-moves b a (step (dropCopies b (pageWritten a)) s) makes (nobody-gives has)
+            (moves-do (DropCopies b (pageWritten a)) t
+            (λ n.
+            dropsCopies (pageWritten a) (written-there out) (writer-owns b a j formed can passed has out) (can-drop b a j formed can passed has out)))
             (λ n.
             record {
-              pages = λ p v. rw (done, directory-dropCopies (pageWritten a) j) (can .pages p v);
+              pages = λ p v. rw (done, directory-dropCopies b (pageWritten a) j) (can .pages p v);
               values = can .values;
               up = rw x (can .up);
               since = rw x (can .since);
               number = rw x (can .number);
             })
             (λ n. rw x has)
-            (λ n. none-out a (step (dropCopies (pageWritten a)) s .bank)
+            (λ n. none-out a (step (dropCopies b (pageWritten a)) s .bank)
             (ap (λ (i : Bank). entryAt i (pageWritten a) .copies) done
-            ∙ ap (λ (e : Entry). e .copies) (entryAt-dropCopies-same (pageWritten a) j (written-there out))))
+            ∙ ap (λ (e : Entry). e .copies) (entryAt-dropCopies-same b (pageWritten a) j (written-there out))))
 
         going-moves : MadeBy b Again φ r c k (performed b a (prepared b a s))
         unfolding prepared
@@ -442,8 +445,10 @@ prepared-keeps b a r w can passed =
     (λ out.
     run-formed {d = b} {b = b} anyone
     (moves-formed
-    (moves-do {Again = λ a. ⊥} (DropCopies (pageWritten a)) still
-    (λ n. dropsCopies (pageWritten a) (written-there b r w a can passed out) (can-drop b a (r .bank) w can passed has out)))
+    (moves-do {Again = λ a. ⊥} (DropCopies b (pageWritten a)) still
+    (λ n.
+    dropsCopies (pageWritten a) (written-there b r w a can passed out) (writer-owns b a (r .bank) w can passed has out)
+    (can-drop b a (r .bank) w can passed has out)))
     h))
     (λ out. w))
 
@@ -454,7 +459,7 @@ prepared-sizes b a r =
     (λ t. follows-fetch (takes a) b (pagesLacking b a (r .bank)) r .sizes)
     (λ t.
     cases (λ (u : Run). SameSizes (r .bank) (u .bank)) (copiesOut a (r .bank))
-    (λ o. follows-step (dropCopies (pageWritten a)) r (sizes-dropCopies (pageWritten a) (r .bank)) .sizes)
+    (λ o. follows-step (dropCopies b (pageWritten a)) r (sizes-dropCopies b (pageWritten a) (r .bank)) .sizes)
     (λ o. sizes-same (r .bank)))
 
 -- every call, of any numbers, with any answer

@@ -192,10 +192,10 @@ storedRecord-like x = storedRecord-cases (λ (y : Board). (y .state ≡ x .state
 move-tracks : {k : Bank} {d : ℕ} {Again : Access → Type 0} {χ ψ : Phase} (s : Run) (m : Move) → s .lost ≡ none → Guard d Again (s .bank) m χ ψ
     → FormedRun d χ s → Tracks k χ s → Tracks k ψ (does m s)
 unfolding does FormedIn CutIn RestartIn note access onWorking onSpare storedFrame storedHead storedSelector withFuse loaded usedUp settled poweredOff settle
-move-tracks s _ n (notesShown b p u m l) h t =
-    quiet-tracks s t _ (λ c z. z, λ z. z) (states-onBoard b (onWorking (recorded (Shown p) (zeros pageSize))) (s .bank) refl)
-move-tracks {d = d} s _ n (notesGot o p u m l r) h t =
-    quiet-tracks s t _ (λ c z. z, λ z. z) (states-onBoard d (onWorking (recorded (Got GotOwn p) (frameOf (s .bank) o p .bytes))) (s .bank) refl)
+move-tracks {d = d} s _ n (notesShown b p u m l o) h t =
+    quiet-tracks s t _ (λ c z. z, λ z. z) (states-onBoard b (onWorking (recorded (Shown p) d (zeros pageSize))) (s .bank) refl)
+move-tracks {d = d} s _ n (notesGot o p u m l r v) h t =
+    quiet-tracks s t _ (λ c z. z, λ z. z) (states-onBoard d (onWorking (recorded (Got GotOwn p) o (frameOf (s .bank) o p .bytes))) (s .bank) refl)
 move-tracks s _ n (storesRecord b o u) h t = store-tracks s t b storedRecord o u (λ x. storedRecord-like x .0) (λ x. storedRecord-like x .1) n
 move-tracks s _ n (storesFrame b p o u) h t = store-tracks s t b (storedFrame p) o u (λ x. refl) (λ x. refl) n
 move-tracks s _ n (storesHead b o u) h t = store-tracks s t b storedHead o u (λ x. refl) (λ x. refl) n
@@ -205,7 +205,7 @@ move-tracks s _ n (storesSelector b o u v) h t =
     (selects-lead o) (kept-change (selects-lead o) b refl (λ z. z))
 move-tracks {d = d} s _ n (givesCopy a o p x c i g u m r) h t = quiet-tracks s t _ (takes-quiet x) (states-giveCopy o d p (s .bank))
 move-tracks {d = d} s _ n (passesOwnership a o p c i g own v m) h t = quiet-tracks s t _ (λ c z. z, λ z. z) (states-passOwnership o d p (s .bank))
-move-tracks s _ n (dropsCopies p l m) h t = quiet-tracks s t _ (λ c z. z, λ z. z) (states-dropCopies p (s .bank))
+move-tracks {d = d} s _ n (dropsCopies p l own m) h t = quiet-tracks s t _ (λ c z. z, λ z. z) (states-dropCopies d p (s .bank))
 move-tracks {d = d} s _ n (performs a i can has out) h t =
     quiet-tracks s t _ (begins-quiet i) (states-onBoard d (onWorking (accessed a)) (s .bank) refl)
 move-tracks {k} {d} s _ n (losesPower l) h t =

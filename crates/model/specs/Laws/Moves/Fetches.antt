@@ -19,7 +19,7 @@ use Rattle.model.specs.Definitions.Layout.{pageSize}
 use Rattle.model.specs.Definitions.Bank.{Entry, Board, Bank, boardAt, entryAt, frameAt, onWorking}
 use Rattle.model.specs.Definitions.Steps.{Run, Access, step, names, takes, note, flush, frameOf, giver, show, giveCopy, showAll, giveCopies, readFetch}
 use Rattle.model.specs.Definitions.Steps.{recorded, writeFetch}
-use Rattle.model.specs.Contracts.{CanFetch}
+use Rattle.model.specs.Contracts.{CanFetch, Another}
 use Rattle.model.specs.Moves.{NoteGot, GiveCopy, PassOwnership, does, Phase, Begun, Noted, Fetched, taker, TakesCopy, first, behind, Gives, notesGot}
 use Rattle.model.specs.Moves.{givesCopy, passesOwnership, Moves, still, cutOff}
 use Rattle.model.specs.Laws.Logic.{byBool, byOption}
@@ -39,16 +39,21 @@ use Rattle.model.specs.Laws.Moves.Formed.{formed-begun, run-formed, move
 
 -- ---- a read fetch
 
+-- a taker is another board than its giver
+pub taker-other : (k : Bank) (b o : ℕ) → boardAt k b .state ≡ Up → o ≢ b → Another b o k
+taker-other k b o u n = record { board = up-below k b u; other = λ e. n (sym e) }
+
 -- the givers' part, page by page
 pub showAll-moves : {b : ℕ} {Again : Access → Type 0} {φ : Phase} {r : Run} (ps : List ℕ) (s : Run) → (s .lost ≡ none → CanFetch GotCopy b ps (s .bank))
-    → Moves b Again φ r Begun s → Moves b Again φ r Begun (showAll ps s)
+    → Moves b Again φ r Begun s → Moves b Again φ r Begun (showAll b ps s)
 unfolding showAll
 showAll-moves [] s c t = t
 showAll-moves {b} (p ∷ ps) s c t =
     let o : ℕ = giver GotCopy (s .bank) p in
-    showAll-moves ps (show o p s)
-    (λ e. shown-can b p ps s (c (follows-none (follows-show o p s) e)) e)
-    (show-moves o p t (λ e. each-head (c e .givers)) (λ e. room-giver b p ps (s .bank) (c e)) (λ e. each-head (c e .pages)))
+    showAll-moves ps (show o b p s)
+    (λ e. shown-can b p ps s (c (follows-none (follows-show o b p s) e)) e)
+    (show-moves o p t (λ e. each-head (c e .givers)) (λ e. room-giver b p ps (s .bank) (c e)) (λ e. each-head (c e .pages))
+    (λ e. taker-other (s .bank) b o (c e .taker) (each-head (c e .others))))
 
 -- one copy, then the others
 step-copies : (b p : ℕ) (ps : List ℕ) (s : Run)
@@ -127,7 +132,7 @@ module _ {b : ℕ} {Again : Access → Type 0} {φ : Phase} {r : Run} (a : Acces
   unfolding readFetch
   readFetch-moves p ps s w c lack named rise t =
       let qs : List ℕ = p ∷ ps in
-      let u : Run = showAll qs s in
+      let u : Run = showAll b qs s in
       let shown : Moves b Again φ r Begun u = showAll-moves qs s (λ e. c) t in
       byOption (u .lost)
       (λ n.
@@ -153,20 +158,20 @@ module _ (b p : ℕ) (s : Run) (formed : WellFormed (s .bank)) where
 
   -- the owner after its part
   gives-shown : boardAt (s .bank) (giver GotOwn (s .bank) p) .state ≡ Up → p < length (s .bank .directory) → giver GotOwn (s .bank) p ≢ b
-      → show (giver GotOwn (s .bank) p) p s .lost ≡ none → Gives (giver GotOwn (s .bank) p) b p (show (giver GotOwn (s .bank) p) p s .bank)
+      → show (giver GotOwn (s .bank) p) b p s .lost ≡ none → Gives (giver GotOwn (s .bank) p) b p (show (giver GotOwn (s .bank) p) b p s .bank)
   unfolding frameOf onWorking recorded
   gives-shown u l n e =
-      let d : Changed o (FlushedWith (Shown p) (zeros pageSize)) (s .bank) (show o p s .bank) = show-changed o p s e in
+      let d : Changed o (FlushedWith (Shown p) b (zeros pageSize)) (s .bank) (show o b p s .bank) = show-changed o b p s e in
       record {
         page = rw (d .directory) l;
         right = rw (d .this (up-below (s .bank) o u) .frames) (giver-right formed p l GotOwn u);
         other = n;
-        secure = show-secure o p s u e;
+        secure = show-secure o b p s u e;
       }
 
   -- the owner's part leaves the taker's frames
-  frame-same : show (giver GotOwn (s .bank) p) p s .lost ≡ none → CanFetch GotOwn b (p ∷ []) (s .bank)
-      → frameOf (show (giver GotOwn (s .bank) p) p s .bank) b p .right ≡ frameOf (s .bank) b p .right
+  frame-same : show (giver GotOwn (s .bank) p) b p s .lost ≡ none → CanFetch GotOwn b (p ∷ []) (s .bank)
+      → frameOf (show (giver GotOwn (s .bank) p) b p s .bank) b p .right ≡ frameOf (s .bank) b p .right
   unfolding frameOf
   frame-same e c = ap (λ (x : Board). frameAt (x .working .frames) p .right) (writer-same b p s formed c e)
 
@@ -179,9 +184,9 @@ module _ (b p : ℕ) (s : Run) (formed : WellFormed (s .bank)) where
 
   -- "writer records got own and flushes"
   pub got-moves : {Again : Access → Type 0} {φ : Phase} {r : Run} → CanFetch GotOwn b (p ∷ []) (s .bank)
-      → Moves b Again φ r Begun (show (giver GotOwn (s .bank) p) p s)
+      → Moves b Again φ r Begun (show (giver GotOwn (s .bank) p) b p s)
       → Moves b Again φ r (Noted (giver GotOwn (s .bank) p) p)
-      (flush b (step (λ k. note b (Got GotOwn p) (frameOf k (giver GotOwn (s .bank) p) p .bytes) k) (show (giver GotOwn (s .bank) p) p s)))
+      (flush b (step (λ k. note b (Got GotOwn p) (giver GotOwn (s .bank) p) (frameOf k (giver GotOwn (s .bank) p) p .bytes) k) (show (giver GotOwn (s .bank) p) b p s)))
   unfolding does
   got-moves c t =
       flush-moves b taker
@@ -191,24 +196,25 @@ module _ (b p : ℕ) (s : Run) (formed : WellFormed (s .bank)) where
       (rw (writer-same b p s formed c e) (c .taker))
       (rw (writer-same b p s formed c e) (room-taker b p s formed c))
       (rw (gave-changed b p s formed c e .directory) (page-there b p s formed c))
-      (λ i. unowned c (sym (frame-same e c) ∙ i))))
-      (noted-up b (Got GotOwn p) (λ k. frameOf k o p .bytes) (show o p s) (λ e. rw (writer-same b p s formed c e) (c .taker)))
+      (λ i. unowned c (sym (frame-same e c) ∙ i))
+      (record { board = rw (gave-changed b p s formed c e .boards) (up-below (s .bank) o (owner-up b p s formed c)); other = owner-other b p s formed c })))
+      (noted-up b (Got GotOwn p) o (λ k. frameOf k o p .bytes) (show o b p s) (λ e. rw (writer-same b p s formed c e) (c .taker)))
 
   -- "Write fetch: .."
   pub writeFetch-moves : {Again : Access → Type 0} {φ : Phase} {r : Run} (a : Access) → takes a ≡ GotOwn → names a p ≡ true
       → CanFetch GotOwn b (p ∷ []) (s .bank)
-      → Moves b Again φ r Begun (show (giver GotOwn (s .bank) p) p s)
+      → Moves b Again φ r Begun (show (giver GotOwn (s .bank) p) b p s)
       → Moves b Again φ r (Fetched a (giver GotOwn (s .bank) p ∷ []) (p ∷ [])) (writeFetch b p s)
   unfolding writeFetch does giver frameOf
   writeFetch-moves a own named c t =
-      let gave : Run = show o p s in
+      let gave : Run = show o b p s in
       let bytes : Bank → List ℕ = λ k. frameOf k o p .bytes in
-      let got : Run = flush b (step (λ k. note b (Got GotOwn p) (bytes k) k) gave) in
+      let got : Run = flush b (step (λ k. note b (Got GotOwn p) o (bytes k) k) gave) in
       moves-do (PassOwnership o b p) (got-moves c t)
       (λ e.
       let m : gave .lost ≡ none = gave-none b p s formed c e in
-      let g : Changed o (FlushedWith (Shown p) (zeros pageSize)) (s .bank) (gave .bank) = gave-changed b p s formed c m in
-      let d : Changed b (FlushedWith (Got GotOwn p) (bytes (gave .bank))) (gave .bank) (got .bank) = got-changed b p s formed c e in
+      let g : Changed o (FlushedWith (Shown p) b (zeros pageSize)) (s .bank) (gave .bank) = gave-changed b p s formed c m in
+      let d : Changed b (FlushedWith (Got GotOwn p) o (bytes (gave .bank))) (gave .bank) (got .bank) = got-changed b p s formed c e in
       let entry : entryAt (got .bank) p ≡ entryAt (s .bank) p = entryAt-changed d p ∙ entryAt-changed g p in
       let gives : Gives o b p (gave .bank) = gives-shown (owner-up b p s formed c) (page-there b p s formed c) (owner-other b p s formed c) m in
       passesOwnership a o p own named
@@ -219,14 +225,15 @@ module _ (b p : ℕ) (s : Run) (formed : WellFormed (s .bank)) where
         secure = rw (d .others o (owner-other b p s formed c)) (gives .secure);
       })
       (ap (λ (x : Entry). x .owner) entry)
-      (note-flush-secure b (Got GotOwn p) bytes gave (rw (writer-same b p s formed c m) (c .taker)) e)
+      (note-flush-secure b (Got GotOwn p) o bytes gave (rw (writer-same b p s formed c m) (c .taker)) e)
       (λ x l n i. room-got b p s formed c x e (rw (d .boards, g .boards) at l) n (rw entry at i)))
 
   pub got-keeps : CanFetch GotOwn b (p ∷ []) (s .bank)
-      → WellFormed (flush b (step (λ k. note b (Got GotOwn p) (frameOf k (giver GotOwn (s .bank) p) p .bytes) k) (show (giver GotOwn (s .bank) p) p s)) .bank)
+      → WellFormed (flush b (step (λ k. note b (Got GotOwn p) (giver GotOwn (s .bank) p) (frameOf k (giver GotOwn (s .bank) p) p .bytes) k) (show (giver GotOwn (s .bank) p) b p s)) .bank)
   got-keeps c =
       run-formed {d = b} {b = b} taker
       (moves-formed
       (got-moves {Again = λ a. ⊥} c
-      (show-moves o p still (λ e. owner-up b p s formed c) (λ e. omega (arith, room-owner b p s formed c)) (λ e. page-there b p s formed c)))
+      (show-moves o p still (λ e. owner-up b p s formed c) (λ e. omega (arith, room-owner b p s formed c)) (λ e. page-there b p s formed c)
+      (λ e. taker-other (s .bank) b o (c .taker) (owner-other b p s formed c))))
       (formed-begun b s formed))

@@ -13,7 +13,7 @@ use Rattle.model.specs.Definitions.Parts.{zeros}
 use Rattle.model.specs.Definitions.Layout.{pageSize}
 use Rattle.model.specs.Definitions.Bank.{Board, Bank, boardAt, onBoard, onWorking}
 use Rattle.model.specs.Definitions.Codec.{pageOf}
-use Rattle.model.specs.Definitions.WellFormed.{isGot, WellFormed}
+use Rattle.model.specs.Definitions.WellFormed.{isGot, PeersOk, WellFormed}
 use Rattle.model.specs.Definitions.Steps.{Run, step, store, storedRecord, storedFrame, storedHead, storedSelector, restedWorking, Access, frameOf}
 use Rattle.model.specs.Definitions.Replay.{loaded, usedUp, replayOver, settle}
 use Rattle.model.specs.Definitions.Calls.{lackingOf}
@@ -27,12 +27,14 @@ use Rattle.model.specs.History.Statement.{Event, Nothing}
 use Rattle.model.specs.Laws.Logic.{byOption}
 use Rattle.model.specs.Laws.WrittenTests.{log-count}
 use Rattle.model.specs.Laws.Runs.{lost-not, step-cases}
-use Rattle.model.specs.Laws.Keeps.Clauses.{but, whole, onBoard-but, onBoard-keeps, place-replaying, up-not-down, up-not-replaying}
+use Rattle.model.specs.Laws.Keeps.Clauses.{but, whole, onBoard-but, onBoard-keeps, place-replaying, up-below, up-not-down, up-not-replaying}
+use Rattle.model.specs.Laws.Keeps.Peers.{loaded-peers, usedUp-peers, storedRecord-peers, storedFrame-peers, storedHead-peers}
+use Rattle.model.specs.Laws.Keeps.Peers.{storedSelector-peers, rested-peers}
 use Rattle.model.specs.Laws.Keeps.NotedRecords.{note-keeps, storedRecord-fits}
 use Rattle.model.specs.Laws.Keeps.Stores.{powerOff-keeps, withFuse-keeps, store-keeps, step-keeps}
 use Rattle.model.specs.Laws.Keeps.Checkpoint.{storedFrame-fits, storedHead-fits, storedSelector-fits, rested-fits}
 use Rattle.model.specs.Laws.Keeps.Accesses.{access-keeps, writable}
-use Rattle.model.specs.Laws.Keeps.Rights.{frameOk-of, giveCopy-keeps, dropCopies-keeps, passOwnership-keeps, no-right}
+use Rattle.model.specs.Laws.Keeps.Rights.{frameOk-of, board-byte, giveCopy-keeps, dropCopies-keeps, passOwnership-keeps, no-right}
 use Rattle.model.specs.Laws.Keeps.Replay.{loaded-inReplay, usedUp-inReplay, settle-restores}
 use Rattle.model.specs.Laws.Keeps.Live.{frames-count}
 use Rattle.model.specs.Laws.Keeps.Entered.{taken-inReplay, replayed-keeps}
@@ -118,25 +120,31 @@ takes-formed (behind l) f s n w = step-formed f s n w
 -- a store of an up board that keeps the clauses of its board
 store-formed : {d : ℕ} {φ : Phase} (b : ℕ) (f : Board → Board) (s : Run) → s .lost ≡ none → MayStore d b φ → FormedRun d φ s
     → (WellFormed (s .bank) → Fits (s .bank .directory) b (boardAt (s .bank) b) → Fits (s .bank .directory) b (f (boardAt (s .bank) b)))
+    → (PeersOk (length (s .bank .boards)) b (boardAt (s .bank) b) → PeersOk (length (s .bank .boards)) b (f (boardAt (s .bank) b)))
     → WellFormed (store b f s .bank)
-store-formed b f s n o h g =
+store-formed b f s n o h g m =
     let w : WellFormed (s .bank) = run-formed o h in
-    store-keeps b f s w (λ e. onBoard-keeps b f (s .bank) w (λ l i. g w i))
+    store-keeps b f s w (λ e. onBoard-keeps b f (s .bank) w (λ l i. g w i) m)
 
 move-formed : {d : ℕ} {Again : Access → Type 0} {χ ψ : Phase} (s : Run) (m : Move) → s .lost ≡ none → Guard d Again (s .bank) m χ ψ
     → FormedRun d χ s → FormedRun d ψ (does m s)
 unfolding does FormedIn pageOf isGot settle lackingOf
-move-formed s _ n (notesShown b p u m l) h =
-    step-formed _ s n (note-keeps b (Shown p) (zeros pageSize) (s .bank) (h .going n) u m (recordable-plain (Shown p) refl l))
-move-formed {d} s _ n (notesGot o p u m l r) h =
+move-formed {d} s _ n (notesShown b p u m l o) h =
     step-formed _ s n
-    (note-keeps d (Got GotOwn p) (frameOf (s .bank) o p .bytes) (s .bank) (h .going n) u m (recordable-got GotOwn (frameOk-of (h .going n) o p) l))
+    (note-keeps b (Shown p) d (zeros pageSize) (s .bank) (h .going n) u m (recordable-plain (Shown p) refl l (board-byte (h .going n) d (o .board))) o)
+move-formed {d} s _ n (notesGot o p u m l r v) h =
+    step-formed _ s n
+    (note-keeps d (Got GotOwn p) o (frameOf (s .bank) o p .bytes) (s .bank) (h .going n) u m
+    (recordable-got GotOwn (frameOk-of (h .going n) o p) l (board-byte (h .going n) o (v .board))) v)
 move-formed s _ n (storesRecord b o u) h =
-    formed-run o (store-formed b storedRecord s n o h (λ w f. storedRecord-fits (s .bank .directory) b (boardAt (s .bank) b) f))
+    formed-run o (store-formed b storedRecord s n o h (λ w f. storedRecord-fits (s .bank .directory) b (boardAt (s .bank) b) f)
+    (storedRecord-peers (boardAt (s .bank) b)))
 move-formed s _ n (storesFrame b p o u) h =
-    formed-run o (store-formed b (storedFrame p) s n o h (λ w f. storedFrame-fits (s .bank .directory) b p (boardAt (s .bank) b) f))
+    formed-run o (store-formed b (storedFrame p) s n o h (λ w f. storedFrame-fits (s .bank .directory) b p (boardAt (s .bank) b) f)
+    (storedFrame-peers p (boardAt (s .bank) b)))
 move-formed s _ n (storesHead b o u) h =
-    formed-run o (store-formed b storedHead s n o h (λ w f. storedHead-fits (s .bank .directory) b (boardAt (s .bank) b) (w .sizes .pages) f))
+    formed-run o (store-formed b storedHead s n o h (λ w f. storedHead-fits (s .bank .directory) b (boardAt (s .bank) b) (w .sizes .pages) f)
+    (storedHead-peers (boardAt (s .bank) b)))
 move-formed s _ n (storesSelector b o u v) h =
     let x : Board = boardAt (s .bank) b in
     let t : Run = store b storedSelector s in
@@ -144,16 +152,19 @@ move-formed s _ n (storesSelector b o u v) h =
     store-formed b storedSelector s n (selects-stores o) h
     (λ w f.
     storedSelector-fits (s .bank .directory) b x f (λ i. up-not-replaying u i)
-    (omega (arith, ap length (v .records), log-count (length (s .bank .directory)) (x .working .log) (f .alone .fields .working .log)))) in
+    (omega (arith, ap length (v .records), log-count (length (s .bank .directory)) (x .working .log) (f .alone .fields .working .log))))
+    (storedSelector-peers x) in
     formed-selected o
     (step-keeps (onBoard b (onWorking restedWorking)) t w
-    (λ e. onBoard-keeps b (onWorking restedWorking) (t .bank) w (λ l f. rested-fits (t .bank .directory) b (boardAt (t .bank) b) f)))
+    (λ e. onBoard-keeps b (onWorking restedWorking) (t .bank) w (λ l f. rested-fits (t .bank .directory) b (boardAt (t .bank) b) f)
+    (rested-peers (boardAt (t .bank) b))))
 move-formed {d} s _ n (givesCopy a o p x c i g u m r) h =
     takes-formed x _ s n (giveCopy-keeps o d p (s .bank) (takes-well d x (h .going n)) u m (g .page)
-    (no-right (takes-well d x (h .going n)) d p u (g .page) r .0))
+    (no-right (takes-well d x (h .going n)) d p u (g .page) r .0)
+    (record { board = up-below (s .bank) o (g .secure .up); other = g .other }))
 move-formed {d} s _ n (passesOwnership a o p c i g own v m) h =
     step-formed _ s n (passOwnership-keeps o d p (s .bank) (h .going n) (g .page) own (g .secure .up) (v .up) m)
-move-formed s _ n (dropsCopies p l m) h = step-formed _ s n (dropCopies-keeps p (s .bank) (h .going n) l m)
+move-formed {d} s _ n (dropsCopies p l own m) h = step-formed _ s n (dropCopies-keeps d p (s .bank) (h .going n) l own m)
 move-formed {d} s _ n (performs a i can has none-out) h =
     let w : WellFormed (s .bank) = begins-formed d i (h .going n) in
     step-formed _ s n
@@ -165,7 +176,8 @@ move-formed {d} s _ n (loads l down) h =
     let k : Bank = s .bank in
     step-formed _ s n
     (onBoard-but d (λ x. usedUp (loaded x)) k (but {Kept = Fits} (h .going n) (λ f. f))
-    (λ i f. usedUp-inReplay (k .directory) d (loaded (boardAt k d)) (loaded-inReplay (k .directory) d (boardAt k d) f down)))
+    (λ i f. usedUp-inReplay (k .directory) d (loaded (boardAt k d)) (loaded-inReplay (k .directory) d (boardAt k d) f down))
+    (λ m. usedUp-peers (loaded (boardAt k d)) (loaded-peers (boardAt k d) m)))
 move-formed {d} s _ n (repeatsAccess a z i rep same over) h = step-formed _ s n (replayed-keeps d a (s .bank) (h .going n) i rep same over)
 move-formed {d} s _ n (takesLast a i rep same over) h = step-formed _ s n (taken-inReplay d a (s .bank) (h .going n) i rep same)
 move-formed {d} s _ n (settles l rep over) h = step-formed _ s n (settle-restores d (s .bank) (h .going n))

@@ -19,7 +19,7 @@ use Rattle.model.specs.Definitions.Steps.{Run, step, burnt, store, store
 use Rattle.model.specs.Definitions.Steps.{spareStores, checkpoint, show, Access}
 use Rattle.model.specs.Definitions.Replay.{settled, endReplay, settle}
 use Rattle.model.specs.Laws.Keeps.Replay.{settle-restores}
-use Rattle.model.specs.Contracts.{InReplay, WellFormedBut, Fits, RoomFor}
+use Rattle.model.specs.Contracts.{InReplay, WellFormedBut, Fits, RoomFor, Another}
 use Rattle.model.specs.Moves.{still, checkpoints, NoteShown, StoreRecord, StoreFrame, StoreHead, StoreSelector, does, Phase, Begun, MayStore, anyone}
 use Rattle.model.specs.Moves.{Selects, Saved, notesShown, storesRecord, storesFrame, storesHead, storesSelector, Moves}
 use Rattle.model.specs.Laws.Logic.{byEq}
@@ -43,13 +43,13 @@ store-up b f same r u e =
     changed-store b {R = λ x y. y .state ≡ x .state} f r e (burnt-state (f x) ∙ same x) .this (up-below (r .bank) b (u n)) ∙ u n
 
 -- a record noted, with bytes that may be read off the bank, leaves its board up
-pub noted-up : (b : ℕ) (kind : Kind) (bytes : Bank → List ℕ) (r : Run) → (r .lost ≡ none → boardAt (r .bank) b .state ≡ Up)
-    → step (λ k. note b kind (bytes k) k) r .lost ≡ none → boardAt (step (λ k. note b kind (bytes k) k) r .bank) b .state ≡ Up
+pub noted-up : (b : ℕ) (kind : Kind) (peer : ℕ) (bytes : Bank → List ℕ) (r : Run) → (r .lost ≡ none → boardAt (r .bank) b .state ≡ Up)
+    → step (λ k. note b kind peer (bytes k) k) r .lost ≡ none → boardAt (step (λ k. note b kind peer (bytes k) k) r .bank) b .state ≡ Up
 unfolding note onWorking
-noted-up b kind bytes r u e =
-    let noted : Bank → Bank = λ k. note b kind (bytes k) k in
+noted-up b kind peer bytes r u e =
+    let noted : Bank → Bank = λ k. note b kind peer (bytes k) k in
     let n : r .lost ≡ none = step-none noted r e in
-    rw (step-done noted r e, boardAt-same b (onWorking (recorded kind (bytes (r .bank)))) (r .bank) (up-below (r .bank) b (u n))) (u n)
+    rw (step-done noted r e, boardAt-same b (onWorking (recorded kind peer (bytes (r .bank)))) (r .bank) (up-below (r .bank) b (u n))) (u n)
 
 -- ---- what the spare area holds during a checkpoint
 
@@ -157,16 +157,18 @@ module _ {d : ℕ} {Again : Access → Type 0} {φ : Phase} {r : Run} where
 
   -- "owner records shown and flushes"
   pub show-moves : (o p : ℕ) {s : Run} → Moves d Again φ r Begun s → (s .lost ≡ none → boardAt (s .bank) o .state ≡ Up)
-      → (s .lost ≡ none → RoomFor 1 (boardAt (s .bank) o)) → (s .lost ≡ none → p < length (s .bank .directory)) → Moves d Again φ r Begun (show o p s)
+      → (s .lost ≡ none → RoomFor 1 (boardAt (s .bank) o)) → (s .lost ≡ none → p < length (s .bank .directory)) → (s .lost ≡ none → Another d o (s .bank))
+      → Moves d Again φ r Begun (show o d p s)
   unfolding show does
-  show-moves o p {s} t u m l =
-      flush-moves o anyone (moves-do (NoteShown o p) t (λ e. notesShown o p (u e) (m e) (l e))) (noted-up o (Shown p) (λ k. zeros pageSize) s u)
+  show-moves o p {s} t u m l v =
+      flush-moves o anyone (moves-do (NoteShown o d p) t (λ e. notesShown o p (u e) (m e) (l e) (v e))) (noted-up o (Shown p) d (λ k. zeros pageSize) s u)
 
 -- ---- well formed at the end of each, for those who know no phase
 
-pub show-keeps : (o p : ℕ) (r : Run) → WellFormed (r .bank) → (r .lost ≡ none → boardAt (r .bank) o .state ≡ Up)
-    → (r .lost ≡ none → RoomFor 1 (boardAt (r .bank) o)) → (r .lost ≡ none → p < length (r .bank .directory)) → WellFormed (show o p r .bank)
-show-keeps o p r w u m l = run-formed {d = o} {b = o} anyone (moves-formed (show-moves {Again = λ a. ⊥} o p still u m l) (formed-begun o r w))
+pub show-keeps : (o b p : ℕ) (r : Run) → WellFormed (r .bank) → (r .lost ≡ none → boardAt (r .bank) o .state ≡ Up)
+    → (r .lost ≡ none → RoomFor 1 (boardAt (r .bank) o)) → (r .lost ≡ none → p < length (r .bank .directory)) → (r .lost ≡ none → Another b o (r .bank))
+    → WellFormed (show o b p r .bank)
+show-keeps o b p r w u m l v = run-formed {d = b} {b = b} anyone (moves-formed (show-moves {Again = λ a. ⊥} o p still u m l v) (formed-begun b r w))
 
 -- "End of replay ..: ..; checkpoint."
 pub endReplay-keeps : (b : ℕ) (r : Run) → r .lost ≡ none → b < length (r .bank .boards) → WellFormedBut b InReplay (r .bank) → WellFormed (endReplay b r .bank)

@@ -5,7 +5,7 @@ use native.Mathlib.Nat.{not-suc-le-zero}
 use native.Mathlib.Omega.{arith}
 use mathlib.Core.Bool.{Bool}
 use mathlib.Core.Option.{none}
-use mathlib.Core.List.{List, [], _∷_, _++_, append-assoc, foldl-append}
+use mathlib.Core.List.{List, [], _∷_, append-assoc, foldl-append}
 use lib.ListN.{length, replicate}
 use lib.Dec.{eqb}
 use Rattle.types.specs.declared.Kind.{Kind}
@@ -22,6 +22,7 @@ use Rattle.model.specs.Laws.Lists.{foldl-keeps}
 use Rattle.model.specs.Laws.Boards.{storedRecord-cases}
 use Rattle.model.specs.Laws.Runs.{step-none, follows-none, follows-flush, each-recordStores, each-spareStores, afterStores, changed-map}
 use Rattle.model.specs.Laws.Runs.{changed-storeAll, follows-checkpoint, Changed, changed-trans, changed-onBoard, changed-step}
+use Rattle.model.specs.Contracts.{recordsOf}
 
 -- ---- a fuse lowered
 
@@ -38,10 +39,6 @@ unfolding burnt withFuse
 burnt-stable x = cases (λ (y : Board). y .stable ≡ x .stable) (eqb (x .fuse) noFuse) (λ t. refl) (λ t. refl)
 
 -- ---- a flush
-
--- all records of a board: the stored ones of the selected area, then the volatile ones
-unfoldable pub recordsOf : Board → List Record
-recordsOf x = x .stable .selected .log .records ++ x .working .log .records
 
 -- board y is x after some of its volatile records were stored
 pub record Flushed (x y : Board) : Type 0 where
@@ -144,26 +141,26 @@ flush-empties b r l e =
 -- ---- a record noted, then a flush
 
 -- board y is x after a record was noted and some volatile records were stored
-abbrev pub FlushedWith : Kind → List ℕ → Board → Board → Type 0
-FlushedWith kind bytes x y = Flushed (onWorking (recorded kind bytes) x) y
+abbrev pub FlushedWith : Kind → (peer : ℕ) → List ℕ → Board → Board → Type 0
+FlushedWith kind peer bytes x y = Flushed (onWorking (recorded kind peer bytes) x) y
 
 -- for bytes that may be read off the bank
-pub note-flush-changed : (b : ℕ) (kind : Kind) (bytes : Bank → List ℕ) (r : Run) → flush b (step (λ k. note b kind (bytes k) k) r) .lost ≡ none
-    → Changed b (FlushedWith kind (bytes (r .bank))) (r .bank) (flush b (step (λ k. note b kind (bytes k) k) r) .bank)
+pub note-flush-changed : (b : ℕ) (kind : Kind) (peer : ℕ) (bytes : Bank → List ℕ) (r : Run) → flush b (step (λ k. note b kind peer (bytes k) k) r) .lost ≡ none
+    → Changed b (FlushedWith kind peer (bytes (r .bank))) (r .bank) (flush b (step (λ k. note b kind peer (bytes k) k) r) .bank)
 unfolding note
-note-flush-changed b kind bytes r e =
-    let s : Run = step (λ k. note b kind (bytes k) k) r in
+note-flush-changed b kind peer bytes r e =
+    let s : Run = step (λ k. note b kind peer (bytes k) k) r in
     let m : s .lost ≡ none = follows-none (follows-flush b s) e in
-    let f : Board → Board = onWorking (recorded kind (bytes (r .bank))) in
+    let f : Board → Board = onWorking (recorded kind peer (bytes (r .bank))) in
     changed-trans b (λ x y z p q. rw p at q)
-    (changed-step b (λ k. note b kind (bytes k) k) r m (changed-onBoard b {R = λ x y. y ≡ f x} f (r .bank) refl))
+    (changed-step b (λ k. note b kind peer (bytes k) k) r m (changed-onBoard b {R = λ x y. y ≡ f x} f (r .bank) refl))
     (flush-changed b s e)
 
 -- "owner records shown and flushes"
-pub show-changed : (o p : ℕ) (r : Run) → show o p r .lost ≡ none
-    → Changed o (FlushedWith (Shown p) (zeros pageSize)) (r .bank) (show o p r .bank)
+pub show-changed : (o b p : ℕ) (r : Run) → show o b p r .lost ≡ none
+    → Changed o (FlushedWith (Shown p) b (zeros pageSize)) (r .bank) (show o b p r .bank)
 unfolding show
-show-changed o p r e = note-flush-changed o (Shown p) (λ k. zeros pageSize) r e
+show-changed o b p r e = note-flush-changed o (Shown p) b (λ k. zeros pageSize) r e
 
 -- ---- a checkpoint
 

@@ -50,7 +50,7 @@ returns c =
       c .before .before .before .before .before .before .write-volatile-count .ensures,
       c .before .before .before .before .before .before .before .before .before .before .write-volatile .ensures,
     )
-    (record-bytes (start .pre .0) (args .kind) (args .bytes) _ _
+    (record-bytes (start .pre .0) (args .kind) (args .peer) (args .bytes) _ _
     (c .before .before .before .before .before .before .before .before .before .before .before .before .before .before .read-since .ensures) counted
     (start .pre .2) (omega arith))
 

@@ -11,8 +11,8 @@ flush-requires : tie.Need-flush-requires
 flush-requires c κs =
     let start = c .before .before .before .before .before .before in
     let noted = c .before .before .before .«record» .ensures in (
-      noted-block (start .pre .0) (start .args .kind) (start .args .bytes) (start .pre .1) (start .pre .2) noted,
-      noted-room (start .pre .0) (start .args .kind) (start .args .bytes) (start .pre .1) (start .pre .2) noted,
+      noted-block (start .pre .0) (start .args .kind) (start .args .peer) (start .args .bytes) (start .pre .1) (start .pre .2) noted,
+      noted-room (start .pre .0) (start .args .kind) (start .args .peer) (start .args .bytes) (start .pre .1) (start .pre .2) noted,
     )
 
 same-length : tie.Need-same-length
@@ -22,7 +22,7 @@ returns : tie.Need-returns
 returns c =
     let start = c .before .before .before .before .before .before .before .before .before in
     let flush = c .before .before .flush in (
-      logged-ran (start .pre .0) (start .args .kind) (start .args .bytes) (start .pre .1) (start .pre .2)
+      logged-ran (start .pre .0) (start .args .kind) (start .args .peer) (start .args .bytes) (start .pre .1) (start .pre .2)
           (c .before .before .before .before .before .before .«record» .ensures) (flush .ensures .0),
       flush .ensures .1,
     )

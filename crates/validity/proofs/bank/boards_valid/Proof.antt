@@ -10,50 +10,45 @@ use mathlib.Core.List.{List}
 use lib.ListN.{length, take, drop, length-take, length-drop}
 use lib.Dec.{eqb, ltb}
 use borrow.Author.Tests.{ltb-true, ltb-false, eq-eqb, ne-eqb}
-use Rattle.model.specs.Definitions.Layout.{slotCount, headSize, entrySize, blocksAt, Form, formOf, slotSizeIn, blockSizeIn}
+use Rattle.model.specs.Definitions.Layout.{slotCount, headSize, entrySize, Form, formOf, slotSizeIn, blockSizeIn}
 use Rattle.model.specs.Definitions.Parts.{everyBelow}
-use Rattle.model.specs.Definitions.Check.{countsValid, blockFits, slotValid, recordsValid, directoryOf, blockOfIn}
+use Rattle.model.specs.Definitions.Check.{countsValid, blockFits, recordsPass, directoryOf, blockOfIn}
 use Rattle.model.specs.Laws.Logic.{byBool, and-both}
 use Rattle.model.specs.Laws.Parts.{length-part, index-in}
 use Rattle.fields.proofs.Lent.{lent-part, lent-read}
 use Rattle.validity.specs.Sizes.{BlockSized}
-use Rattle.validity.specs.Pieces.{logs, logCount, logSlotsAt, logValid, recordValidIn}
+use Rattle.validity.specs.Pieces.{logs, logCount, logSlotsAt, logPasses, recordPassesIn, recordValid}
 use Rattle.validity.specs.Search.{failed, passed, first-failed, below-none, below-next, below-stop, below-end, log-inside, log-few, log-ended}
-use Rattle.validity.specs.Search.{logs-valid}
+use Rattle.validity.specs.Search.{logs-valid, lent-block}
 use Rattle.validity.specs.Order.{counts-known, boardFits, boards-fit}
 use Rattle.validity.proofs.bank.boards_valid.Statement.{statement}
 use Rattle.validity.proofs.bank.boards_valid.Tie as tie
 
 abbrev Inv-loop2 : tie.InvT-loop2
-Inv-loop2 bank since boards pages n directory holders size slot board a block log at end from₀ from =
+Inv-loop2 bank since named boards pages n directory holders size slot board a block log at end from₀ from =
     (index : ℕ)
     × ((from ≡ at + index * slot)
     × (index ≤ logCount (formOf since) pages block log)
-    × (everyBelow index (recordValidIn (formOf since) pages block log) ≡ true))
+    × (everyBelow index (recordPassesIn (formOf since) (recordValid (formOf since) named boards pages board) pages block log) ≡ true))
 
 abbrev μ-loop2 : tie.MeasureT-loop2
-μ-loop2 bank since boards pages n directory holders size slot board a block log at end from₀ from = end - from
+μ-loop2 bank since named boards pages n directory holders size slot board a block log at end from₀ from = end - from
 
 abbrev Inv-loop : tie.InvT-loop
-Inv-loop bank since boards pages n directory holders size slot board a block log₀ log =
-    (log ≤ logs) × (everyBelow log (logValid (formOf since) pages block) ≡ true)
+Inv-loop bank since named boards pages n directory holders size slot board a block log₀ log =
+    (log ≤ logs) × (everyBelow log (logPasses (formOf since) (recordValid (formOf since) named boards pages board) pages block) ≡ true)
 
 abbrev μ-loop : tie.MeasureT-loop
-μ-loop bank since boards pages n directory holders size slot board a block log₀ log = logs - log
+μ-loop bank since named boards pages n directory holders size slot board a block log₀ log = logs - log
 
 abbrev Inv-search : tie.InvT-search
-Inv-search bank since boards pages n directory holders size slot board₀ board =
-    (board ≤ boards) × (everyBelow board (boardFits (formOf since) pages bank) ≡ true)
+Inv-search bank since named boards pages n directory holders size slot board₀ board =
+    (board ≤ boards) × (everyBelow board (boardFits (formOf since) named boards pages bank) ≡ true)
 
 abbrev μ-search : tie.MeasureT-search
-μ-search bank since boards pages n directory holders size slot board₀ board = boards - board
+μ-search bank since named boards pages n directory holders size slot board₀ board = boards - board
 
--- the block that is looked through, and the directory
-lent : (form : Form) (s : List ℕ) (pages board a size : ℕ) → a ≡ blocksAt pages + board * blockSizeIn form pages → size ≡ blockSizeIn form pages
-    → take (a + size - a) (drop a s) ≡ blockOfIn form pages s board
-unfolding blockOfIn
-lent form s pages board a size p q = lent-part s a size ∙ rw (p, q)
-
+-- the directory that it is held against
 listed : (s : List ℕ) (pages : ℕ) → take (headSize + pages * entrySize - headSize) (drop headSize s) ≡ directoryOf pages s
 unfolding directoryOf
 listed s pages = lent-part s headSize (pages * entrySize)
@@ -62,14 +57,14 @@ lent-length : (s : List ℕ) (a n : ℕ) → a + n ≤ length s → length (take
 lent-length s a n h = ap length (lent-part s a n) ∙ length-part s a n h
 
 -- what a slot's test says of the part that it was lent
-record-tested : (form : Form) (pages : ℕ) (l : List ℕ) (log index at slot from : ℕ) (r : Bool)
+record-tested : (form : Form) (test : List ℕ → Bool) (pages : ℕ) (l : List ℕ) (log index at slot from : ℕ) (r : Bool)
     → at ≡ logSlotsAt form pages log
     → slot ≡ slotSizeIn form
     → from ≡ at + index * slot
-    → r ≡ slotValid form pages (take (from + slot - from) (drop from l))
-    → r ≡ recordValidIn form pages l log index
-unfolding recordValidIn
-record-tested form pages l log index at slot from r p q e h = rw (← p, ← q, ← e) (lent-read l from slot (slotValid form pages) r h)
+    → r ≡ test (take (from + slot - from) (drop from l))
+    → r ≡ recordPassesIn form test pages l log index
+unfolding recordPassesIn
+record-tested form test pages l log index at slot from r p q e h = rw (← p, ← q, ← e) (lent-read l from slot test r h)
 
 -- places by their index, and back
 next-index : (w i : ℕ) → (i + 1) * w ≡ i * w + w
@@ -92,15 +87,25 @@ module _ (c : tie.After-block-at-in Inv-loop2 μ-loop2 Inv-loop μ-loop Inv-sear
   abbrev pagesOf : ℕ
   pagesOf = c .before .before .before .before .before .before .before .before .args .pages
 
+  abbrev namedOf : Bool
+  namedOf = c .before .before .before .before .before .before .before .before .args .named
+
+  abbrev boardsOf : ℕ
+  boardsOf = c .before .before .before .before .before .before .before .before .args .boards
+
   abbrev boardOf : ℕ
   boardOf = c .before .before .search .board
+
+  -- the test of its records
+  abbrev testOf : List ℕ → Bool
+  testOf = recordValid form namedOf boardsOf pagesOf boardOf
 
   abbrev block : List ℕ
   block = take (c .block-at-in .result + c .before .before .before .before .block-size-in .result - c .block-at-in .result)
       (drop (c .block-at-in .result) bytes)
 
   found : block ≡ blockOfIn form pagesOf bytes boardOf
-  found = lent form bytes pagesOf boardOf _ _ (c .block-at-in .ensures) (c .before .before .before .before .block-size-in .ensures)
+  found = lent-block form bytes pagesOf boardOf _ _ (c .block-at-in .ensures) (c .before .before .before .before .block-size-in .ensures)
 
   inside : c .block-at-in .result + c .before .before .before .before .block-size-in .result ≤ length bytes
   inside = omega (
@@ -128,16 +133,16 @@ module _ (c : tie.Else1 Inv-loop2 μ-loop2 Inv-loop μ-loop Inv-search μ-search
   fits = rw (listed (bytes board) (pagesOf board), found board) at (passed (c .before .block-fits .ensures) (c .if1 .left))
 
   abbrev logsPassed : Bool
-  logsPassed = everyBelow logs (logValid (form board) (pagesOf board) (block board))
+  logsPassed = everyBelow logs (logPasses (form board) (testOf board) (pagesOf board) (block board))
 
-  records : logsPassed ≡ recordsValid (form board) (pagesOf board) (blockOfIn (form board) (pagesOf board) (bytes board) (boardOf board))
-  records = rw (← found board) (logs-valid (form board) (pagesOf board) (block board) (counted c))
+  records : logsPassed ≡ recordsPass (form board) (testOf board) (pagesOf board) (blockOfIn (form board) (pagesOf board) (bytes board) (boardOf board))
+  records = rw (← found board) (logs-valid (form board) (testOf board) (pagesOf board) (block board) (counted c))
 
-  board-passed : logsPassed ≡ true → boardFits (form board) (pagesOf board) (bytes board) (boardOf board) ≡ true
+  board-passed : logsPassed ≡ true → boardFits (form board) (namedOf board) (boardsOf board) (pagesOf board) (bytes board) (boardOf board) ≡ true
   unfolding boardFits
   board-passed h = and-both fits (sym records ∙ h)
 
-  board-failed : false ≡ logsPassed → boardFits (form board) (pagesOf board) (bytes board) (boardOf board) ≡ false
+  board-failed : false ≡ logsPassed → boardFits (form board) (namedOf board) (boardsOf board) (pagesOf board) (bytes board) (boardOf board) ≡ false
   unfolding boardFits
   board-failed h = rw (← records, ← h, and-false)
 
@@ -180,22 +185,22 @@ module _ (c : tie.In-loop2 Inv-loop2 μ-loop2 Inv-loop μ-loop Inv-search μ-sea
       let end = c .before .before in
       omega (arith, records-inside end, index-in sizeOf (end .log-count .result) indexOf counts, c .before .loop2 .inv .1 .0)
 
-tested : (c : tie.After-slot-valid Inv-loop2 μ-loop2 Inv-loop μ-loop Inv-search μ-search)
+tested : (c : tie.After-record-valid Inv-loop2 μ-loop2 Inv-loop μ-loop Inv-search μ-search)
     → let here = c .before .before .before .before .before .before .before .before .before .before .before in
-    c .slot-valid .result ≡ recordValidIn (form here) (pagesOf here) (block here) (c .before .before .before .before .before .before .before .loop .log)
+    c .record-valid .result ≡ recordPassesIn (form here) (testOf here) (pagesOf here) (block here) (c .before .before .before .before .before .before .before .loop .log)
     (indexOf (c .before .before))
 tested c =
     let here = c .before .before .before .before .before .before .before .before .before .before .before in
-    record-tested (form here) (pagesOf here) (block here) (c .before .before .before .before .before .before .before .loop .log)
+    record-tested (form here) (testOf here) (pagesOf here) (block here) (c .before .before .before .before .before .before .before .loop .log)
     (indexOf (c .before .before)) _ _ _ _ (c .before .before .before .before .before .log-slots-at .ensures)
     (here .before .before .before .slot-size-in .ensures)
     (c .before .before .before .loop2 .inv .1 .0)
-    (c .slot-valid .ensures)
+    (c .record-valid .ensures)
 
 -- the search was left at a block that doesn't fit, or at a slot
 block-failed : (c : tie.Then1 Inv-loop2 μ-loop2 Inv-loop μ-loop Inv-search μ-search)
     → let here = c .before .before .before in
-    boardFits (form here) (pagesOf here) (bytes here) (boardOf here) ≡ false
+    boardFits (form here) (namedOf here) (boardsOf here) (pagesOf here) (bytes here) (boardOf here) ≡ false
 unfolding boardFits
 block-failed c =
     let here = c .before .before .before in
@@ -203,18 +208,18 @@ block-failed c =
 
 slot-failed : (c : tie.Then2 Inv-loop2 μ-loop2 Inv-loop μ-loop Inv-search μ-search)
     → let here = c .before .before .before .before .before .before .before .before .before .before .before .before in
-    boardFits (form here) (pagesOf here) (bytes here) (boardOf here) ≡ false
-unfolding logValid
+    boardFits (form here) (namedOf here) (boardsOf here) (pagesOf here) (bytes here) (boardOf here) ≡ false
+unfolding logPasses
 slot-failed c =
     let here = c .before .before .before .before .before .before .before .before .before .before .before .before in
     let log = c .before .before .before .before .before .before .before .before .loop .log in
-    let short : logValid (form here) (pagesOf here) (block here) log ≡ false =
-    sym (below-stop (recordValidIn (form here) (pagesOf here) (block here) log) _ (indexOf (c .before .before .before))
+    let short : logPasses (form here) (testOf here) (pagesOf here) (block here) log ≡ false =
+    sym (below-stop (recordPassesIn (form here) (testOf here) (pagesOf here) (block here) log) _ (indexOf (c .before .before .before))
     (omega (arith, counts (c .before .before .before), c .before .before .before .before .before .log-count .ensures))
     (failed (tested (c .before)) (c .if2 .taken)))
     in
     board-failed (c .before .before .before .before .before .before .before .before .before)
-    (below-stop (logValid (form here) (pagesOf here) (block here)) logs log (omega arith) short)
+    (below-stop (logPasses (form here) (testOf here) (pagesOf here) (block here)) logs log (omega arith) short)
 
 mul-n : tie.Need-mul-n Inv-loop2 μ-loop2 Inv-loop μ-loop Inv-search μ-search
 mul-n c = omega arith
@@ -289,21 +294,21 @@ add-end c = omega (arith, records-inside c)
 loop2-holds : tie.Need-loop2-holds Inv-loop2 μ-loop2 Inv-loop μ-loop Inv-search μ-search
 loop2-holds c = (0, (omega arith, omega arith, below-none _))
 
-add-slot-valid : tie.Need-add-slot-valid Inv-loop2 μ-loop2 Inv-loop μ-loop Inv-search μ-search
-add-slot-valid c = omega (arith, record-inside c)
+add-record-valid : tie.Need-add-record-valid Inv-loop2 μ-loop2 Inv-loop μ-loop Inv-search μ-search
+add-record-valid c = omega (arith, record-inside c)
 
-sub-slot-valid : tie.Need-sub-slot-valid Inv-loop2 μ-loop2 Inv-loop μ-loop Inv-search μ-search
-sub-slot-valid c = omega arith
+sub-record-valid : tie.Need-sub-record-valid Inv-loop2 μ-loop2 Inv-loop μ-loop Inv-search μ-search
+sub-record-valid c = omega arith
 
-part-slot-valid-start :
-    tie.Need-part-slot-valid-start Inv-loop2 μ-loop2 Inv-loop μ-loop Inv-search μ-search
-part-slot-valid-start c = omega arith
+part-record-valid-start :
+    tie.Need-part-record-valid-start Inv-loop2 μ-loop2 Inv-loop μ-loop Inv-search μ-search
+part-record-valid-start c = omega arith
 
-part-slot-valid-end : tie.Need-part-slot-valid-end Inv-loop2 μ-loop2 Inv-loop μ-loop Inv-search μ-search
-part-slot-valid-end c = omega (arith, record-inside c, sized (c .before .before .before .before .before .before .before .before .before))
+part-record-valid-end : tie.Need-part-record-valid-end Inv-loop2 μ-loop2 Inv-loop μ-loop Inv-search μ-search
+part-record-valid-end c = omega (arith, record-inside c, sized (c .before .before .before .before .before .before .before .before .before))
 
-slot-valid-requires : tie.Need-slot-valid-requires Inv-loop2 μ-loop2 Inv-loop μ-loop Inv-search μ-search
-slot-valid-requires c κs =
+record-valid-requires : tie.Need-record-valid-requires Inv-loop2 μ-loop2 Inv-loop μ-loop Inv-search μ-search
+record-valid-requires c κs =
     let here = c .before .before .before .before .before .before .before .before .before .before in
     let size = here .before .before .before .slot-size-in in (
       omega arith,
@@ -349,7 +354,7 @@ loop-again c =
     in (
       omega arith,
       below-next _ _ (c .before .before .before .before .before .loop .inv .1)
-          (log-ended _ _ _ _ index (count .ensures) (omega (arith, count .ensures, c .before .loop2 .inv .1 .1)) all (c .before .loop2 .inv .1 .2)),
+          (log-ended _ _ _ _ _ index (count .ensures) (omega (arith, count .ensures, c .before .loop2 .inv .1 .1)) all (c .before .loop2 .inv .1 .2)),
     )
 
 add-board : tie.Need-add-board Inv-loop2 μ-loop2 Inv-loop μ-loop Inv-search μ-search
@@ -375,7 +380,7 @@ returns c =
     (λ w.
     eq-eqb (c .before .search .board) (start .args .boards) (omega (arith, w .left))
     ∙ below-end _ _ (c .before .search .board) (c .before .search .inv .0) (w .left) (c .before .search .inv .1)
-    ∙ boards-fit _ _ _ (start .args .boards))
+    ∙ boards-fit _ _ (start .args .boards) _ _)
     (⊎-elim
     (λ w.
     let block : tie.After-block Inv-loop2 μ-loop2 Inv-loop μ-loop Inv-search μ-search =
@@ -385,7 +390,7 @@ returns c =
       before = record { before = block; block-fits = w .3 };
       if1 = w .4;
     } in
-    left-at _ _ _ (w .0 .taken) (block-failed failed) ∙ boards-fit _ _ _ (start .args .boards))
+    left-at _ _ _ (w .0 .taken) (block-failed failed) ∙ boards-fit _ _ (start .args .boards) _ _)
     (λ w.
     let block : tie.After-block Inv-loop2 μ-loop2 Inv-loop μ-loop Inv-search μ-search =
     record { before = record { before = record { before = c .before; search-test = w .0 }; block-at-in = w .1 }; block = w .2 }
@@ -397,9 +402,9 @@ returns c =
     record { before = record { before = record { before = record { before = log; log-slots-at = w .7 }; log-count = w .8 }; loop2 = w .9 }; loop2-test = w .10 }
     in
     let failed : tie.Then2 Inv-loop2 μ-loop2 Inv-loop μ-loop Inv-search μ-search =
-    record { before = record { before = record { before = slot; slot-valid-arg = w .11 }; slot-valid = w .12 }; if2 = w .13 }
+    record { before = record { before = record { before = slot; record-valid-arg = w .11 }; record-valid = w .12 }; if2 = w .13 }
     in
-    left-at _ _ _ (w .0 .taken) (slot-failed failed) ∙ boards-fit _ _ _ (start .args .boards)))
+    left-at _ _ _ (w .0 .taken) (slot-failed failed) ∙ boards-fit _ _ (start .args .boards) _ _))
     (c .search-test .came)
 
 pub boards-valid-spec : {M : Type 1} → statement M
@@ -433,11 +438,11 @@ boards-valid-spec =
     mul-end
     add-end
     loop2-holds
-    add-slot-valid
-    sub-slot-valid
-    part-slot-valid-start
-    part-slot-valid-end
-    slot-valid-requires
+    add-record-valid
+    sub-record-valid
+    part-record-valid-start
+    part-record-valid-end
+    record-valid-requires
     add-from
     loop2-less
     loop2-again

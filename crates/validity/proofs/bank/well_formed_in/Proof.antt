@@ -3,12 +3,12 @@ use borrow.Author.Needs.{needs}
 use native.Mathlib.Omega.{arith}
 use mathlib.Core.Path.{_≡_, sym}
 use Prim.Native.Nat.{ℕ, _*_}
-use mathlib.Core.Bool.{_&&_}
+use mathlib.Core.Bool.{Bool, _&&_}
 use mathlib.Core.List.{List}
 use lib.ListN.{length-take, length-drop}
 use Rattle.model.specs.Definitions.Layout.{entrySize, headSize, Form, formOf}
 use Rattle.model.specs.Definitions.Parts.{byteAt}
-use Rattle.model.specs.Definitions.Check.{directoryValid, wellFormedIn, directoryOf, blocksFit, logsValid}
+use Rattle.model.specs.Definitions.Check.{directoryValid, wellFormedIn, directoryOf, blocksFit, logsValid, peersValid}
 use Rattle.model.specs.Laws.CodecBankBack.{HeadOk, head-ok}
 use Rattle.fields.proofs.Lent.{lent-read}
 use Rattle.validity.specs.Sizes.{BankSized}
@@ -29,6 +29,9 @@ module _ (c : tie.After-wide2) where
   abbrev form : Form
   form = formOf (c .before .before .before .before .before .before .before .args .since)
 
+  abbrev namedOf : Bool
+  namedOf = c .before .before .before .before .before .before .before .args .named
+
   abbrev boards : ℕ
   boards = c .before .before .wide .result
 
@@ -43,11 +46,12 @@ module _ (c : tie.After-wide2) where
       (omega arith, size, omega (arith, head .boards), omega (arith, head .pages))
 
   -- what is left to test
-  split : wellFormedIn form bytes
-      ≡ (directoryValid boards pages (directoryOf pages bytes) && (blocksFit form boards pages bytes && logsValid form boards pages bytes))
+  split : wellFormedIn form namedOf bytes
+      ≡ (directoryValid boards pages (directoryOf pages bytes)
+      && (blocksFit form boards pages bytes && (logsValid form boards pages bytes && peersValid form namedOf boards pages bytes)))
   unfolding byteAt
   split =
-      well-formed-left form bytes
+      well-formed-left form namedOf bytes
       (c .before .before .wide .ensures .0)
       (c .wide2 .ensures .0)
       (λ i h. omega (arith, c .before .before .before .before .before .before .shared-slice-known .given i))
@@ -65,7 +69,7 @@ head-valid-requires : tie.Need-head-valid-requires
 head-valid-requires c κs = search needs
 
 returns : tie.Need-returns
-returns c = sym (not-well-formed _ _ (failed (c .before .head-valid .ensures) (c .if1 .taken)))
+returns c = sym (not-well-formed _ _ _ (failed (c .before .head-valid .ensures) (c .if1 .taken)))
 
 shared-slice-read-wide : tie.Need-shared-slice-read-wide
 shared-slice-read-wide c = omega (arith, known (c .before) .size)

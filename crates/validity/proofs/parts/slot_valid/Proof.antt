@@ -7,18 +7,15 @@ use borrow.Author.Needs.{needs}
 use Rattle.validity.proofs.parts.slot_valid.Statement.{statement}
 use Rattle.validity.proofs.parts.slot_valid.Tie as tie
 
-shared-slice-read-pair : tie.Need-shared-slice-read-pair
-shared-slice-read-pair c = search needs
+shared-slice-read-wide : tie.Need-shared-slice-read-wide
+shared-slice-read-wide c = search needs
 
-shared-slice-read-pair-2 : tie.Need-shared-slice-read-pair-2
-shared-slice-read-pair-2 c = search needs
-
-pair-requires : tie.Need-pair-requires
-pair-requires c κs = search needs
+wide-requires : tie.Need-wide-requires
+wide-requires c κs = search needs
 
 returns : tie.Need-returns
 unfolding byteAt
-returns c = slot-out _ _ _ (rw (← c .before .pair .ensures .0) (c .if1 .taken))
+returns c = slot-out _ _ _ (rw (← c .before .wide .ensures .0) (c .if1 .taken))
 
 shared-slice-read-bare-mark : tie.Need-shared-slice-read-bare-mark
 shared-slice-read-bare-mark c = search needs
@@ -40,7 +37,7 @@ unfolding byteAt
 returns-2 c =
     let ranged = c .before .before .before .before .before .before in
     rw (c .zero-page .ensures, c .before .slot-bytes-at-in .ensures)
-    (slot-bare _ _ _ (omega arith) (rw (← ranged .before .pair .ensures .0) (ranged .if1 .left))
+    (slot-bare _ _ _ (rw (← ranged .before .wide .ensures .0) (ranged .if1 .left))
     (sym (c .before .before .before .bare-mark .ensures) ∙ c .before .before .if2 .taken))
 
 shared-slice-read-got-mark : tie.Need-shared-slice-read-got-mark
@@ -57,16 +54,15 @@ unfolding byteAt
 returns-3 c =
     let ranged = c .before .before .before .before .before .before .before in
     c .got-mark .ensures
-    ∙ slot-other _ _ _ (omega arith) (rw (← ranged .before .pair .ensures .0) (ranged .if1 .left))
+    ∙ slot-other _ _ _ (rw (← ranged .before .wide .ensures .0) (ranged .if1 .left))
     (sym (c .before .before .before .before .bare-mark .ensures) ∙ c .before .before .before .if2 .left)
 
 pub slot-valid-spec : {M : Type 1} → statement M
 slot-valid-spec =
     tie.close
     (tie.spec
-    shared-slice-read-pair
-    shared-slice-read-pair-2
-    pair-requires
+    shared-slice-read-wide
+    wide-requires
     returns
     shared-slice-read-bare-mark
     shared-slice-read-bare-mark-2
