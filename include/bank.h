@@ -35,7 +35,7 @@ enum {
  * Its bytes 2 and 3 are its numbers of boards and pages, as in today's form. */
 #define BANK_OLDER_LENGTH(boards, pages) (4 + 2 * (size_t)(pages) + (size_t)(boards) * (2134 + 51 * (size_t)(pages)))
 
-/* What a call says. Under 1 to 7, 10 and 11 nothing was done, except that an access which ended a replay keeps that end. */
+/* What a call says. Under 1 to 7 and from 10 on nothing was done, except that an access which ended a replay keeps that end. */
 enum bank_codes {
     BANK_DONE = 0,           /* Done. */
     BANK_MALFORMED = 1,      /* The bytes are no bank, or bank_make was given a wrong length. Sell nothing from it: bring back a good copy, or make a
@@ -56,16 +56,17 @@ enum bank_codes {
     BANK_POWER_LOST = 8,     /* The fuse of board `who` blew in this call. It is down; what was stored before stands, this call was not finished:
                                 restart it. */
     BANK_WRONG_CELLS = 10,   /* bank_shelf was given no cell, more than 32, half of one, or not one byte of `out` for each. The caller is wrong: mend it. */
-    BANK_HAS_RECORDS = 11    /* From bank_adopt and bank_convert: a log of the bank holds records, which name no board. Go back to the firmware that wrote
+    BANK_HAS_RECORDS = 11,   /* From bank_adopt and bank_convert: a log of the bank holds records, which name no board. Go back to the firmware that wrote
                                 it, restart each board that is down, let every replay end; then, with no access in between, checkpoint each board
                                 that has records twice (once leaves them in its other area), and come again. */
+    BANK_SAME_BOARD = 12     /* bank_compare_logs was given one board twice. The caller is wrong: name two. */
 };
 
 /* Every call answers one number with four fields. */
 static inline uint32_t bank_code(uint64_t answer) { return (uint32_t)(answer & 255); }           /* one of bank_codes */
-static inline uint32_t bank_who(uint64_t answer) { return (uint32_t)(answer >> 8 & 255); }       /* the board that codes 3 to 8 speak of, else 0 */
+static inline uint32_t bank_who(uint64_t answer) { return (uint32_t)(answer >> 8 & 255); }       /* the board of codes 3 to 8, the taker of a comparison, else 0 */
 static inline uint32_t bank_stores(uint64_t answer) { return (uint32_t)(answer >> 16 & 65535); } /* stores to stable memory in this call, under every code */
-static inline uint32_t bank_value(uint64_t answer) { return (uint32_t)(answer >> 32); }          /* under code 0 of a read or a restart, else 0 */
+static inline uint32_t bank_value(uint64_t answer) { return (uint32_t)(answer >> 32); }          /* under code 0 of a read, a restart or a comparison, else 0 */
 
 /* Makes a fresh bank: all boards up, page p owned by board p mod boards, all bytes of all pages 0. */
 uint64_t bank_make(uint8_t *bank, size_t len, uint32_t boards, uint32_t pages);
@@ -105,6 +106,17 @@ uint64_t bank_convert(const uint8_t *old, size_t old_len, uint8_t *new_bank, siz
  * of the earlier form for their own, records and all, unless a log of board 0 has a record; then they answer 1. A bank of today gets 0
  * here while its logs are empty, else 1 or 11. */
 uint64_t bank_adopt(const uint8_t *bank, size_t len);
+
+/* Holds the stored logs of two boards, in any states and named in either order, against each other; the bank is only read. Where one board gave
+ * pages to the other, the i-th got of the taker that names the giver must have the page of the i-th shown of the giver that names the taker.
+ * The value is the first i, from 1, whose page differs or that has no shown, and `who` is the taker; what the lower board gave comes first.
+ * Value 0: there is none (a taker may be board 0, so look at the value). A shown without a got is no fault, nor is a got that isn't stored yet.
+ *
+ * A place means damage only of two boards that since bank_make neither lost their power nor were checkpointed (the end of a replay is a checkpoint
+ * too), and made no call that answered 8: such boards never yield one, so copy the bank, take the machine out of service and look at that record
+ * (./show names it). Of other boards it may mean no more than that the one log begins later than the other, or that a call or a log was cut off before a
+ * got was stored. Of a bank that was converted or adopted nothing is promised. */
+uint64_t bank_compare_logs(const uint8_t *bank, size_t len, uint32_t board, uint32_t other);
 
 #ifdef __cplusplus
 }

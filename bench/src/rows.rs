@@ -243,6 +243,8 @@ pub fn rows(layout: Layout) -> Vec<Row> {
     let mut replaying = down.clone();
     done(&mut replaying, std::iter::once("S 1".into()));
     let repeated = alternating().filter(|text| text.starts_with("W 1"));
+    let compare = Call::CompareLogs { board: 0, other: 1 };
+    let comparisons = vec![Line::Call(compare); REPEATS];
 
     let rows = vec![
         row("accept, fresh bank", &bank, accept.clone()),
@@ -276,6 +278,8 @@ pub fn rows(layout: Layout) -> Vec<Row> {
         conversion("convert, code 11", &full_logs(layout), HAS_RECORDS),
         adoption("adopt, fresh bank", &bank, DONE),
         adoption("adopt, code 11", &full_logs(layout), HAS_RECORDS),
+        row("compare logs, fresh bank", &bank, comparisons.clone()),
+        row("compare logs, all full", &full_logs(layout), comparisons),
     ];
     rows.into_iter()
         .filter(|row| row.work.calls() > 0)

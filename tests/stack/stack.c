@@ -30,6 +30,7 @@ static void call(void) {
     case 6: answer = bank_convert(old, old_len, bank, len); break;
     case 7: answer = bank_shelf(bank, len, arg[0], cells, 2 * cell_count, out, cell_count); break;
     case 8: answer = bank_adopt(bank, len); break;
+    case 9: answer = bank_compare_logs(bank, len, arg[0], arg[1]); break;
     default: answer = 0; break; /* nothing: what the measuring itself takes */
     }
 }
@@ -59,7 +60,7 @@ static uint32_t below(uint32_t n) {
 
 int main(int count, char **files) {
     static const char *names[] = {"bank_make",    "bank_read",    "bank_write", "bank_checkpoint", "bank_fuse",
-                                  "bank_restart", "bank_convert", "bank_shelf", "bank_adopt"};
+                                  "bank_restart", "bank_convert", "bank_shelf", "bank_adopt",      "bank_compare_logs"};
     enum { KINDS = sizeof names / sizeof *names };
     size_t most[KINDS] = {0};
     len = BANK_LENGTH(8, 16);
@@ -82,9 +83,12 @@ int main(int count, char **files) {
         for (size_t c = 0; c < cell_count; c++) cells[2 * c] = (uint8_t)below(3), cells[2 * c + 1] = (uint8_t)below(16);
         size_t n = used();
         if (n > most[kind]) most[kind] = n;
-        if (i % 16 == 0) { /* any code, mostly 1 */
-            kind = 8, n = used();
-            if (n > most[8]) most[8] = n;
+        if (i % 16 == 0) { /* any code, of an adoption mostly 1 */
+            arg[1] = below(8);
+            for (kind = 8; kind <= 9; kind++) {
+                n = used();
+                if (n > most[kind]) most[kind] = n;
+            }
         }
     }
     FILE *file = count == 2 ? fopen(files[1], "rb") : NULL;
@@ -100,7 +104,7 @@ int main(int count, char **files) {
         fprintf(stderr, "stack: %s can't be converted\n", files[1]);
         return 1;
     }
-    for (int k = 0; k < KINDS; k++) printf("%-16s %5zu bytes of stack\n", names[k], most[k] - none);
+    for (int k = 0; k < KINDS; k++) printf("%-17s %5zu bytes of stack\n", names[k], most[k] - none);
     free(bank);
     return 0;
 }

@@ -1,5 +1,5 @@
 -- An outcome as one number, for callers in C: code, who, stores and value, each in its own digits, so that nothing is lost. Assumes nothing.
-use mathlib.Core.Path.{_≡_, refl}
+use mathlib.Core.Path.{_≡_, refl, sym}
 use Prim.Native.Nat.{ℕ, _+_, _*_, _/_, _%_, _<_}
 use native.Mathlib.Omega.{arith}
 use mathlib.Core.Bool.{true, false}
@@ -7,7 +7,7 @@ use mathlib.Core.List.{List, [], _∷_}
 use lib.Dec.{eqb, lit<}
 use Rattle.types.specs.declared.Answer.{Answer}
 use Rattle.types.specs.declared.Answer.the-variants.{Done, Malformed, OutOfRange, WrongState, CountersFull, ReplayDiffers, OwnerNotUp, LogFull}
-use Rattle.types.specs.declared.Answer.the-variants.{PowerLost, WrongCells, HasRecords}
+use Rattle.types.specs.declared.Answer.the-variants.{PowerLost, WrongCells, HasRecords, Compared, SameBoard}
 use Rattle.types.specs.declared.Outcome.{Outcome}
 use Rattle.model.specs.Definitions.Layout.{byteValues}
 use Rattle.model.specs.Definitions.Answers.{code, value, who}
@@ -40,6 +40,8 @@ code-small (LogFull b) = lit< tt
 code-small (PowerLost b) = lit< tt
 code-small WrongCells = lit< tt
 code-small HasRecords = lit< tt
+code-small (Compared i b) = lit< tt
+code-small SameBoard = lit< tt
 
 digits-code : (c w s v : ℕ) → c < whoUnit → (c + whoUnit * w + storesUnit * s + valueUnit * v) % whoUnit ≡ c
 digits-code c w s v h = omega arith
@@ -53,13 +55,14 @@ digits-stores c w s v h i j = omega arith
 digits-value : (c w s v : ℕ) → c < whoUnit → w < byteValues → s < storesUnit → (c + whoUnit * w + storesUnit * s + valueUnit * v) / valueUnit ≡ v
 digits-value c w s v h i j = omega arith
 
-pub record ReadBack (o : Outcome) : Type 0 where
-  pub codeRead : packed o % whoUnit ≡ code (o .answer)
-  pub whoRead : packed o / whoUnit % byteValues ≡ who (o .answer)
-  pub storesRead : packed o / storesUnit % storesUnit ≡ o .stores
-  pub valueRead : packed o / valueUnit ≡ value (o .answer)
+-- number r has the four fields of an outcome
+pub record ReadBack (r : ℕ) (o : Outcome) : Type 0 where
+  pub codeRead : r % whoUnit ≡ code (o .answer)
+  pub whoRead : r / whoUnit % byteValues ≡ who (o .answer)
+  pub storesRead : r / storesUnit % storesUnit ≡ o .stores
+  pub valueRead : r / valueUnit ≡ value (o .answer)
 
-pub packed-back : (o : Outcome) → who (o .answer) < byteValues → o .stores < storesUnit → ReadBack o
+pub packed-back : (o : Outcome) → who (o .answer) < byteValues → o .stores < storesUnit → ReadBack (packed o) o
 unfolding packed
 packed-back o h k =
     let a : Answer = o .answer in
@@ -71,15 +74,16 @@ packed-back o h k =
       valueRead = digits-value (code a) (who a) (o .stores) (value a) c h k;
     }
 
--- and the four fields tell the outcome: the answer of a code's row. Every other code reads as PowerLost; no call answers one.
+-- And the four fields tell the outcome: the answer of a code's row. Code 0 alone has two forms; which one a caller knows by the call (`done`). Every other
+-- code reads as PowerLost; no call answers one.
 unfoldable pub answerIn : List (ℕ × Answer) → Answer → ℕ → Answer
 answerIn [] other c = other
 answerIn (r ∷ rs) other c = elim (eqb c (r .0)) [ true ↦ r .1 | false ↦ answerIn rs other c ]
 
-unfoldable pub answerOf : ℕ → ℕ → ℕ → Answer
-answerOf c w v =
+unfoldable pub answerOf : (ℕ → ℕ → Answer) → ℕ → ℕ → ℕ → Answer
+answerOf done c w v =
     answerIn
-    ((0, Done v)
+    ((0, done v w)
     ∷ (1, Malformed)
     ∷ (2, OutOfRange)
     ∷ (3, WrongState w)
@@ -89,28 +93,31 @@ answerOf c w v =
     ∷ (7, LogFull w)
     ∷ (10, WrongCells)
     ∷ (11, HasRecords)
+    ∷ (12, SameBoard)
     ∷ [])
     (PowerLost w) c
 
-answer-back : (a : Answer) → answerOf (code a) (who a) (value a) ≡ a
+answer-back : (done : ℕ → ℕ → Answer) (a : Answer) → (code a ≡ 0 → a ≡ done (value a) (who a)) → answerOf done (code a) (who a) (value a) ≡ a
 unfolding answerIn answerOf code who value
-answer-back (Done v) = refl
-answer-back Malformed = refl
-answer-back OutOfRange = refl
-answer-back (WrongState b) = refl
-answer-back (CountersFull b) = refl
-answer-back (ReplayDiffers b) = refl
-answer-back (OwnerNotUp b) = refl
-answer-back (LogFull b) = refl
-answer-back (PowerLost b) = refl
-answer-back WrongCells = refl
-answer-back HasRecords = refl
+answer-back done (Done v) h = sym (h refl)
+answer-back done Malformed h = refl
+answer-back done OutOfRange h = refl
+answer-back done (WrongState b) h = refl
+answer-back done (CountersFull b) h = refl
+answer-back done (ReplayDiffers b) h = refl
+answer-back done (OwnerNotUp b) h = refl
+answer-back done (LogFull b) h = refl
+answer-back done (PowerLost b) h = refl
+answer-back done WrongCells h = refl
+answer-back done HasRecords h = refl
+answer-back done (Compared i b) h = sym (h refl)
+answer-back done SameBoard h = refl
 
-unfoldable pub unpacked : ℕ → Outcome
-unpacked n = record { answer = answerOf (n % whoUnit) (n / whoUnit % byteValues) (n / valueUnit); stores = n / storesUnit % storesUnit }
+unfoldable pub unpacked : (ℕ → ℕ → Answer) → ℕ → Outcome
+unpacked done n = record { answer = answerOf done (n % whoUnit) (n / whoUnit % byteValues) (n / valueUnit); stores = n / storesUnit % storesUnit }
 
-pub unpacked-packed : (o : Outcome) → who (o .answer) < byteValues → o .stores < storesUnit → unpacked (packed o) ≡ o
+pub unpacked-back : (done : ℕ → ℕ → Answer) (r : ℕ) (o : Outcome) → ReadBack r o
+    → (code (o .answer) ≡ 0 → o .answer ≡ done (value (o .answer)) (who (o .answer))) → unpacked done r ≡ o
 unfolding unpacked
-unpacked-packed o h k =
-    let back : ReadBack o = packed-back o h k in
-    rw (back .codeRead, back .whoRead, back .storesRead, back .valueRead, answer-back (o .answer))
+unpacked-back done r o back form =
+    rw (back .codeRead, back .whoRead, back .storesRead, back .valueRead, answer-back done (o .answer) form)

@@ -25,5 +25,7 @@ pub fn numbers_of(answer: Answer) -> AnswerNumbers
         Answer::PowerLost(board) => row(8, 0, board),
         Answer::WrongCells => row(10, 0, 0),
         Answer::HasRecords => row(11, 0, 0),
+        Answer::Compared(place, board) => row(0, place, board),
+        Answer::SameBoard => row(12, 0, 0),
     }
 }

@@ -4,7 +4,7 @@ use types::Outcome;
 ghost use mathlib.Core.Path.{_≡_};
 ghost use Prim.Native.Nat.{_≤_};
 ghost use Rattle.model.specs.Contracts.{mostStores};
-ghost use Rattle.answers.specs.Packed.{packed, unpacked};
+ghost use Rattle.answers.specs.Packed.{packed, ReadBack};
 
 // What who, stores and value count in.
 const WHO_UNIT: u64 = 256;
@@ -16,7 +16,7 @@ const VALUE_UNIT: u64 = STORES_UNIT * 65536;
 pub fn pack(o: Outcome) -> u64
     requires { ⌜ o .stores ≤ mostStores ⌝ }
     ensures number { λ r. ⌜ r ≡ packed o ⌝ }
-    ensures back { λ r. ⌜ unpacked r ≡ o ⌝ }
+    ensures back { λ r. ⌜ ReadBack r o ⌝ }
 {
     let answer = o.answer;
     let numbers = numbers_of(answer);

@@ -1,14 +1,28 @@
--- Demand 3 of the archive: along any list of calls, whatever numbers and bytes the contracts of the C calls allow keep the claim. Premise and claim
+-- Demand 3 and F-7's claim of the archive: along any list of calls, whatever numbers and bytes the contracts of the C calls allow keep them. Premise and claim
 -- are said of the fields that a caller reads back from the numbers, of the bytes left and of second buffers (engine's OneMemory). Assumes nothing.
-use mathlib.Core.Path.{_≡_, ap}
-use Prim.Native.Nat.{ℕ, _/_, _%_}
+use mathlib.Core.Path.{_≡_, refl, sym, ap, _∙_}
+use mathlib.Core.Logic.{_≢_}
+use Prim.Native.Nat.{ℕ, _<_, _%_}
+use native.Mathlib.Omega.{arith}
 use mathlib.Core.List.{List, [], _∷_, map}
-use Rattle.types.specs.declared.Answer.the-variants.{Done}
+use lib.ListN.{length}
+use lib.Dec.{eqb}
+use Rattle.words.specs.Bytes.{Each}
+use Rattle.types.specs.declared.Answer.the-variants.{Done, Compared}
 use Rattle.types.specs.declared.Outcome.{Outcome}
-use Rattle.model.specs.Definitions.Calls.{Call, call, bufferAfter, make}
+use Rattle.model.specs.Definitions.Layout.{bankSize}
+use Rattle.model.specs.Definitions.Check.{sizesAllowed}
+use Rattle.model.specs.Definitions.Answers.{code, value, who}
+use Rattle.model.specs.Definitions.Calls.{Call, Comparing, Reply, refused, call, bufferAfter, make}
+use Rattle.model.specs.Laws.Logic.{cases}
+use Rattle.model.specs.Laws.Codes.{done-as}
+use Rattle.model.specs.Laws.Codes.Order.{never}
+use Rattle.model.specs.Laws.Codes.Statement.{doneAs}
+use Rattle.model.specs.Laws.LogPages.{compares-logs}
 use Rattle.model.specs.History.Statement.{Observed, made, PremisesSeen, ClaimsSeen}
-use Rattle.answers.specs.Packed.{whoUnit, valueUnit, answerIn, answerOf, unpacked}
-use Rattle.engine.specs.OneMemory.{seenIn, Allowed, one-memory-seen}
+use Rattle.model.specs.History.LogsStatement.{Spared, bytesLeft}
+use Rattle.answers.specs.Packed.{whoUnit, packed, unpacked, unpacked-back}
+use Rattle.engine.specs.OneMemory.{seenIn, Allowed, one-memory-seen, no-place-seen}
 use Rattle.bank.specs.Contracts.{RepliedPacked}
 
 -- what a caller in C sees of a call: what was asked, the number, the bytes left, and the second buffer, which is empty for a call that takes none
@@ -18,14 +32,14 @@ pub record Numbered : Type 0 where
   pub bytes : List ℕ
   pub buffer : List ℕ
 
--- the same with the number's fields; the second buffer is read under code 0
+-- the same with the number's fields, read as what was asked answers; the second buffer is read under code 0
 abbrev pub readBack : Numbered → Observed
 readBack x =
     record {
       asked = x .asked;
-      outcome = unpacked (x .number);
+      outcome = unpacked (doneAs (x .asked)) (x .number);
       bytes = x .bytes;
-      given = seenIn (unpacked (x .number) .answer) (x .buffer);
+      given = seenIn (unpacked (doneAs (x .asked)) (x .number) .answer) (x .buffer);
     }
 
 -- what the contracts allow: each call is run on the bytes that the last one left
@@ -39,24 +53,41 @@ AllowedNumbers s (x ∷ xs) =
 allowed-back : (xs : List Numbered) (s : List ℕ) → AllowedNumbers s xs → Allowed s (map readBack xs)
 unfolding Allowed AllowedNumbers
 allowed-back [] s ok = tt
-allowed-back (x ∷ xs) s ok = (
-  ok .0 .1,
-  record {
-    lent = ok .1 .0;
-    left = x .buffer;
-    promised = ok .1 .1;
-    seen = ap (λ (o : Outcome). seenIn (o .answer) (x .buffer)) (ok .0 .1 .0);
-  },
-  allowed-back xs (x .bytes) (ok .2),
-)
+allowed-back (x ∷ xs) s ok =
+    let y : Reply = call (x .asked) s in
+    let back : unpacked (doneAs (x .asked)) (x .number) ≡ y .outcome =
+    unpacked-back (doneAs (x .asked)) (x .number) (y .outcome) (ok .0 .fields) (done-as (x .asked) s) in (
+      (back, ok .0 .bytes),
+      record { lent = ok .1 .0; left = x .buffer; promised = ok .1 .1; seen = ap (λ (o : Outcome). seenIn (o .answer) (x .buffer)) back },
+      allowed-back xs (x .bytes) (ok .2),
+    )
 
--- code 0 is done
-done-back : (r : ℕ) → r % whoUnit ≡ 0 → unpacked r .answer ≡ Done (r / valueUnit)
-unfolding unpacked answerOf answerIn
-done-back r h = rw h
+-- a make whose code is 0 is done
+made-done : (n p : ℕ) (s : List ℕ) → code (make n p s .outcome .answer) ≡ 0 → make n p s .outcome .answer ≡ Done 0
+unfolding make refused code
+made-done n p s =
+    let P : Reply → Type 0 = λ y. code (y .outcome .answer) ≡ 0 → y .outcome .answer ≡ Done 0 in
+    cases P (sizesAllowed n p)
+    (λ t. cases P (eqb (length s) (bankSize n p)) (λ l e. refl) (λ l e. never (omega arith)))
+    (λ t e. never (omega arith))
 
--- From a `bank_make` whose code is 0, on any bytes, and for any calls behind it: if the premise holds of what is seen, so does the claim, after every call.
-pub one-memory-archive : (n p : ℕ) (s₀ s : List ℕ) (r : ℕ) → RepliedPacked (make n p s₀) r s → r % whoUnit ≡ 0
-    → (xs : List Numbered) → AllowedNumbers s xs → PremisesSeen (map readBack xs) (made s) → ClaimsSeen (map readBack xs) (made s)
-one-memory-archive n p s₀ s r y d xs ok h =
-    one-memory-seen n p s₀ s (unpacked r) (r / valueUnit) (y .1) (done-back r d) (map readBack xs) (allowed-back xs s ok) h
+-- From a `bank_make` whose code is 0, on any bytes, and for any calls behind it.
+module _ (n p : ℕ) (s₀ s : List ℕ) (r : ℕ) (y : RepliedPacked (make n p s₀) r s) (d : r % whoUnit ≡ 0) (xs : List Numbered) (ok : AllowedNumbers s xs) where
+  made-zero : make n p s₀ .outcome .answer ≡ Done 0
+  made-zero = made-done n p s₀ (sym (y .fields .codeRead) ∙ d)
+
+  -- Demand 3: if the premise holds of what is seen, so does the claim, after every call.
+  pub one-memory-archive : PremisesSeen (map readBack xs) (made s) → ClaimsSeen (map readBack xs) (made s)
+  one-memory-archive h =
+      one-memory-seen n p s₀ s (make n p s₀ .outcome) 0 (refl, y .bytes) made-zero (map readBack xs) (allowed-back xs s ok) h
+
+  -- F-7: of two boards that were spared so far `bank_compare_logs` answers 0, all of the number.
+  pub no-place-archive : (b c : ℕ) → b < n → c < n → b ≢ c → Each (Spared b) (map readBack xs) → Each (Spared c) (map readBack xs)
+      → (q : ℕ) (t : List ℕ) → RepliedPacked (call (Comparing b c) (bytesLeft s (map readBack xs))) q t → q ≡ 0
+  unfolding packed code who value
+  no-place-archive b c lb lc other sb sc q t z =
+      let left : List ℕ = bytesLeft s (map readBack xs) in
+      let found : call (Comparing b c) left .outcome .answer ≡ Compared 0 0 =
+      no-place-seen n p s₀ s (make n p s₀ .outcome) 0 (refl, y .bytes) made-zero (map readBack xs) (allowed-back xs s ok) b c lb lc other sb sc .answer in
+      let none : call (Comparing b c) left .outcome .stores ≡ 0 = compares-logs b c left .leaves .stores in
+      z .number ∙ rw (found, none) refl

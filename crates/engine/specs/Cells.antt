@@ -14,7 +14,7 @@ use Rattle.types.specs.declared.Frame.{Frame}
 use Rattle.types.specs.declared.State.{State}
 use Rattle.types.specs.declared.Answer.{Answer}
 use Rattle.types.specs.declared.Answer.the-variants.{Done, Malformed, OutOfRange, WrongState, CountersFull, ReplayDiffers, OwnerNotUp, LogFull}
-use Rattle.types.specs.declared.Answer.the-variants.{PowerLost, WrongCells, HasRecords}
+use Rattle.types.specs.declared.Answer.the-variants.{PowerLost, WrongCells, HasRecords, Compared, SameBoard}
 use Rattle.types.specs.declared.Outcome.{Outcome}
 use Rattle.model.specs.Definitions.Answers.{code, value}
 use Rattle.model.specs.Definitions.Parts.{every, member}
@@ -28,7 +28,7 @@ use Rattle.model.specs.Laws.Logic.{byBool, byEq, and-left, and-right, clash}
 use Rattle.model.specs.Laws.Keeps.Rights.{or-none}
 use Rattle.model.specs.Laws.Keeps.Entered.{cell-of}
 use Rattle.model.specs.Laws.Lists.{every-each, each-imp, each-head}
-use Rattle.model.specs.Laws.Codes.Ends.{access-value}
+use Rattle.model.specs.Laws.Codes.Ends.{access-value, access-done-form}
 use Rattle.model.specs.History.Statement.{bytesSeen}
 use Rattle.model.specs.Likeness.{onValue}
 use Rattle.fields.specs.Cells.{CellIn, count-cells}
@@ -179,39 +179,48 @@ asks-of on {pages} e q own = record { bank = rw own (on-bank on pages e); count 
 
 -- ---- what is answered
 
--- an answer is done, or has no value
-by-done : (x : Answer) (P : Answer → Type 0) → ((v : ℕ) → P (Done v)) → (((g : ℕ → ℕ) → onValue g x ≡ x) → code x ≢ 0 → P x) → P x
+-- what is taken under code 0, and what else
+unfoldable pub ifDone : {A : Type 0} → Answer → (done other : A) → A
+ifDone x done other = elim (eqb (code x) 0) [ true ↦ done | false ↦ other ]
+
+module _ {A : Type 0} (x : Answer) (done other : A) where
+  pub when-done : eqb (code x) 0 ≡ true → done ≡ ifDone x done other
+  unfolding ifDone
+  when-done t = cc
+
+  pub when-other : eqb (code x) 0 ≡ false → other ≡ ifDone x done other
+  unfolding ifDone
+  when-other t = cc
+
+-- a code other than 0 stands beside no value
+other-value : (g : ℕ → ℕ) (x : Answer) → code x ≢ 0 → onValue g x ≡ x
 unfolding onValue code
-by-done (Done v) P d r = d v
-by-done Malformed P d r = r (λ g. refl) (λ e. absurd (omega arith))
-by-done OutOfRange P d r = r (λ g. refl) (λ e. absurd (omega arith))
-by-done (WrongState b) P d r = r (λ g. refl) (λ e. absurd (omega arith))
-by-done (CountersFull b) P d r = r (λ g. refl) (λ e. absurd (omega arith))
-by-done (ReplayDiffers b) P d r = r (λ g. refl) (λ e. absurd (omega arith))
-by-done (OwnerNotUp b) P d r = r (λ g. refl) (λ e. absurd (omega arith))
-by-done (LogFull b) P d r = r (λ g. refl) (λ e. absurd (omega arith))
-by-done (PowerLost b) P d r = r (λ g. refl) (λ e. absurd (omega arith))
-by-done WrongCells P d r = r (λ g. refl) (λ e. absurd (omega arith))
-by-done HasRecords P d r = r (λ g. refl) (λ e. absurd (omega arith))
+other-value g (Done v) n = absurd (n refl)
+other-value g Malformed n = refl
+other-value g OutOfRange n = refl
+other-value g (WrongState b) n = refl
+other-value g (CountersFull b) n = refl
+other-value g (ReplayDiffers b) n = refl
+other-value g (OwnerNotUp b) n = refl
+other-value g (LogFull b) n = refl
+other-value g (PowerLost b) n = refl
+other-value g WrongCells n = refl
+other-value g HasRecords n = refl
+other-value g (Compared i b) n = refl
+other-value g SameBoard n = refl
 
-pub put-done : (n : ℕ) (x : Answer) → code x ≡ 0 → Done n ≡ onValue (λ v. n) x
+-- an answer without its value, and its own value put in: it is what it was
+put-own : (n m : ℕ) (x : Answer) → (code x ≡ 0 → x ≡ Done n) → ifDone (onValue (λ v. m) x) (Done n) (onValue (λ v. m) x) ≡ x
+unfolding ifDone onValue code
+put-own n m x h =
+    byEq (code x) 0
+    (λ e. let d : x ≡ Done n = h e in rw d refl)
+    (λ z. let s : onValue (λ v. m) x ≡ x = other-value (λ v. m) x z in let f : eqb (code x) 0 ≡ false = ne-eqb (code x) 0 z in cc)
+
+-- one without a value of its own
+none-own : (x : Answer) → (code x ≡ 0 → x ≡ Done 0) → onValue (λ v. 0) x ≡ x
 unfolding onValue
-put-done n x h = by-done x (λ y. code y ≡ 0 → Done n ≡ onValue (λ v. n) y) (λ v e. refl) (λ same not e. absurd (not e)) h
-
-pub put-none : (n : ℕ) (x : Answer) → code x ≢ 0 → x ≡ onValue (λ v. n) x
-unfolding code
-put-none n x h = by-done x (λ y. code y ≢ 0 → y ≡ onValue (λ v. n) y) (λ v not. absurd (not refl)) (λ same not z. sym (same (λ v. n))) h
-
--- with its own value put in it is what it was, whatever stood there before
-put-own : (n : ℕ) (x : Answer) → (code x ≡ 0 → value x ≡ n) → onValue (λ v. n) x ≡ x
-unfolding onValue code value
-put-own n x h =
-    by-done x (λ y. (code y ≡ 0 → value y ≡ n) → onValue (λ v. n) y ≡ y) (λ v e. ap (λ (i : ℕ). Done i) (sym (e refl))) (λ same not e. same (λ v. n)) h
-
-put-twice : (n m : ℕ) (x : Answer) → onValue (λ v. n) (onValue (λ v. m) x) ≡ onValue (λ v. n) x
-unfolding onValue
-put-twice n m x =
-    by-done x (λ y. onValue (λ v. n) (onValue (λ v. m) y) ≡ onValue (λ v. n) y) (λ v. refl) (λ same not. ap (onValue (λ v. n)) (same (λ v. m)))
+none-own x h = byEq (code x) 0 (λ e. let d : x ≡ Done 0 = h e in rw d refl) (other-value (λ v. 0) x)
 
 module _ {b : ℕ} {s : List ℕ} {st : State} (on : OnBoard b s st) {a : Access} {t out : List ℕ} {o : Outcome}
     (h : Answered a t o 0 (accessBank b a (decode s)) out) where
@@ -219,17 +228,17 @@ module _ {b : ℕ} {s : List ℕ} {st : State} (on : OnBoard b s st) {a : Access
   r = accessBank b a (decode s)
 
   pub value-replied : (n : ℕ) → (code (r .answer) ≡ 0 → value (r .answer) ≡ n)
-      → Replied (call (Accessing b a) s) (record { answer = onValue (λ v. n) (o .answer); stores = o .stores }) t
+      → Replied (call (Accessing b a) s) (record { answer = ifDone (o .answer) (Done n) (o .answer); stores = o .stores }) t
   unfolding callBank callWithin
   value-replied n e =
-      ran-replied s (on .formed) (Accessing b a) {o = record { answer = onValue (λ v. n) (o .answer); stores = o .stores }} r refl (h .bytes)
-      (ap (onValue (λ v. n)) (h .answer) ∙ (put-twice n 0 (r .answer) ∙ put-own n (r .answer) e))
+      ran-replied s (on .formed) (Accessing b a) {o = record { answer = ifDone (o .answer) (Done n) (o .answer); stores = o .stores }} r refl (h .bytes)
+      (ap (λ (x : Answer). ifDone x (Done n) x) (h .answer) ∙ put-own n 0 (r .answer) (λ z. access-done-form b a (decode s) z ∙ ap Done (e z)))
       (omega (arith, h .stores)) .0
 
   -- an access without a value of its own
   module _ (rest : (fs : List Frame) → valueOf a fs ≡ 0) where
     same-answer : o .answer ≡ r .answer
-    same-answer = h .answer ∙ put-own 0 (r .answer) (λ z. access-value b a rest (decode s))
+    same-answer = h .answer ∙ none-own (r .answer) (λ z. access-done-form b a (decode s) z ∙ ap Done (access-value b a rest (decode s)))
 
     pub plain-replied : Replied (call (Accessing b a) s) o t
     unfolding callBank callWithin
@@ -241,24 +250,12 @@ pub byte-read : {p q n : ℕ} {t out : List ℕ} {o : Outcome} {r : Result} → 
 unfolding bytesSeen
 byte-read h z = sym (ap (λ (l : List ℕ). getD l 0 0) (h .read z))
 
--- what a buffer is left with: the bytes under code 0, else what it held
-unfoldable pub leftIn : Answer → List ℕ → List ℕ → List ℕ
-leftIn x bytes out = elim (eqb (code x) 0) [ true ↦ bytes | false ↦ out ]
-
-pub left-done : (x : Answer) (bytes out : List ℕ) → eqb (code x) 0 ≡ true → bytes ≡ leftIn x bytes out
-unfolding leftIn
-left-done x bytes out t = cc
-
-pub left-none : (x : Answer) (bytes out : List ℕ) → eqb (code x) 0 ≡ false → out ≡ leftIn x bytes out
-unfolding leftIn
-left-none x bytes out t = cc
-
 -- "The bytes go in the asked order into a second lent buffer, which any code but 0 leaves unchanged" (document 02, F-3)
 pub buffer-left : {b : ℕ} {s : List ℕ} {st : State} → OnBoard b s st → {cells : List ℕ} {n : ℕ} {t bytes left : List ℕ} {o : Outcome} (out : List ℕ)
     → Answered (ReadCells cells n) t o 0 (accessBank b (ReadCells cells n) (decode s)) bytes
-    → left ≡ leftIn (o .answer) bytes out
+    → left ≡ ifDone (o .answer) bytes out
     → left ≡ bufferAfter (call (Accessing b (ReadCells cells n)) s) out
-unfolding leftIn bufferAfter bytesSeen replyOf callBank callWithin valueOf
+unfolding ifDone bufferAfter bytesSeen replyOf callBank callWithin valueOf
 buffer-left {b} {s} on {cells} {n} {t} {bytes} {left} {o} out h l =
     let a : Access = ReadCells cells n in
     let r : Result = accessBank b a (decode s) in
@@ -267,9 +264,9 @@ buffer-left {b} {s} on {cells} {n} {t} {bytes} {left} {o} out h l =
     byBool (eqb (code (r .answer)) 0)
     (λ z.
     let given : bytes ≡ r .given = h .read (eqb-true (code (r .answer)) 0 z) in
-    let taken : left ≡ bytes = l ∙ sym (left-done (o .answer) bytes out (ap (λ (x : Answer). eqb (code x) 0) same ∙ z)) in
+    let taken : left ≡ bytes = l ∙ sym (when-done (o .answer) bytes out (ap (λ (x : Answer). eqb (code x) 0) same ∙ z)) in
     cc)
-    (λ z. let kept : left ≡ out = l ∙ sym (left-none (o .answer) bytes out (ap (λ (x : Answer). eqb (code x) 0) same ∙ z)) in cc)
+    (λ z. let kept : left ≡ out = l ∙ sym (when-other (o .answer) bytes out (ap (λ (x : Answer). eqb (code x) 0) same ∙ z)) in cc)
 
 -- a refusal leaves it too
 pub buffer-kept : {y : Reply} (x : Answer) (s out : List ℕ) → y ≡ refused x s → code x ≢ 0 → out ≡ bufferAfter y out

@@ -5,4 +5,5 @@ pub mod Cells
 pub mod Restarts
 pub mod Making
 pub mod Converting
+pub mod Comparing
 pub mod OneMemory

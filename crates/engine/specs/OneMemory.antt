@@ -1,5 +1,5 @@
--- Demand 3 of the code: along any list of calls, whatever outcomes and bytes the contracts allow keep the claim. Premise and claim are said of what a
--- caller sees (History/Statement), the outcomes, the bytes left and the second buffers; the definitions' own reply stands only in the contracts.
+-- Demand 3 and F-7's claim of the code: along any list of calls, whatever outcomes and bytes the contracts allow keep the claim. Premise and claim are said
+-- of what a caller sees (History/Statement), the outcomes, the bytes left and the second buffers; the definitions' own reply stands only in the contracts.
 -- Assumes nothing.
 use mathlib.Core.Path.{_≡_, refl, sym, ap, subst, _∙_}
 use Prim.Native.Nat.{ℕ}
@@ -18,13 +18,15 @@ use Rattle.model.specs.Definitions.WellFormed.{SizesOk}
 use Rattle.model.specs.Definitions.Check.{wellFormed, sizesAllowed}
 use Rattle.model.specs.Definitions.Codec.{decode}
 use Rattle.model.specs.Definitions.Answers.{code}
-use Rattle.model.specs.Definitions.Calls.{Call, callBank, Reply, refused, replyOf, call, bufferAfter, make}
+use Rattle.model.specs.Definitions.Calls.{Call, Reply, refused, replyOf, call, bufferAfter, make}
 use Rattle.model.specs.Laws.Codes.Ends.{not-done-gives}
 use Rattle.model.specs.Laws.Logic.{cases, byBool}
 use Rattle.model.specs.Laws.Fresh.{sizes-say}
 use Rattle.model.specs.History.Statement.{Observed, made, begin, runOf, PremisesSeen, ClaimsSeen, Premises, Claims}
 use Rattle.model.specs.History.OnBytes.{make-begins}
+use Rattle.model.specs.History.LogsStatement.{SparedYieldNoPlace}
 use Rattle.history.specs.Theorem.{one-memory}
+use Rattle.history.specs.LogsAgree.{spared-yield-no-place}
 use Rattle.engine.specs.Contracts.{Replied}
 
 -- what a caller reads in a second buffer: its bytes after a call answered 0
@@ -92,7 +94,7 @@ seen-own (x ∷ xs) s ok =
     rw (← ok .0 .0, ← ok .0 .1, ← given-seen (call (x .asked) s) (x .given) (reply-gives (x .asked) s) (ok .1))
     (ap (λ (l : List Observed). x ∷ l) (seen-own xs (x .bytes) (ok .2)))
 
--- ==== the theorem
+-- ==== the theorems
 
 -- a make answered 0 had sizes in range
 make-sizes : (n p : ℕ) (s : List ℕ) (v : ℕ) → make n p s .outcome .answer ≡ Done v → SizesOk n p
@@ -104,16 +106,30 @@ make-sizes n p s v h =
     (λ _ e. let z : _≡_ {A = ℕ} 0 1 = cc in absurd (omega arith))
     h
 
--- From a make answered 0, on any bytes, and for any calls behind it: if the premise holds of what is seen, so does the claim, after every call.
-pub one-memory-seen : (n p : ℕ) (s₀ s : List ℕ) (o : Outcome) (v : ℕ) → Replied (make n p s₀) o s → o .answer ≡ Done v
-    → (xs : List Observed) → Allowed s xs → PremisesSeen xs (made s) → ClaimsSeen xs (made s)
-unfolding made Premises Claims
-one-memory-seen n p s₀ s o v r d xs ok h =
-    let e : make n p s₀ .outcome .answer ≡ Done v = rw (r .0) at d in
-    let b : s ≡ begin n p .bytes = r .1 ∙ make-begins n p s₀ v e in
-    let k : made s ≡ begin n p = ap made b in
-    let run : xs ≡ runOf (calls xs) s = seen-own xs s ok in
-    let premises : Premises (calls xs) (made s) = subst (λ ys. PremisesSeen ys (made s)) run h in
-    let claims : Claims (calls xs) (made s) =
-    subst (Claims (calls xs)) (sym k) (one-memory n p (make-sizes n p s₀ v e) (calls xs) (subst (Premises (calls xs)) k premises)) in
-    subst (λ ys. ClaimsSeen ys (made s)) (sym run) claims
+-- From a make answered 0, on any bytes, and for any calls behind it.
+module _ (n p : ℕ) (s₀ s : List ℕ) (o : Outcome) (v : ℕ) (r : Replied (make n p s₀) o s) (d : o .answer ≡ Done v)
+    (xs : List Observed) (ok : Allowed s xs) where
+  made-so : make n p s₀ .outcome .answer ≡ Done v
+  made-so = rw (r .0) at d
+
+  begun : s ≡ begin n p .bytes
+  begun = r .1 ∙ make-begins n p s₀ v made-so
+
+  run : xs ≡ runOf (calls xs) s
+  run = seen-own xs s ok
+
+  -- Demand 3: if the premise holds of what is seen, so does the claim, after every call.
+  pub one-memory-seen : PremisesSeen xs (made s) → ClaimsSeen xs (made s)
+  unfolding made Premises Claims
+  one-memory-seen h =
+      let k : made s ≡ begin n p = ap made begun in
+      let premises : Premises (calls xs) (made s) = subst (λ ys. PremisesSeen ys (made s)) run h in
+      let claims : Claims (calls xs) (made s) =
+      subst (Claims (calls xs)) (sym k) (one-memory n p (make-sizes n p s₀ v made-so) (calls xs) (subst (Premises (calls xs)) k premises)) in
+      subst (λ ys. ClaimsSeen ys (made s)) (sym run) claims
+
+  -- F-7: two boards that were spared so far yield no place.
+  pub no-place-seen : SparedYieldNoPlace n s xs
+  no-place-seen =
+      subst (λ ys. SparedYieldNoPlace n s ys) (sym run)
+      (subst (λ (t : List ℕ). SparedYieldNoPlace n t (runOf (calls xs) t)) (sym begun) (spared-yield-no-place n p (make-sizes n p s₀ v made-so) (calls xs)))

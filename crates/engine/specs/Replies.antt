@@ -18,7 +18,8 @@ use Rattle.model.specs.Definitions.WellFormed.{isUp, isDown}
 use Rattle.model.specs.Definitions.Check.{wellFormed}
 use Rattle.model.specs.Definitions.Steps.{Run, start, step, fuseBoard, checkpoint, Read, Write, ReadCells}
 use Rattle.model.specs.Definitions.Calls.{Result, firstOf, unless, finished, accessInRange, refusalsWithin, accessWithin, checkpointBank, fuseBank}
-use Rattle.model.specs.Definitions.Calls.{restartBank, Call, Accessing, Checkpointing, Fusing, Restarting, callBank, Reply, refused, replyOf, call}
+use Rattle.model.specs.Definitions.Calls.{restartBank, compareBank, Call, Accessing, Checkpointing, Fusing, Restarting, Comparing, callBank, Reply, refused}
+use Rattle.model.specs.Definitions.Calls.{replyOf, call}
 use Rattle.model.specs.Laws.CodecBankBack.{encode-decode}
 use Rattle.model.specs.Laws.Codes.Statement.{boardNamed}
 use Rattle.model.specs.Laws.FewStores.{call-few}
@@ -122,13 +123,14 @@ module _ (s : List ℕ) (v : wellFormed s ≡ true) where
 -- "2: board ≥ N", of any call
 out-of-bank : (c : Call) (k : Bank) → ltb (boardNamed c) (length (k .boards)) ≡ false
     → callBank c k ≡ record { answer = OutOfRange; run = start k; given = [] }
-unfolding boardNamed callBank accessInRange refusalsWithin accessWithin checkpointBank fuseBank restartBank unless firstOf
+unfolding boardNamed callBank accessInRange refusalsWithin accessWithin checkpointBank fuseBank restartBank compareBank unless firstOf
 out-of-bank (Accessing b (Read p o)) k h = cc
 out-of-bank (Accessing b (Write p o v)) k h = cc
 out-of-bank (Accessing b (ReadCells cells n)) k h = cc
 out-of-bank (Checkpointing b) k h = cc
 out-of-bank (Fusing b n) k h = cc
 out-of-bank (Restarting b) k h = cc
+out-of-bank (Comparing b c) k h = cc
 
 -- what every call of a board finds first: where that refuses it, so does the call
 pub found-refused : (c : Call) (s : List ℕ) {b : ℕ} → boardNamed c ≡ b → {e : Finding} {a : Refusal} → e ≡ findingOf b s → e ≡ Refused a

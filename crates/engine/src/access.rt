@@ -27,6 +27,7 @@ ghost use mathlib.Core.Bool.{true, false};
 ghost use Prim.Native.Nat.{_≤_, _<_};
 ghost use lib.ListN.{length};
 ghost use lib.Dec.{eqb};
+ghost use Rattle.types.specs.declared.Answer.the-variants.{Done};
 ghost use Rattle.model.specs.Definitions.Layout.{byteValues};
 ghost use Rattle.model.specs.Definitions.Answers.{code};
 ghost use Rattle.model.specs.Definitions.Bank.{boardAt};
@@ -34,14 +35,13 @@ ghost use Rattle.model.specs.Definitions.Codec.{decode};
 ghost use Rattle.model.specs.Definitions.Steps.{Access, Read, Write, ReadCells};
 ghost use Rattle.model.specs.Definitions.Calls.{accessInRange, wrongCells, accessBank, call, bufferAfter, Accessing};
 ghost use Rattle.model.specs.Contracts.{mostStores};
-ghost use Rattle.model.specs.Likeness.{onValue};
 ghost use Rattle.accesses.specs.Asks.{Asks, InRange};
 ghost use Rattle.accesses.specs.Results.{Answered};
 ghost use Rattle.checks.specs.Admission.{numbersFit};
 ghost use Rattle.checks.specs.Findings.{OnBoard};
 ghost use Rattle.engine.specs.Contracts.{Replied};
 ghost use Rattle.engine.specs.Admissions.{WellAsked, readOrWrite};
-ghost use Rattle.engine.specs.Cells.{leftIn};
+ghost use Rattle.engine.specs.Cells.{ifDone};
 
 // An access whose numbers fit: codes 3, 4 and 5, then the access. The bytes of its cells are in `out` when it is done.
 fn access_board(
@@ -84,7 +84,7 @@ fn is_done(answer: Answer) -> bool
 
 // "the byte read", as the answer's value
 fn with_value(outcome: Outcome, byte: u8) -> Outcome
-    ensures { λ r. ⌜ r ≡ record { answer = onValue (λ v. byte) (outcome .answer); stores = outcome .stores } ⌝ }
+    ensures { λ r. ⌜ r ≡ record { answer = ifDone (outcome .answer) (Done byte) (outcome .answer); stores = outcome .stores } ⌝ }
 {
     let answer = outcome.answer;
     if is_done(answer) {
@@ -196,7 +196,7 @@ pub fn write(bank: &mut [u8], board: u32, page: u32, offset: u32, value: u32) ->
 // The bytes read, into the second buffer, "which any code but 0 leaves unchanged" (document 02, F-3).
 fn give(answer: Answer, bytes: &[u8], out: &mut [u8])
     requires { ⌜ length (now out) ≡ length (now bytes) ⌝ }
-    ensures { λ _. ⌜ now (out .exit) ≡ leftIn answer (now (bytes .entry)) (now (out .entry)) ⌝ }
+    ensures { λ _. ⌜ now (out .exit) ≡ ifDone answer (now (bytes .entry)) (now (out .entry)) ⌝ }
 {
     if is_done(answer) {
         let n = out.len();

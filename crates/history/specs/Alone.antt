@@ -1,24 +1,25 @@
 -- From a restart on, a replay's answers and frames depend on its board's selected area, its directory entries at the end, its fuse and its accesses alone,
 -- whatever the other boards do meanwhile: the claim of AloneStatement. Assumes nothing.
 use mathlib.Core.Path.{_≡_, refl, sym, ap, ap₂, subst, _∙_}
+use mathlib.Core.Logic.{_≢_}
 use Prim.Native.Nat.{ℕ, zero, suc, _+_, _≤_}
 use native.Mathlib.Omega.{arith}
 use mathlib.Core.Bool.{true, false}
 use mathlib.Core.Option.{Option, none, some}
 use mathlib.Core.List.{List, [], _∷_}
 use lib.ListN.{length}
-use lib.Dec.{eqb}
 use borrow.Author.Tests.{eqb-true, eqb-false}
 use Rattle.words.specs.Bytes.{Each}
 use Rattle.types.specs.declared.Frame.{Frame}
 use Rattle.types.specs.declared.State.{State}
-use Rattle.types.specs.declared.State.the-variants.{Down}
+use Rattle.types.specs.declared.State.the-variants.{Up, Down}
 use Rattle.types.specs.declared.Answer.{Answer}
 use Rattle.model.specs.Definitions.Bank.{Board, Bank, boardAt}
 use Rattle.model.specs.Definitions.WellFormed.{IsEmpty, Blank, PlaceOk, isReplaying, WellFormed}
 use Rattle.model.specs.Definitions.Steps.{Run, start, Access}
-use Rattle.model.specs.Definitions.Calls.{Call, Accessing, Checkpointing, Fusing, Restarting, callBank}
-use Rattle.model.specs.Laws.Logic.{byBool}
+use Rattle.model.specs.Definitions.Calls.{Result, Call, Accessing, Checkpointing, Fusing, Restarting, Comparing, callBank}
+use Rattle.model.specs.Laws.Logic.{byBool, clash}
+use Rattle.model.specs.Laws.Codes.Cases.{compare-cases}
 use Rattle.model.specs.Laws.Lists.{each-head, each-tail}
 use Rattle.model.specs.Laws.Boards.{boardAt-out, byBoard}
 use Rattle.model.specs.Laws.Runs.{lost-not, SameSizes, sizes-same}
@@ -28,7 +29,8 @@ use Rattle.model.specs.Laws.Keeps.Clauses.{up-not-replaying, fits, isReplaying-
 use Rattle.model.specs.Contracts.{Fits}
 use Rattle.model.specs.History.Statement.{accessOf}
 use Rattle.history.specs.Bystanders.{call-leaves}
-use Rattle.model.specs.History.AloneStatement.{Heard, heardOf, liveIn, heard, heardFrom, isAccess, endBank, endFrom, callsOf, SameOwned, SameStart, SameReplay}
+use Rattle.model.specs.History.AloneStatement.{Heard, heardOf, isCallOf, liveIn, heard, heardFrom, isAccess, endBank, endFrom, callsOf, SameOwned, SameStart}
+use Rattle.model.specs.History.AloneStatement.{SameReplay}
 use Rattle.history.specs.AloneBoards.{Same, same, same-seen}
 use Rattle.history.specs.AloneRuns.{sizes-both, SameAt, SameRun}
 use Rattle.history.specs.AloneCalls.{SameResult, SameAccess, answered, goesOn, access-same, checkpoint-refused, restart-refused, fuse-same}
@@ -47,15 +49,36 @@ unfolding liveIn accessOf callBank
 accessing-same b a k j (answered m n t) = gives m n t
 accessing-same b a k j (goesOn r s m n t) = goes r s m n t
 
-own-same : (c : Call) (k j : Bank) → SameAt (boardNamed c) k j → WellFormed k → WellFormed j → isReplaying (boardAt k (boardNamed c) .state) ≡ true
+own-same : (c : Call) (k j : Bank) → isCallOf (boardNamed c) c ≡ true → SameAt (boardNamed c) k j → WellFormed k → WellFormed j
+    → isReplaying (boardAt k (boardNamed c) .state) ≡ true
     → (isAccess (accessOf c) ≡ true → isReplaying (boardAt (callBank c k .run .bank) (boardNamed c) .state) ≡ false
     → isReplaying (boardAt (callBank c j .run .bank) (boardNamed c) .state) ≡ false → SameOwned (boardNamed c) k j)
     → SameCall (boardNamed c) c k j
-unfolding boardNamed liveIn accessOf isAccess callBank
-own-same (Accessing b a) k j s w v t h = accessing-same b a k j (access-same b a k j s w v t (h refl))
-own-same (Checkpointing b) k j s w v t h = gives refl refl (checkpoint-refused b k j s t)
-own-same (Fusing b n) k j s w v t h = gives refl refl (fuse-same b k j s n)
-own-same (Restarting b) k j s w v t h = gives refl refl (restart-refused b k j s t)
+unfolding boardNamed isCallOf liveIn accessOf isAccess callBank
+own-same (Accessing b a) k j i s w v t h = accessing-same b a k j (access-same b a k j s w v t (h refl))
+own-same (Checkpointing b) k j i s w v t h = gives refl refl (checkpoint-refused b k j s t)
+own-same (Fusing b n) k j i s w v t h = gives refl refl (fuse-same b k j s n)
+own-same (Restarting b) k j i s w v t h = gives refl refl (restart-refused b k j s t)
+own-same (Comparing b c) k j i s w v t h = clash i refl
+
+call-of : (b : ℕ) (c : Call) → isCallOf b c ≡ true → boardNamed c ≡ b
+unfolding isCallOf boardNamed
+call-of b (Accessing d a) e = eqb-true d b e
+call-of b (Checkpointing d) e = eqb-true d b e
+call-of b (Fusing d n) e = eqb-true d b e
+call-of b (Restarting d) e = eqb-true d b e
+call-of b (Comparing d c) e = clash e refl
+
+-- whatever is no call of a board that isn't up leaves it
+other-leaves : (b : ℕ) (c : Call) (k : Bank) → WellFormed k → isCallOf b c ≡ false → boardAt k b .state ≢ Up
+    → boardAt (callBank c k .run .bank) b ≡ boardAt k b
+unfolding isCallOf boardNamed callBank start
+other-leaves b (Accessing d a) k w e i = call-leaves (Accessing d a) b k w (eqb-false d b e) i
+other-leaves b (Checkpointing d) k w e i = call-leaves (Checkpointing d) b k w (eqb-false d b e) i
+other-leaves b (Fusing d n) k w e i = call-leaves (Fusing d n) b k w (eqb-false d b e) i
+other-leaves b (Restarting d) k w e i = call-leaves (Restarting d) b k w (eqb-false d b e) i
+other-leaves b (Comparing d c) k w e i =
+    compare-cases (λ (t : Result). boardAt (t .run .bank) b ≡ boardAt k b) d c k (λ x h i. refl) (λ i e. refl)
 
 -- ==== lists of calls, as equations
 
@@ -72,15 +95,15 @@ module _ (b : ℕ) where
   end-idle (c ∷ cs) k t = cc
 
   module _ (c : Call) (cs : List Call) (k : Bank) (t : isReplaying (boardAt k b .state) ≡ true) where
-    heard-other : eqb (boardNamed c) b ≡ false → heard b (c ∷ cs) k ≡ heard b cs (callBank c k .run .bank)
+    heard-other : isCallOf b c ≡ false → heard b (c ∷ cs) k ≡ heard b cs (callBank c k .run .bank)
     unfolding heard
     heard-other n = cc
 
-    heard-live : eqb (boardNamed c) b ≡ true → (r : Run) → liveIn (accessOf c) k ≡ some r → heard b (c ∷ cs) k ≡ heardOf b none [] r ∷ []
+    heard-live : isCallOf b c ≡ true → (r : Run) → liveIn (accessOf c) k ≡ some r → heard b (c ∷ cs) k ≡ heardOf b none [] r ∷ []
     unfolding heard
     heard-live n r e = cc
 
-    heard-given : eqb (boardNamed c) b ≡ true → liveIn (accessOf c) k ≡ none
+    heard-given : isCallOf b c ≡ true → liveIn (accessOf c) k ≡ none
         → heard b (c ∷ cs) k ≡ heardOf b (some (callBank c k .answer)) (callBank c k .given) (callBank c k .run) ∷ heard b cs (callBank c k .run .bank)
     unfolding heard
     heard-given n e = cc
@@ -107,7 +130,7 @@ module _ (b : ℕ) where
   heard-none (c ∷ cs) k e =
       byBool (isReplaying (boardAt k b .state))
       (λ t.
-      byBool (eqb (boardNamed c) b)
+      byBool (isCallOf b c)
       (λ m. let z : _≡_ {A = ℕ} 0 1 = cc in absurd (omega arith))
       (λ m. heard-other c cs k t m ∙ heard-none cs (callBank c k .run .bank) (cc)))
       (λ t. heard-idle (c ∷ cs) k t)
@@ -133,13 +156,13 @@ module _ (b : ℕ) where
   passed-none : (k : Bank) → Passed k k
   passed-none k = record { formed = λ w. w; sizes = sizes-same k; board = refl }
 
-  passed : (c : Call) (k : Bank) → WellFormed k → isReplaying (boardAt k b .state) ≡ true → eqb (boardNamed c) b ≡ false → Passed k (callBank c k .run .bank)
+  passed : (c : Call) (k : Bank) → WellFormed k → isReplaying (boardAt k b .state) ≡ true → isCallOf b c ≡ false → Passed k (callBank c k .run .bank)
   unfolding start
   passed c k w t m =
       record {
         formed = call-keeps c k;
         sizes = moves-follow (call-moves c k w) .sizes;
-        board = call-leaves c b k w (eqb-false (boardNamed c) b m) (λ u. up-not-replaying u (isReplaying-replaying (boardAt k b .state) t));
+        board = other-leaves b c k w m (λ u. up-not-replaying u (isReplaying-replaying (boardAt k b .state) t));
       }
 
   beside-passed : {k k' j j' : Bank} → Beside k j → Passed k k' → Passed j j' → Beside k' j'
@@ -154,11 +177,11 @@ module _ (b : ℕ) where
   passed-replays : (k k' : Bank) → Passed k k' → isReplaying (boardAt k b .state) ≡ true → isReplaying (boardAt k' b .state) ≡ true
   passed-replays k k' p t = rw (p .board) t
 
-  callsOf-own : (c : Call) (cs : List Call) → eqb (boardNamed c) b ≡ true → callsOf b (c ∷ cs) ≡ c ∷ callsOf b cs
+  callsOf-own : (c : Call) (cs : List Call) → isCallOf b c ≡ true → callsOf b (c ∷ cs) ≡ c ∷ callsOf b cs
   unfolding callsOf
   callsOf-own c cs x = cc
 
-  callsOf-other : (c : Call) (cs : List Call) → eqb (boardNamed c) b ≡ false → callsOf b (c ∷ cs) ≡ callsOf b cs
+  callsOf-other : (c : Call) (cs : List Call) → isCallOf b c ≡ false → callsOf b (c ∷ cs) ≡ callsOf b cs
   unfolding callsOf
   callsOf-other c cs x = cc
 
@@ -171,25 +194,26 @@ module _ (b : ℕ) where
   heardOf-same a given r s h = cc (h .stores, same-seen (h .bank .board))
 
   -- a call of the board in both banks, and what follows it
-  own-call : (c : Call) (k j : Bank) → Beside k j → isReplaying (boardAt k b .state) ≡ true → eqb (boardNamed c) b ≡ true
+  own-call : (c : Call) (k j : Bank) → Beside k j → isReplaying (boardAt k b .state) ≡ true → isCallOf b c ≡ true
       → (isAccess (accessOf c) ≡ true → isReplaying (boardAt (callBank c k .run .bank) b .state) ≡ false
       → isReplaying (boardAt (callBank c j .run .bank) b .state) ≡ false → SameOwned b k j)
       → SameCall b c k j
   own-call c k j h t x o =
       subst
       (λ (d : ℕ).
-      SameAt d k j → isReplaying (boardAt k d .state) ≡ true
+      isCallOf d c ≡ true → SameAt d k j → isReplaying (boardAt k d .state) ≡ true
       → (isAccess (accessOf c) ≡ true → isReplaying (boardAt (callBank c k .run .bank) d .state) ≡ false
       → isReplaying (boardAt (callBank c j .run .bank) d .state) ≡ false → SameOwned d k j)
       → SameCall d c k j)
-      (eqb-true (boardNamed c) b x)
-      (λ s u w. own-same c k j s (h .left) (h .right) u w)
+      (call-of b c x)
+      (λ i s u w. own-same c k j i s (h .left) (h .right) u w)
+      x
       (h .at)
       t
       o
 
   module _ (c : Call) (cs ds : List Call) (k j : Bank) (h : Beside k j) (t : isReplaying (boardAt k b .state) ≡ true)
-      (u : isReplaying (boardAt j b .state) ≡ true) (x : eqb (boardNamed c) b ≡ true) where
+      (u : isReplaying (boardAt j b .state) ≡ true) (x : isCallOf b c ≡ true) where
     after-own : SameResult b (callBank c k) (callBank c j) → Beside (callBank c k .run .bank) (callBank c j .run .bank)
     after-own s = record { left = call-keeps c k (h .left); right = call-keeps c j (h .right); at = s .run .bank }
 
@@ -214,9 +238,9 @@ module _ (b : ℕ) where
       byBool (isReplaying (boardAt k b .state))
       (λ t.
       let u : isReplaying (boardAt j b .state) ≡ true = ap isReplaying (sym (h .at .board .state)) ∙ t in
-      byBool (eqb (boardNamed c) b)
+      byBool (isCallOf b c)
       (λ x.
-      byBool (eqb (boardNamed d) b)
+      byBool (isCallOf b d)
       (λ y.
       let heads : c ∷ callsOf b cs ≡ d ∷ callsOf b ds = sym (callsOf-own c cs x) ∙ e ∙ callsOf-own d ds y in
       let same : d ≡ c = cc in

@@ -195,7 +195,7 @@ move-awake s _ n (takesLast a e rep same over) i = up-not-replaying (i .going n)
 move-awake s _ n (settles l rep over) i = absurd (i .going n)
 
 -- a call of an up board leaves it up or down
-up-moves : {d : ℕ} {Again : Access → Type 0} {χ : Phase} {r s : Run} → Moves d Again Begun r χ s → boardAt (r .bank) d .state ≡ Up
+pub up-moves : {d : ℕ} {Again : Access → Type 0} {χ : Phase} {r s : Run} → Moves d Again Begun r χ s → boardAt (r .bank) d .state ≡ Up
     → isReplaying (boardAt (s .bank) d .state) ≡ false
 unfolding UpIn
 up-moves {d} t u =

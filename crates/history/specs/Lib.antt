@@ -37,3 +37,5 @@ pub mod AloneBoards
 pub mod AloneRuns
 pub mod AloneCalls
 pub mod Alone
+pub mod LogsTraded
+pub mod LogsAgree

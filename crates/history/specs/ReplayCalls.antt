@@ -21,7 +21,7 @@ use Rattle.model.specs.Definitions.Steps.{Run, start, step, poweredOff, withFus
 use Rattle.model.specs.Definitions.Replay.{loaded, usedUp, tookDue, replayOver, settled, endReplay, endIfOver, replayed, recoveryPoint}
 use Rattle.model.specs.Definitions.Answers.{code}
 use Rattle.model.specs.Definitions.Calls.{Result, firstOf, unless, finished, refusalsWithin, accessRefusals, accessWithin, checkpointBank, fuseBank}
-use Rattle.model.specs.Definitions.Calls.{restartBank, Call, Accessing, Checkpointing, Fusing, Restarting, callBank}
+use Rattle.model.specs.Definitions.Calls.{restartBank, Call, Accessing, Checkpointing, Fusing, Restarting, Comparing, callBank}
 use Rattle.model.specs.Laws.Logic.{byBool, byOption, byEq, casesOption, clash, and-left}
 use Rattle.model.specs.Laws.Codes.Statement.{boardNamed, Due, NeedsGots}
 use Rattle.model.specs.Laws.Keeps.Clauses.{up-not-replaying, down-not-replaying, replaying-place, fits, isUp-up, isDown-down}
@@ -31,6 +31,7 @@ use Rattle.model.specs.Definitions.Layout.{noFuse}
 use Rattle.model.specs.Laws.Runs.{endReplay-self, finished-run}
 use Rattle.model.specs.Laws.Runs.Stores.{endReplay-changed}
 use Rattle.model.specs.Laws.Codes.Order.{never, fails}
+use Rattle.model.specs.Laws.Codes.Cases.{compare-cases}
 use Rattle.model.specs.Laws.Codes.Losses.{loses-power}
 use Rattle.model.specs.Laws.Codes.Tests.{replay-other, LastDue, last-due}
 use Rattle.model.specs.History.Statement.{accessOf}
@@ -68,6 +69,7 @@ other-access b (Accessing d a) n = ne-eqb d b n
 other-access b (Checkpointing d) n = refl
 other-access b (Fusing d m) n = refl
 other-access b (Restarting d) n = refl
+other-access b (Comparing d e) n = refl
 
 -- ==== what a call does
 
@@ -270,6 +272,12 @@ module _ (b : ℕ) (k : Bank) (rep : boardAt k b .state ≡ Replaying) where
       let two : NoneOf (not (isDown (boardAt k b .state))) [] = firstOf-none _ _ _ (firstOf-none _ _ _ e .rest) in
       down-not-replaying (isDown-down (boardAt k b .state) (not-false _ (two .here))) rep))
 
+  compare-after : (c : ℕ) → After b (Comparing b c) k
+  unfolding callBank accessOf isAccessOf start
+  compare-after c =
+      plain-same b (Comparing b c) k rep refl
+      (compare-cases (λ (t : Result). Unmoved b k (t .run .bank)) b c k (λ x h i. stays) (λ i d. stays))
+
   fuseBoard-leaves : (n : ℕ) → b < length (k .boards) → Unmoved b k (fuseBoard b n k) ⊎ (boardAt (fuseBoard b n k) b .state ≡ Down)
   unfolding fuseBoard withFuse poweredOff
   fuseBoard-leaves zero l = inr (ap (λ (y : Board). y .state) (boardAt-powerOff-same b k l))
@@ -296,6 +304,7 @@ own-after (Accessing b a) k w h rep = access-after b a k w h rep
 own-after (Checkpointing b) k w h rep = checkpoint-after b k rep
 own-after (Fusing b n) k w h rep = fuse-after b k rep n
 own-after (Restarting b) k w h rep = restart-after b k rep
+own-after (Comparing b c) k w h rep = compare-after b k rep c
 
 pub call-after : (b : ℕ) (c : Call) (k : Bank) → WellFormed k → Counted k → boardAt k b .state ≡ Replaying → After b c k
 call-after b c k w h rep =

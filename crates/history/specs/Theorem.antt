@@ -10,7 +10,7 @@ use Rattle.model.specs.Definitions.Bank.{Bank, boardAt, fresh}
 use Rattle.model.specs.Definitions.WellFormed.{WellFormed, SizesOk}
 use Rattle.model.specs.Definitions.Steps.{Access}
 use Rattle.model.specs.Definitions.Replay.{recoveryPoint}
-use Rattle.model.specs.Definitions.Calls.{Call, Accessing, Checkpointing, Fusing, Restarting, callBank, replyOf}
+use Rattle.model.specs.Definitions.Calls.{Call, Accessing, Checkpointing, Fusing, Restarting, Comparing, callBank, replyOf}
 use Rattle.model.specs.History.Statement.{HistoryEntry, History, noHistory, zeroMemory, OneMemory, begin, accessOf, doneEvent, eventOf, bytesSeen, nextEntry}
 use Rattle.model.specs.History.Statement.{after, Premise, RepeatAgrees, GrantsStand, Claim, Premises, Claims, afterSeen, PremiseSeen, RepeatSeen, PremisesSeen}
 use Rattle.model.specs.History.Statement.{ClaimsSeen, runOf}
@@ -36,6 +36,7 @@ repeats-agree (Accessing d x) k q s b a v e z f n =
 repeats-agree (Checkpointing d) k q s b a v e z f n = let y : _≡_ {A = ℕ} 0 1 = cc in absurd (omega arith)
 repeats-agree (Fusing d m) k q s b a v e z f n = let y : _≡_ {A = ℕ} 0 1 = cc in absurd (omega arith)
 repeats-agree (Restarting d) k q s b a v e z f n = let y : _≡_ {A = ℕ} 0 1 = cc in absurd (omega arith)
+repeats-agree (Comparing d m) k q s b a v e z f n = let y : _≡_ {A = ℕ} 0 1 = cc in absurd (omega arith)
 
 -- ---- one call, on bytes
 

@@ -6,6 +6,7 @@ pub mod Conversions
 pub mod Cells
 pub mod Holders
 pub mod Peers
+pub mod Logs
 pub mod Worked
 pub mod Running
 pub mod Computed

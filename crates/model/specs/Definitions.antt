@@ -1,4 +1,4 @@
--- Document 01, with document 02's F-1 to F-6, as definitions, in its order, and its stores on one board by itself. No proof stands
+-- Document 01, with document 02's F-1 to F-7, as definitions, in its order, and its stores on one board by itself. No proof stands
 -- here: what guards these definitions is under Laws and Cases.
 pub mod Parts
 pub mod Layout
@@ -10,5 +10,6 @@ pub mod Steps
 pub mod BoardRuns
 pub mod Replay
 pub mod Answers
+pub mod Logs
 pub mod Calls
 pub mod Older

@@ -12,3 +12,4 @@ pub mod ConversionStatement
 pub mod CellsStatement
 pub mod ServedStatement
 pub mod PeersStatement
+pub mod LogsStatement

@@ -26,11 +26,14 @@ pub mod Moves
 pub mod Codes
 pub mod CellsRead
 pub mod Logged
+pub mod LogPages
 pub mod Served
 pub mod Refusals
 pub mod FewStores
 pub mod LargestSince
+pub mod EveryBoard
 pub mod SinceBound
+pub mod LogsKept
 pub mod ZeroFuse
 pub mod BlockFields
 pub mod BlockWorking

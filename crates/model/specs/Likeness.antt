@@ -1,19 +1,21 @@
 -- When two banks are alike but for page bytes, names of boards in records, and slots that no call reads: one is the other with a function on every page byte
 -- and names that are related, and in the slots at or past a count stand any bytes, as many as one likes. Laws/Likeness proves that every move keeps banks
--- alike, and every call if the function keeps bytes bytes (code 2 tests a written value): page bytes are copied, zeroed, set and returned, names are copied,
--- and nothing else is decided by them. No law stands here. Assumes nothing.
+-- alike, and every call if the function keeps bytes bytes (code 2 tests a written value) and, for document 02's F-7, a name stands for itself alone: page
+-- bytes are copied, zeroed, set and returned, names are copied and by that call compared, and nothing else is decided by them. No law stands here. Assumes
+-- nothing.
 use mathlib.Core.Path.{_≡_, refl}
 use Prim.Native.Nat.{ℕ}
+use mathlib.Core.Bool.{Bool, true, false}
 use mathlib.Core.List.{List, [], _∷_, map}
 use Rattle.types.specs.declared.Answer.{Answer}
 use Rattle.types.specs.declared.Answer.the-variants.{Done, Malformed, OutOfRange, WrongState, CountersFull, ReplayDiffers, OwnerNotUp, LogFull, PowerLost}
-use Rattle.types.specs.declared.Answer.the-variants.{WrongCells, HasRecords}
+use Rattle.types.specs.declared.Answer.the-variants.{WrongCells, HasRecords, Compared, SameBoard}
 use Rattle.types.specs.declared.Frame.{Frame}
 use Rattle.types.specs.declared.Record.{Record}
 use Rattle.model.specs.Definitions.Parts.{each}
 use Rattle.model.specs.Definitions.Bank.{Log, Area, Working, Stable, Board, Bank, boardOver}
 use Rattle.model.specs.Definitions.Steps.{Run, Access, Read, Write, ReadCells}
-use Rattle.model.specs.Definitions.Calls.{Result, Call, Accessing, Checkpointing, Fusing, Restarting}
+use Rattle.model.specs.Definitions.Calls.{Result, Call, Accessing, Checkpointing, Fusing, Restarting, Comparing}
 use Rattle.model.specs.Moves.{Move, NoteShown, NoteGot, StoreRecord, StoreFrame, StoreHead, StoreSelector, GiveCopy, PassOwnership, DropCopies, Perform}
 use Rattle.model.specs.Moves.{LosePower, SetFuse, Load, Repeat, TakeLast, Settle}
 
@@ -122,6 +124,15 @@ mappedCall f (Accessing b a) = Accessing b (mappedAccess f a)
 mappedCall f (Checkpointing b) = Checkpointing b
 mappedCall f (Fusing b n) = Fusing b n
 mappedCall f (Restarting b) = Restarting b
+mappedCall f (Comparing b c) = Comparing b c
+
+-- whether a call is decided by the names in records: that of document 02's F-7
+unfoldable pub readsNames : Call → Bool
+readsNames (Accessing b a) = false
+readsNames (Checkpointing b) = false
+readsNames (Fusing b n) = false
+readsNames (Restarting b) = false
+readsNames (Comparing b c) = true
 
 -- f on the value of a read; a write's value is 0
 unfoldable pub mappedValue : (ℕ → ℕ) → Access → ℕ → ℕ
@@ -129,14 +140,15 @@ mappedValue f (Read p o) v = f v
 mappedValue f (Write p o w) v = v
 mappedValue f (ReadCells cells outLength) v = v
 
--- f on the value of a call that reads; a restart's value is a number
+-- f on the value of a call that reads; a restart's value is a number, that of two logs compared a place
 unfoldable pub mappedCallValue : (ℕ → ℕ) → Call → ℕ → ℕ
 mappedCallValue f (Accessing b a) v = mappedValue f a v
 mappedCallValue f (Checkpointing b) v = v
 mappedCallValue f (Fusing b n) v = v
 mappedCallValue f (Restarting b) v = v
+mappedCallValue f (Comparing b c) v = v
 
--- g on the value of an answer that has one
+-- g on the value that a done call carries; a place in two logs is none (F-7)
 unfoldable pub onValue : (ℕ → ℕ) → Answer → Answer
 onValue g (Done v) = Done (g v)
 onValue g Malformed = Malformed
@@ -149,6 +161,8 @@ onValue g (LogFull b) = LogFull b
 onValue g (PowerLost b) = PowerLost b
 onValue g WrongCells = WrongCells
 onValue g HasRecords = HasRecords
+onValue g (Compared i b) = Compared i b
+onValue g SameBoard = SameBoard
 
 -- the same answer but for g on its value, runs alike, f on the bytes that are given
 pub record ResultAlike (f : Change) (g : ℕ → ℕ) (x y : Result) : Type 0 where
@@ -156,7 +170,7 @@ pub record ResultAlike (f : Change) (g : ℕ → ℕ) (x y : Result) : Type 0 wh
   pub run : RunAlike f (x .run) (y .run)
   pub given : y .given ≡ map (f .bytes) (x .given)
 
--- ---- names and slots that are never read
+-- ---- banks that differ in slots that are never read, or in names too
 
 -- the same page bytes, and names related in this way
 abbrev pub samePages : (Peers : ℕ → ℕ → Type 0) → ((b : ℕ) → Peers b b) → Change

@@ -45,7 +45,8 @@ pub enum State {
     Replaying,
 }
 
-// What a call answers, by documents 01 and 02. `Done` carries the value; the others carry who where the documents name a board.
+// What a call answers, by documents 01 and 02. `Done` carries the value, `Compared` a place in two logs and the taker, 0 and 0 if there is
+// none (F-7); the others carry who where the documents name a board.
 pub enum Answer {
     Done(u32),
     Malformed,
@@ -58,6 +59,8 @@ pub enum Answer {
     PowerLost(u8),
     WrongCells,
     HasRecords,
+    Compared(u32, u8),
+    SameBoard,
 }
 
 // An answer, and beside it the stable stores made in the call.

@@ -1,4 +1,4 @@
-//! Both engines on the same bytes: the archive by its nine C names, the second engine in place.
+//! Both engines on the same bytes: the archive by its ten C names, the second engine in place.
 //! An answer is the number that C gets: code + 2^8 who + 2^16 stores + 2^32 value.
 
 use second::adopt;
@@ -32,6 +32,7 @@ extern "C" {
     ) -> u64;
     fn bank_convert(old: *const u8, old_len: usize, new: *mut u8, new_len: usize) -> u64;
     fn bank_adopt(bank: *mut u8, len: usize) -> u64;
+    fn bank_compare_logs(bank: *mut u8, len: usize, board: u32, other: u32) -> u64;
 }
 
 /// A call of the archive that is lent the bank alone, as all are that the runner has a line for.
@@ -39,8 +40,8 @@ pub fn archive(bank: &mut [u8], line: &Line) -> u64 {
     archive_lent(bank, line, &mut [], &mut [])
 }
 
-/// A call of the archive; the slices are what it may touch. A shelf call only reads its list, which is lent for writing so
-/// that the caller may look; no other call takes a list or a second buffer.
+/// A call of the archive; the slices are what it may touch. A shelf call only reads its list, and a comparison its
+/// bank: they are lent for writing so that the caller may look. No other call takes a list or a second buffer.
 fn archive_lent(bank: &mut [u8], line: &Line, cells: &mut [u8], out: &mut [u8]) -> u64 {
     let (at, len) = (bank.as_mut_ptr(), bank.len());
     // Safe as the header asks: each pointer is valid for its length, and the borrows keep others away and apart.
@@ -62,6 +63,9 @@ fn archive_lent(bank: &mut [u8], line: &Line, cells: &mut [u8], out: &mut [u8]) 
             Line::Cut { board } => bank_fuse(at, len, board, 0),
             Line::Call(Call::Fuse { board, stores }) => bank_fuse(at, len, board, stores),
             Line::Call(Call::Restart { board }) => bank_restart(at, len, board),
+            Line::Call(Call::CompareLogs { board, other }) => {
+                bank_compare_logs(at, len, board, other)
+            }
             Line::Call(Call::Shelf { board, .. }) => {
                 let (list, second) = (cells.as_mut_ptr(), out.as_mut_ptr());
                 bank_shelf(at, len, board, list, cells.len(), second, out.len())
@@ -156,13 +160,15 @@ impl Pair {
         }
     }
 
-    /// One call of both; its packed answer if all agrees.
+    /// One call of both; its packed answer if all agrees. A comparison must leave the bank as it is.
     pub fn take(&mut self, line: &Line) -> Result<u64, Box<Difference>> {
         self.before.copy_from_slice(&self.archive);
         let mut lent = Lent::new(line, &mut self.random);
         let answer = archive_lent(&mut self.archive, line, &mut lent.cells, &mut lent.out);
         let other = self.take_second(line, &mut lent.second_out);
-        if answer == other && self.archive == self.second && lent.agrees(line) {
+        let stays = matches!(line, Line::Call(Call::CompareLogs { .. }));
+        let as_it_was = !stays || self.archive == self.before;
+        if answer == other && self.archive == self.second && as_it_was && lent.agrees(line) {
             return Ok(answer);
         }
         let bank = Buffer {

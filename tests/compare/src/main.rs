@@ -11,6 +11,7 @@ use engines::{adopt_both, convert_both, unpacked, Buffer, Difference, Pair};
 use met::{Met, Source};
 use second::asked;
 use second::calls::Answer;
+use second::comparisons::Comparison;
 use second::damage;
 use second::fault::{self, Fault, FAULTS};
 use second::fetches::Fetch;
@@ -58,7 +59,8 @@ impl Comparing {
         while self.left() > 0 {
             match self.random.below(100) {
                 0..=4 => self.script()?,
-                5..=52 => self.made()?,
+                5..=46 => self.made()?,
+                47..=52 => self.compared()?,
                 53..=64 => self.conversions()?,
                 65..=74 => self.adoptions()?,
                 _ if self.fault.trusts_its_bank() => self.made()?,
@@ -87,12 +89,13 @@ impl Comparing {
             return Ok(());
         }
         // Which case it is can be told of well-formed banks.
-        let (shelf, fetch) = match (source, line) {
-            (Source::Script | Source::Made, Line::Call(call)) => (
+        let (shelf, fetch, comparison) = match (source, line) {
+            (Source::Script | Source::Made | Source::Compared, Line::Call(call)) => (
                 Shelf::asked(&pair.archive, call),
                 Fetch::asked(&pair.archive, call),
+                Comparison::asked(&pair.archive, call),
             ),
-            _ => (None, None),
+            _ => (None, None, None),
         };
         let answer = pair.take(line)?;
         self.met.call(source, line, answer);
@@ -101,6 +104,9 @@ impl Comparing {
         }
         if let Some(shelf) = shelf {
             self.met.shelf(&shelf, answer);
+        }
+        if let Some(comparison) = comparison {
+            self.met.comparison(source, &comparison, answer);
         }
         Ok(())
     }
@@ -198,6 +204,24 @@ impl Comparing {
             self.met.misnamed(&good, &bank);
             let line = asked::any(&mut self.random, layout, 970);
             self.take(Source::Misnamed, &mut pair, &line)?;
+        }
+        Ok(())
+    }
+
+    /// A bank, reached or made by hand, whose logs are compared; then again, each time with one more record that has
+    /// another page or names another board that it may name.
+    fn compared(&mut self) -> Found {
+        let mut bank = match self.random.below(8) {
+            0 => made::reached(&mut self.random),
+            _ => made::bank::<NEWEST>(&mut self.random),
+        };
+        for _ in 0..self.random.between(2, 8) {
+            let mut pair = self.pair(Source::Compared, &bank);
+            for _ in 0..3 {
+                let call = asked::comparison(&mut self.random, Layout::of(&bank), 970);
+                self.take(Source::Compared, &mut pair, &call.into())?;
+            }
+            damage::record(&mut self.random, &mut bank);
         }
         Ok(())
     }

@@ -3,6 +3,7 @@
 use crate::engines::unpacked;
 use second::calls::Call;
 use second::cases::Cases;
+use second::comparisons::{self, Comparison};
 use second::fetches::{self, Fetch};
 use second::layout::{Layout, Log, SLOT_BOARD};
 use second::line::Line;
@@ -17,6 +18,7 @@ pub enum Source {
     Length,
     OldForm,
     Unnamed,
+    Compared,
     Making,
     Converted,
     ConvertedRecords,
@@ -30,7 +32,7 @@ pub enum Source {
     AdoptedLength,
 }
 
-const SOURCES: [&str; 18] = [
+const SOURCES: [&str; 19] = [
     "random scripts from a fresh bank",
     "well-formed banks made by hand",
     "banks with damaged bytes",
@@ -38,6 +40,7 @@ const SOURCES: [&str; 18] = [
     "banks of a wrong length",
     "old banks, not converted",
     "earlier banks, not adopted",
+    "banks whose logs are compared, one record after another changed",
     "makings in any buffer",
     "conversions of old banks without records",
     "conversions of old banks with records",
@@ -60,7 +63,7 @@ const NAMED: [&str; 3] = [
 ];
 
 /// The scripts' letters, a fuse of 0 apart from the others, and which codes each call can answer.
-const KINDS: [(&str, &[usize]); 10] = [
+const KINDS: [(&str, &[usize]); 11] = [
     ("N", &[0, 1, 2]),
     ("R", &[0, 1, 2, 3, 4, 5, 6, 7, 8]),
     ("W", &[0, 1, 2, 3, 4, 5, 6, 7, 8]),
@@ -69,16 +72,17 @@ const KINDS: [(&str, &[usize]); 10] = [
     ("F 0", &[0, 1, 2, 3]),
     ("F", &[0, 1, 2, 3]),
     ("S", &[0, 1, 2, 3]),
+    ("T", &[0, 1, 2, 12]),
     ("convert", &[0, 1, 11]),
     ("adopt", &[0, 1, 11]),
 ];
-const CODES: [usize; 11] = [0, 1, 2, 3, 4, 5, 6, 7, 8, 10, 11];
-const MOST_CODE: usize = 11;
-const CONVERT: usize = 8;
-const ADOPT: usize = 9;
+const CODES: [usize; 12] = [0, 1, 2, 3, 4, 5, 6, 7, 8, 10, 11, 12];
+const MOST_CODE: usize = 12;
+const CONVERT: usize = 9;
+const ADOPT: usize = 10;
 
-/// The two sources whose fetches are looked at.
-const FETCH_SOURCES: [&str; 2] = ["random scripts", "made by hand"];
+/// The two kinds of banks whose fetches and comparisons are looked at.
+const LOOKED_AT: [&str; 2] = ["random scripts", "made by hand"];
 
 pub struct Met {
     pub calls: u64,
@@ -86,8 +90,9 @@ pub struct Met {
     /// For each source its banks, its calls and those answered 1.
     sources: [[u64; 3]; SOURCES.len()],
     shelves: Cases<Shelf>,
-    /// In random scripts, and in banks made by hand.
+    /// In random scripts, and in banks of all other sources.
     fetches: [Cases<Fetch>; 2],
+    comparisons: [Cases<Comparison>; 2],
     /// Banks in which one record names another board, by its log and that board.
     misnamed: [[u64; NAMED.len()]; LOGS.len()],
 }
@@ -102,6 +107,7 @@ fn kind_of(line: &Line) -> usize {
         Some(Call::Fuse { stores: 0, .. }) => 5,
         Some(Call::Fuse { .. }) => 6,
         Some(Call::Restart { .. }) => 7,
+        Some(Call::CompareLogs { .. }) => 8,
     }
 }
 
@@ -113,6 +119,7 @@ impl Met {
             sources: Default::default(),
             shelves: shelves::all(),
             fetches: [fetches::cases(), fetches::cases()],
+            comparisons: [comparisons::cases(), comparisons::cases()],
             misnamed: Default::default(),
         }
     }
@@ -152,8 +159,13 @@ impl Met {
     }
 
     pub fn fetch(&mut self, source: Source, fetch: &Fetch, answer: u64) {
-        let made = matches!(source, Source::Made) as usize;
+        let made = !matches!(source, Source::Script) as usize;
         self.fetches[made].count(fetch, &unpacked(answer));
+    }
+
+    pub fn comparison(&mut self, source: Source, comparison: &Comparison, answer: u64) {
+        let made = !matches!(source, Source::Script) as usize;
+        self.comparisons[made].count(comparison, &unpacked(answer));
     }
 
     pub fn bank(&mut self, source: Source) {
@@ -197,14 +209,17 @@ impl Met {
         self.misnamed_rows()
             .for_each(|(name, count)| println!("  {name}: {count}"));
         self.shelves.print();
-        for (fetches, source) in self.fetches.iter().zip(FETCH_SOURCES) {
+        for (at, source) in LOOKED_AT.iter().enumerate() {
             print!("{source}: ");
-            fetches.print();
+            self.fetches[at].print();
+            print!("{source}: ");
+            self.comparisons[at].print();
         }
         println!("never met: {}", self.never_met());
     }
 
-    /// Calls with a code that they can answer and didn't, and cases of names, shelf calls and fetches that didn't come.
+    /// Calls with a code that they can answer and didn't, and cases of names, shelf calls, fetches and comparisons that
+    /// didn't come.
     fn never_met(&self) -> String {
         let mut missing: Vec<String> = KINDS
             .iter()
@@ -219,9 +234,10 @@ impl Met {
         let misnamed = self.misnamed_rows().filter(|(_, count)| *count == 0);
         missing.extend(misnamed.map(|(name, _)| name));
         missing.extend(self.shelves.missing().map(String::from));
-        for (fetches, source) in self.fetches.iter().zip(FETCH_SOURCES) {
-            let rows = fetches.missing().map(|row| format!("{source}: {row}"));
-            missing.extend(rows);
+        for (at, source) in LOOKED_AT.iter().enumerate() {
+            let fetches = self.fetches[at].missing();
+            let rows = fetches.chain(self.comparisons[at].missing());
+            missing.extend(rows.map(|row| format!("{source}: {row}")));
         }
         if missing.is_empty() {
             "none".into()

@@ -123,7 +123,8 @@ impl Generator {
         Some(self.read(reader, page.page).into())
     }
 
-    /// A read or shelf call as a shelf call that names more pages that somebody gives, so that several boards have to.
+    /// A read or shelf call as a shelf call that names more pages that somebody gives, so that several boards have to;
+    /// most of those that a holder has to give.
     pub fn with_given_pages(&mut self, bank: &[u8], layout: Layout, call: Call) -> Call {
         let chance = self.random.pick(&[0, 200, 500]);
         let (board, mut cells) = match &call {
@@ -136,6 +137,10 @@ impl Generator {
             _ => return call,
         };
         for page in pages(bank, layout).filter(|page| page.giver().is_some()) {
+            let chance = match page.held() && chance > 0 {
+                true => 800,
+                false => chance,
+            };
             if cells.len() < 2 * MOST_CELLS && self.random.permille(chance) {
                 cells.extend([page.page as u8, self.random.below(PAGE as u32) as u8]);
             }

@@ -58,7 +58,7 @@ pub fn any(random: &mut Random, layout: Layout, strict: u32) -> Line {
         offset,
         value,
     };
-    let call = match random.below(50) {
+    let call = match random.below(54) {
         0 => return make(random, layout),
         1 | 2 => Call::Fuse {
             board,
@@ -73,9 +73,27 @@ pub fn any(random: &mut Random, layout: Layout, strict: u32) -> Line {
         9..=12 => Call::Checkpoint { board },
         13..=25 => read,
         26..=35 => shelf(random, layout, board, strict),
+        36..=39 => comparison(random, layout, strict),
         _ => write,
     };
     Line::Call(call)
+}
+
+/// A comparison of two boards in either order, now and then the same; the only board is compared with itself.
+pub fn comparison(random: &mut Random, layout: Layout, strict: u32) -> Call {
+    let boards = layout.boards as u32;
+    let board = random.below(boards);
+    let other = (board + random.between(1, boards.max(2) - 1)) % boards;
+    let mut mostly = |number: u32| match random.permille(strict) {
+        true => number,
+        false => limit(random, layout),
+    };
+    let (board, other) = (mostly(board), mostly(other));
+    let other = match random.permille(60) {
+        true => board,
+        false => other,
+    };
+    Call::CompareLogs { board, other }
 }
 
 /// A shelf call with cells of any pages, or with arguments that are odd.

@@ -6,6 +6,7 @@ use crate::check::passes;
 use crate::engine::{Engine, Refusal, Step};
 use crate::fault::Fault;
 use crate::layout::*;
+use crate::logs;
 use crate::older;
 use crate::watch::{During, Watch};
 
@@ -46,6 +47,11 @@ pub enum Call {
     Restart {
         board: u32,
     },
+    /// Holds the stored logs of two boards against each other; in either order.
+    CompareLogs {
+        board: u32,
+        other: u32,
+    },
 }
 
 #[derive(Clone, Copy, PartialEq, Eq, Debug, Default)]
@@ -71,6 +77,7 @@ impl Call {
             Call::Read { board, .. } | Call::Write { board, .. } => board,
             Call::Checkpoint { board } | Call::Restart { board } => board,
             Call::Fuse { board, .. } | Call::Shelf { board, .. } => board,
+            Call::CompareLogs { board, .. } => board,
         }
     }
 
@@ -105,6 +112,7 @@ impl Call {
                     .chunks_exact(2)
                     .all(|pair| place_fits(pair[0] as u32, pair[1] as u32)),
                 Call::Fuse { stores, .. } => *stores < NO_FUSE as u32,
+                Call::CompareLogs { other, .. } => (*other as usize) < layout.boards,
                 _ => true,
             }
     }
@@ -116,6 +124,11 @@ impl Call {
         };
         let count = cells.len() / 2;
         cells.len() % 2 == 0 && (1..=MOST_CELLS).contains(&count) && room == count
+    }
+
+    /// Code 12 is for a comparison of a board with itself.
+    fn boards_differ(&self) -> bool {
+        !matches!(self, Call::CompareLogs { board, other } if board == other)
     }
 
     /// The access, of numbers that are in range and a list that fits.
@@ -255,10 +268,10 @@ pub fn call_in<const FORM: Form>(
         engine.stores
     };
     match result {
-        Ok(value) => Answer {
+        Ok(Done { value, who }) => Answer {
             code: 0,
             value,
-            who: 0,
+            who,
             stores,
         },
         Err(Refusal { code, who }) => Answer {
@@ -270,28 +283,45 @@ pub fn call_in<const FORM: Form>(
     }
 }
 
-/// Code 2, then code 10, if the arguments earn one.
+/// Code 2, then code 10 or 12, if the arguments earn one.
 fn misasked<const FORM: Form>(
     call: &Call,
     layout: Layout<FORM>,
     room: usize,
     fault: Fault,
 ) -> Option<u8> {
-    let (out_of_range, misshapen) = (!call.in_range(layout), !call.list_fits(room));
+    let (misshapen, same_board) = (!call.list_fits(room), !call.boards_differ());
     match fault {
         Fault::TenBeforeTwo if misshapen => Some(10),
-        _ if out_of_range => Some(2),
-        _ => misshapen.then_some(10),
+        Fault::CompareTwelveFirst if same_board => Some(12),
+        _ if !call.in_range(layout) => Some(2),
+        _ if misshapen => Some(10),
+        Fault::CompareSameBoard => None,
+        _ => same_board.then_some(12),
+    }
+}
+
+/// What a done call answers besides its stores. Only a comparison names a board.
+#[derive(Default)]
+struct Done {
+    value: u32,
+    who: u32,
+}
+
+impl Done {
+    fn value(value: u32) -> Done {
+        Done { value, who: 0 }
     }
 }
 
 /// Code 3, then the call's own steps.
-fn perform<const FORM: Form>(engine: &mut Engine<FORM>, call: &Call, out: &mut [u8]) -> Step<u32> {
+fn perform<const FORM: Form>(engine: &mut Engine<FORM>, call: &Call, out: &mut [u8]) -> Step<Done> {
     let board = call.board() as usize;
     let state = engine.state(board);
     let fits = match call {
         Call::Restart { .. } => state == DOWN,
         Call::Checkpoint { .. } => state == UP,
+        Call::CompareLogs { .. } if engine.fault != Fault::CompareAsksPower => true,
         _ => state != DOWN,
     };
     if !fits {
@@ -301,11 +331,33 @@ fn perform<const FORM: Form>(engine: &mut Engine<FORM>, call: &Call, out: &mut [
         });
     }
     match (call, call.access()) {
-        (_, Some(access)) => perform_access(engine, &access, out),
-        (Call::Restart { .. }, _) => engine.restart(board),
-        (Call::Fuse { stores, .. }, _) => engine.set_fuse(board, *stores as u16).map(|_| 0),
-        _ => engine.checkpoint(board, During::Asked).map(|_| 0),
+        (_, Some(access)) => perform_access(engine, &access, out).map(Done::value),
+        (Call::Restart { .. }, _) => engine.restart(board).map(Done::value),
+        (Call::CompareLogs { other, .. }, _) => Ok(compare_logs(engine, board, *other as usize)),
+        (Call::Fuse { stores, .. }, _) => {
+            let done = engine.set_fuse(board, *stores as u16);
+            done.map(|_| Done::default())
+        }
+        _ => {
+            let done = engine.checkpoint(board, During::Asked);
+            done.map(|_| Done::default())
+        }
     }
+}
+
+/// Which got is the first that doesn't agree, and whose it is; both 0 if there is none. Only a wrong engine stores or
+/// writes.
+fn compare_logs<const FORM: Form>(engine: &mut Engine<FORM>, board: usize, other: usize) -> Done {
+    engine.stores += (engine.fault == Fault::CompareStores) as u32;
+    if engine.fault == Fault::CompareWrites {
+        let runs = engine.layout.past_counts(engine.bank);
+        runs.into_iter().for_each(|run| engine.bank[run].fill(0));
+    }
+    let found = logs::compare::<FORM>(engine.bank, board, other, engine.fault);
+    found.map_or(Done::default(), |found| Done {
+        value: found.number,
+        who: found.taker as u32,
+    })
 }
 
 /// Code 4 looks at the counters as they are at entry, before a replay looks at its log. Gives the answer's value.

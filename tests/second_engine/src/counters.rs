@@ -4,6 +4,8 @@
 use crate::calls::{Answer, Call};
 use crate::cases::Cases;
 use crate::claim::Last;
+use crate::compared::Compared;
+use crate::comparisons::{self, Comparison};
 use crate::engine::on_copy;
 use crate::fetches::{self, Fetch};
 use crate::given::{Before, Given};
@@ -16,7 +18,7 @@ use crate::trial::Trial;
 use crate::watch::{phase_name, phases, PHASES};
 
 /// The codes that a line of a script can get: no script is long enough for code 4.
-const CODES: [usize; 10] = [0, 1, 2, 3, 5, 6, 7, 8, 9, 10];
+const CODES: [usize; 11] = [0, 1, 2, 3, 5, 6, 7, 8, 9, 10, 12];
 
 const LAST_RECORDS: [&str; 5] = ["none", "shown", "dropped", "got copy", "got own"];
 
@@ -80,6 +82,7 @@ pub struct Asked {
     /// The board has several gots due, and the line asks for a single access.
     single_at_group: bool,
     fetch: Option<Fetch>,
+    comparison: Option<Comparison>,
     call: Option<(Call, Before)>,
 }
 
@@ -94,6 +97,7 @@ impl Asked {
             shelf: Shelf::asked(bank, &call),
             single_at_group: at_group(bank, &call),
             fetch: Fetch::asked(bank, &call),
+            comparison: Comparison::asked(bank, &call),
             call: Some((call.clone(), Before::of(trial, bank, &call))),
         }
     }
@@ -113,7 +117,7 @@ pub struct Counters {
     scripts: u64,
     pub premises_broken: u64,
     calls: u64,
-    codes: [u64; 11],
+    codes: [u64; 13],
     phases: [u64; PHASES],
     replays_begun: [u64; 5],
     replays_ended: [u64; 5],
@@ -131,6 +135,8 @@ pub struct Counters {
     /// Records by whom they name, and logs that were held against each other.
     records: [u64; RECORDS.len()],
     logs: [u64; LOGS.len()],
+    comparisons: Cases<Comparison>,
+    compared: Compared,
     passages: Passages,
 }
 
@@ -150,7 +156,7 @@ impl Counters {
             scripts: 0,
             premises_broken: 0,
             calls: 0,
-            codes: [0; 11],
+            codes: [0; 13],
             phases: [0; PHASES],
             replays_begun: [0; 5],
             replays_ended: [0; 5],
@@ -163,6 +169,8 @@ impl Counters {
             given: Given::default(),
             records: Default::default(),
             logs: Default::default(),
+            comparisons: comparisons::cases(),
+            compared: Compared::default(),
             passages: Passages::default(),
         }
     }
@@ -198,6 +206,9 @@ impl Counters {
         if let Some(fetch) = &asked.fetch {
             self.fetches.count(fetch, answer);
         }
+        if let Some(comparison) = &asked.comparison {
+            self.comparisons.count(comparison, answer);
+        }
         if let Some((call, before)) = &asked.call {
             let fetch = asked.fetch.as_ref();
             self.given.take(trial, call, answer, before, fetch);
@@ -211,6 +222,7 @@ impl Counters {
         self.wide_records[1] += watch.wide_records_used;
         add(&mut self.records, &trial.names.records);
         add(&mut self.logs, &trial.names.logs);
+        self.compared.add(&trial.compared);
         self.passages.add(&trial.passages);
     }
 
@@ -249,6 +261,8 @@ impl Counters {
             + self.given.never_met()
             + self.records.iter().filter(|count| **count == 0).count()
             + self.logs.iter().filter(|count| **count == 0).count()
+            + self.comparisons.missing().count()
+            + self.compared.never_met()
             + self.passages.never_met()
     }
 
@@ -293,6 +307,8 @@ impl Counters {
         print_rows(&RECORDS, &self.records);
         println!("logs of two boards, never cut nor checkpointed, held against each other where");
         print_rows(&LOGS, &self.logs);
+        self.comparisons.print();
+        self.compared.print();
         self.passages.print();
         println!("never met: {}", self.never_met());
     }

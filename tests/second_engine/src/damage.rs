@@ -1,4 +1,5 @@
-//! Banks that are damaged: bytes changed, most of them where a rule looks, or a wrong length.
+//! Banks that are damaged: bytes changed, most of them where a rule looks, or a wrong length. Or not quite: one record
+//! changed, and still well formed.
 
 use crate::layout::*;
 use crate::made::fill;
@@ -32,12 +33,12 @@ fn ruled_place<const FORM: Form>(random: &mut Random, layout: Layout<FORM>) -> u
     }
 }
 
-/// Changes byte 3 of one record, in any of the logs: mostly to a board that it may not name. False if there is no record.
-pub fn name<const FORM: Form>(random: &mut Random, bank: &mut [u8]) -> bool {
+/// The slot of some record, in any of the logs, often the first or the last of its log; none if there is no record.
+fn any_record<const FORM: Form>(random: &mut Random, bank: &[u8]) -> Option<(Log, usize)> {
     let layout = Layout::<FORM>::named_by(bank);
     let logs: Vec<Log> = layout.logs().filter(|log| bank[log.count] > 0).collect();
     if logs.is_empty() {
-        return false;
+        return None;
     }
     let log = random.pick(&logs);
     let records: Vec<usize> = layout.records(bank, log).collect();
@@ -46,6 +47,30 @@ pub fn name<const FORM: Form>(random: &mut Random, bank: &mut [u8]) -> bool {
         1 => records[records.len() - 1],
         _ => random.pick(&records),
     };
+    Some((log, slot))
+}
+
+/// Gives one record, in any of the logs, another page or another board that it may name, if there are such.
+pub fn record(random: &mut Random, bank: &mut [u8]) {
+    let Some((log, slot)) = any_record::<NEWEST>(random, bank) else {
+        return;
+    };
+    let layout = Layout::of(bank);
+    match random.below(2) {
+        0 => bank[slot + SLOT_PAGE] = random.below(layout.pages as u32) as u8,
+        _ => {
+            let boards = (0..layout.boards as u8).filter(|board| *board as usize != log.board);
+            bank[slot + SLOT_BOARD] = random.pick(&boards.collect::<Vec<u8>>());
+        }
+    }
+}
+
+/// Changes byte 3 of one record, in any of the logs: mostly to a board that it may not name. False if there is no record.
+pub fn name<const FORM: Form>(random: &mut Random, bank: &mut [u8]) -> bool {
+    let Some((log, slot)) = any_record::<FORM>(random, bank) else {
+        return false;
+    };
+    let layout = Layout::<FORM>::named_by(bank);
     let boards = layout.boards as u8;
     bank[slot + SLOT_BOARD] = match random.below(6) {
         0 | 1 => log.board as u8,

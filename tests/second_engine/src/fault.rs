@@ -2,7 +2,7 @@
 //! The first five are the faults a bench sale would hide, the next six must not satisfy any contract, the next five
 //! get a fuse of 0 wrong, the next two a wide since, the next ten a conversion, the next eighteen a shelf call, the next
 //! eleven a page that a holder gives while its owner isn't up, the next ten the board that a record names, the next six
-//! whether a bank is well formed, and the rest an adoption.
+//! whether a bank is well formed, the next eight an adoption, and the rest a comparison of two logs.
 
 #[derive(Clone, Copy, PartialEq, Eq, Debug)]
 pub enum Fault {
@@ -88,6 +88,29 @@ pub enum Fault {
     AdoptElevenFirst,
     AdoptNamesBoard,
     AdoptWrites,
+    CompareHigherFirst,
+    CompareAsAsked,
+    CompareOneWay,
+    CompareLowestNumber,
+    CompareFromZero,
+    CompareSlotNumber,
+    CompareVolatileGots,
+    CompareVolatileShowns,
+    CompareByPage,
+    CompareSpareArea,
+    CompareUsedOnly,
+    CompareNamesGiver,
+    CompareNamesNobody,
+    CompareTwelveFirst,
+    CompareSameBoard,
+    CompareAnyGot,
+    CompareAnyShown,
+    CompareCopiesOnly,
+    CompareLoneShown,
+    CompareNoSurplus,
+    CompareAsksPower,
+    CompareStores,
+    CompareWrites,
 }
 
 /// What must catch a fault.
@@ -105,6 +128,10 @@ pub enum Catcher {
     Verdicts,
     /// The banks that are adopted, or refused.
     Adoptions,
+    /// What a comparison must answer, both behind calls of random scripts and on banks made by hand.
+    Comparisons,
+    /// The same on banks made by hand alone: no script leads to a log that shows it.
+    MadeLogs,
 }
 
 impl Fault {
@@ -113,7 +140,7 @@ impl Fault {
     }
 
     /// A wrong engine takes its own bank as well formed, or code 1 would hide what it did. Not so where its steps are
-    /// right: in a wrong conversion or adoption, or where the verdict itself is wrong.
+    /// right: in a wrong conversion, adoption or comparison, or where the verdict itself is wrong.
     pub fn trusts_its_bank(self) -> bool {
         let steps_are_wrong = |kind: &FaultKind| {
             matches!(
@@ -146,7 +173,7 @@ const fn kind(
     }
 }
 
-pub static FAULTS: [FaultKind; 81] = [
+pub static FAULTS: [FaultKind; 104] = [
     kind(
         Fault::KeepCopy,
         "keep-copy",
@@ -632,6 +659,144 @@ pub static FAULTS: [FaultKind; 81] = [
         "adopt-writes",
         Catcher::Adoptions,
         "an adoption that clears the slots past a count",
+    ),
+    kind(
+        Fault::CompareHigherFirst,
+        "compare-higher-first",
+        Catcher::Comparisons,
+        "a comparison in which the gots that name the higher board come first",
+    ),
+    kind(
+        Fault::CompareAsAsked,
+        "compare-as-asked",
+        Catcher::Comparisons,
+        "a comparison in which the gots that name the first asked board come first",
+    ),
+    kind(
+        Fault::CompareOneWay,
+        "compare-one-way",
+        Catcher::Comparisons,
+        "a comparison that looks at the gots that name the lower board alone",
+    ),
+    kind(
+        Fault::CompareLowestNumber,
+        "compare-lowest-number",
+        Catcher::Comparisons,
+        "a comparison that answers the lower number of the two directions",
+    ),
+    kind(
+        Fault::CompareFromZero,
+        "compare-from-zero",
+        Catcher::Comparisons,
+        "a comparison that counts gots from 0",
+    ),
+    kind(
+        Fault::CompareSlotNumber,
+        "compare-slot-number",
+        Catcher::Comparisons,
+        "a comparison that answers the got's place in the whole log",
+    ),
+    kind(
+        Fault::CompareVolatileGots,
+        "compare-volatile-gots",
+        Catcher::Comparisons,
+        "a comparison that counts volatile gots too",
+    ),
+    kind(
+        Fault::CompareVolatileShowns,
+        "compare-volatile-showns",
+        Catcher::MadeLogs,
+        "a comparison that counts volatile showns too",
+    ),
+    kind(
+        Fault::CompareByPage,
+        "compare-by-page",
+        Catcher::Comparisons,
+        "a comparison that takes any shown of a got's page for its partner",
+    ),
+    kind(
+        Fault::CompareSpareArea,
+        "compare-spare-area",
+        Catcher::Comparisons,
+        "a comparison that looks at the areas that aren't selected",
+    ),
+    kind(
+        Fault::CompareUsedOnly,
+        "compare-used-only",
+        Catcher::Comparisons,
+        "a comparison that looks at the used records alone while a board replays",
+    ),
+    kind(
+        Fault::CompareNamesGiver,
+        "compare-names-giver",
+        Catcher::Comparisons,
+        "a comparison that names the giver",
+    ),
+    kind(
+        Fault::CompareNamesNobody,
+        "compare-names-nobody",
+        Catcher::Comparisons,
+        "a comparison whose who is 0, as under code 0 of every other call",
+    ),
+    kind(
+        Fault::CompareTwelveFirst,
+        "compare-twelve-first",
+        Catcher::Comparisons,
+        "tests code 12 before code 2",
+    ),
+    kind(
+        Fault::CompareSameBoard,
+        "compare-same-board",
+        Catcher::Comparisons,
+        "a comparison that doesn't test code 12",
+    ),
+    kind(
+        Fault::CompareAnyGot,
+        "compare-any-got",
+        Catcher::Comparisons,
+        "a comparison that counts gots whatever board they name",
+    ),
+    kind(
+        Fault::CompareAnyShown,
+        "compare-any-shown",
+        Catcher::Comparisons,
+        "a comparison that counts showns whatever board they name",
+    ),
+    kind(
+        Fault::CompareCopiesOnly,
+        "compare-copies-only",
+        Catcher::Comparisons,
+        "a comparison that counts no got own",
+    ),
+    kind(
+        Fault::CompareLoneShown,
+        "compare-lone-shown",
+        Catcher::Comparisons,
+        "a comparison that reports a shown without a got",
+    ),
+    kind(
+        Fault::CompareNoSurplus,
+        "compare-no-surplus",
+        Catcher::Comparisons,
+        "a comparison that doesn't report a got without a shown",
+    ),
+    kind(
+        Fault::CompareAsksPower,
+        "compare-asks-power",
+        Catcher::Comparisons,
+        "a comparison that answers 3 if its first board is down",
+    ),
+    kind(
+        Fault::CompareStores,
+        "compare-stores",
+        Catcher::Comparisons,
+        "a comparison that counts a store",
+    ),
+    kind(
+        Fault::CompareWrites,
+        "compare-writes",
+        Catcher::Comparisons,
+        "a comparison that clears the slots past a count",
     ),
 ];
 

@@ -1,8 +1,10 @@
 //! Runs every wrong engine and says what catches it. The claim is tried on random scripts, the answers on the stored
 //! scripts and, where these can't show it, on random ones, against the right engine's; a wrong conversion on pairs, a wrong
-//! adoption on banks to adopt, and a wrong rule for banks on those in which a record names a wrong board.
+//! adoption on banks to adopt, a wrong rule for banks on those in which a record names a wrong board, and a wrong
+//! comparison on random scripts and on banks made by hand.
 
 use crate::adoptions::{self, AdoptionCounters};
+use crate::compared;
 use crate::counters::Counters;
 use crate::fault::{Catcher, Fault, FaultKind, FAULTS};
 use crate::fuzz::search;
@@ -69,6 +71,8 @@ fn try_fault(kind: &FaultKind, corpus: &[Case]) -> bool {
         Catcher::Pairs => return pairs_differ(kind.fault),
         Catcher::Verdicts => return verdicts_differ(kind.fault),
         Catcher::Adoptions => return adoptions_differ(kind.fault),
+        Catcher::Comparisons => return claim_breaks(kind.fault) & comparisons_differ(kind.fault),
+        Catcher::MadeLogs => return comparisons_differ(kind.fault),
         _ => (),
     }
     let (claim, outputs) = (claim_breaks(kind.fault), outputs_differ(kind.fault, corpus));
@@ -128,6 +132,15 @@ fn adoptions_differ(fault: Fault) -> bool {
         None => println!("  {BANKS} adoptions are right"),
     }
     failure.is_some()
+}
+
+fn comparisons_differ(fault: Fault) -> bool {
+    let found = (1..=BANKS).find_map(|seed| Some((seed, compared::wrong_at(seed, fault)?)));
+    match &found {
+        Some((seed, why)) => println!("  comparison wrong at seed {seed}: {why}"),
+        None => println!("  comparisons on {BANKS} banks are right"),
+    }
+    found.is_some()
 }
 
 fn claim_breaks(fault: Fault) -> bool {

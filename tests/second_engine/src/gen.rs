@@ -2,6 +2,7 @@
 //! A replaying board mostly repeats its lines, as the premise asks.
 
 use crate::access::Access;
+use crate::asked;
 use crate::calls::{Call, MOST_CELLS};
 use crate::engine::on_copy;
 use crate::fault::Fault;
@@ -23,8 +24,11 @@ pub enum Run {
     Repeats(usize, u32),
 }
 
-/// Chooses the lines of a script; for the line runner without shelf calls, and without lines about absent owners that are
-/// chosen on purpose.
+/// How often both numbers of a comparison are in range, in thousandths.
+const STRICT: u32 = 900;
+
+/// Chooses the lines of a script; for the line runner without shelf calls and comparisons, and without lines about
+/// absent owners that are chosen on purpose.
 pub struct Generator {
     pub random: Random,
     pub profile: Profile,
@@ -50,12 +54,14 @@ impl Generator {
         }
     }
 
-    /// With shelf calls too, which the line runner has no line for, and with owners that are absent on purpose.
+    /// With shelf calls and comparisons too, which the line runner has no line for, and with owners that are absent on
+    /// purpose.
     pub fn with_shelves(seed: u64, lines: u32) -> Generator {
         let mut generator = Generator::new(seed, lines);
         let mut random = Random::new(!seed);
         generator.profile.shelves = random.pick(&[50, 200, 200, 500]);
         generator.profile.absent = random.pick(&[0, 10, 30, 100]);
+        generator.profile.comparisons = random.pick(&[10, 20, 60]);
         generator
     }
 
@@ -72,6 +78,10 @@ impl Generator {
         let layout = Layout::of(bank);
         if let Some(line) = self.run_on(trial, bank, layout) {
             return ScriptLine::Readable(line);
+        }
+        if self.profile.comparisons > 0 && self.random.permille(self.profile.comparisons) {
+            let comparison = asked::comparison(&mut self.random, layout, STRICT);
+            return ScriptLine::Readable(comparison.into());
         }
         if self.random.permille(self.profile.noise) {
             return self.noise(bank, layout);
@@ -252,7 +262,9 @@ impl Generator {
         if givers.is_empty() {
             return call;
         }
-        let board = self.random.pick(&givers);
+        // Often the last one, so that others have stored before it.
+        let last = self.random.permille(500).then(|| givers[givers.len() - 1]);
+        let board = last.unwrap_or_else(|| self.random.pick(&givers));
         let given = givers.iter().filter(|giver| **giver == board).count();
         let most = bank[layout.volatile(board)] as u32 + given as u32;
         self.runs.push(Run::Same(call.into(), 1));

@@ -7,7 +7,7 @@ use std::io::{self, BufReader, Bytes, Read};
 
 const LONGEST_LINE: usize = 64;
 
-/// A script of the claim may have shelf calls, whose lines are longer.
+/// A script under the claim may have shelf calls, whose lines are longer.
 const LONGEST_SCRIPT_LINE: usize = 65_536;
 
 #[derive(Clone, PartialEq, Eq, Debug)]
@@ -43,16 +43,25 @@ impl From<Call> for Line {
     }
 }
 
-/// Reads a line of a script under the claim: the line runner's, or a shelf call, `H board page offset page offset ..`.
-/// Behind the list `/ room` gives the second buffer another length than one byte for each cell.
+/// Reads a line of a script under the claim: the line runner's, a shelf call or a comparison.
 pub fn read_script_line(line: &[u8]) -> Option<Line> {
-    let Some(list) = line.strip_prefix(b"H ") else {
-        return read_line(line);
-    };
-    let fields: Vec<&[u8]> = list.split(|byte| *byte == b' ').collect();
+    let fields: Vec<&[u8]> = line.split(|byte| *byte == b' ').collect();
+    match fields[..] {
+        [b"H", ref list @ ..] => read_shelf(list),
+        [b"T", board, other] => Some(Line::Call(Call::CompareLogs {
+            board: read_number(board)?,
+            other: read_number(other)?,
+        })),
+        _ => read_line(line),
+    }
+}
+
+/// A shelf call, `H board page offset page offset ..`. Behind the list `/ room` gives the second buffer another length
+/// than one byte for each cell.
+fn read_shelf(fields: &[&[u8]]) -> Option<Line> {
     let (numbers, room) = match fields[..] {
         [ref numbers @ .., b"/", room] => (numbers, Some(read_number(room)?)),
-        _ => (&fields[..], None),
+        _ => (fields, None),
     };
     let (board, cells) = numbers.split_first()?;
     let byte = |field: &&[u8]| read_number(field)?.try_into().ok();
@@ -154,6 +163,7 @@ impl fmt::Display for Call {
             Call::Checkpoint { board } => write!(out, "C {board}"),
             Call::Fuse { board, stores } => write!(out, "F {board} {stores}"),
             Call::Restart { board } => write!(out, "S {board}"),
+            Call::CompareLogs { board, other } => write!(out, "T {board} {other}"),
         }
     }
 }
@@ -214,16 +224,26 @@ mod tests {
         for text in "H 0;H 9 1;H 0 1 2;H 0 1 2 255 16 7;H 0 1 2 / 0;H 0 / 3".split(';') {
             assert_eq!(read(text).to_string(), text);
         }
+        for text in "T 0 1;T 1 0;T 7 7;T 4294967295 8".split(';') {
+            assert_eq!(read(text).to_string(), text);
+        }
     }
 
     /// No request gives the line runner a new line.
     #[test]
-    fn shelf_calls_are_no_lines_of_the_runner() {
+    fn shelf_calls_and_comparisons_are_no_lines_of_the_runner() {
         for text in "H 0;H 0 1 2;H 0 1 2 / 1".split(';') {
             assert_eq!(read_line(text.as_bytes()), None);
             assert!(read_script_line(text.as_bytes()).is_some());
         }
         for text in "H;H ;H 0 ;H  0;H 0 256;H 0 01;H 0 1 2 /;H 0 / 1 2;H 0 1 2/ 1;h 0".split(';') {
+            assert_eq!(read_script_line(text.as_bytes()), None, "{text}");
+        }
+        for text in "T 0 1;T 0 0;T 4294967295 9".split(';') {
+            assert_eq!(read_line(text.as_bytes()), None);
+            assert!(read_script_line(text.as_bytes()).is_some());
+        }
+        for text in "T;T 0;T 0 1 2;T 0 1 ;T  0 1;T 0 01;T 0 4294967296;T 0 -1;t 0 1".split(';') {
             assert_eq!(read_script_line(text.as_bytes()), None, "{text}");
         }
         let long = format!("H 0{}", " 0 0".repeat(40));

@@ -1,6 +1,7 @@
 //! Random well-formed banks: reached by a script, or made by hand, in any form, which no run need ever reach, with
 //! fields in their ranges, often at a limit. Slots at or past a count are anything: any bytes, zero or records.
-//! Records name any board but their own, where the form has names; with one board there are none then.
+//! Records name any board but their own, where the form has names; with one board there are none then. In some banks
+//! gots and showns agree as if the boards had dealt with each other, or nearly.
 
 use crate::calls::make_in;
 use crate::check::has_records;
@@ -146,6 +147,9 @@ fn by_hand<const FORM: Form>(random: &mut Random, logged: Logged) -> Vec<u8> {
     (0..layout.boards).for_each(|board| making.block(board));
     if logged == Logged::One && !nobody_to_name {
         making.one_log();
+    }
+    if Layout::<FORM>::NAMES_BOARD && making.random.permille(500) {
+        making.dealings();
     }
     making.bank
 }
@@ -321,6 +325,50 @@ impl<const FORM: Form> Making<'_, FORM> {
             let named = self.other_than(log.board);
             self.bank[log.first + Layout::<FORM>::SLOT * place + SLOT_BOARD] = named;
         }
+    }
+
+    /// Makes stored gots agree with the showns of the boards that they name; of some pairs not all.
+    fn dealings(&mut self) {
+        let boards = self.layout.boards;
+        let pairs = (0..boards).flat_map(|giver| (0..boards).map(move |taker| (giver, taker)));
+        for (giver, taker) in pairs.filter(|(giver, taker)| giver != taker) {
+            let shown_kinds = self.random.pick(&[&[SHOWN][..], &[SHOWN, DROPPED]]);
+            let showns = self.naming(giver, taker, shown_kinds);
+            let gots = self.naming(taker, giver, &[GOT_COPY, GOT_OWN]);
+            let agreeing = self.random.pick(&[SLOTS, SLOTS, SLOTS, 0, 1, 2, 5]);
+            for shown in &showns {
+                self.bank[*shown..shown + 2].copy_from_slice(&SHOWN);
+            }
+            for (got, shown) in gots.iter().zip(&showns).take(agreeing) {
+                self.bank[got + SLOT_PAGE] = self.bank[shown + SLOT_PAGE];
+            }
+            if self.random.permille(800) {
+                let surplus = gots.iter().skip(showns.len());
+                surplus.for_each(|got| self.into_dropped(*got));
+            }
+        }
+    }
+
+    /// The slots of a board's stored records of some kinds that name a board.
+    fn naming(&self, board: usize, named: usize, kinds: &[Kind]) -> Vec<usize> {
+        let selected = self.bank[self.layout.selector(board)] as usize;
+        let log = self.layout.log(board, Some(selected));
+        let fits = |slot: &usize| {
+            kinds.contains(&kind_at(&self.bank, *slot))
+                && self.bank[slot + SLOT_BOARD] as usize == named
+        };
+        self.layout.records(&self.bank, log).filter(fits).collect()
+    }
+
+    /// A got that has no shown becomes a dropped.
+    fn into_dropped(&mut self, slot: usize) {
+        let at = slot + Layout::<FORM>::SLOT_COUNT;
+        let record = Record {
+            kind: DROPPED,
+            page: self.bank[slot + SLOT_PAGE],
+            count: self.layout.get_count(&self.bank, at),
+        };
+        self.record(slot, record);
     }
 
     /// A board that a record of this board may name; zero in a form without names, and where there is no other board.

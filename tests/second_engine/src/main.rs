@@ -10,9 +10,12 @@ mod calls;
 mod cases;
 mod check;
 mod claim;
+mod compared;
+mod comparisons;
 mod convert;
 mod counters;
 mod damage;
+mod disturbed;
 mod engine;
 mod fault;
 mod faults;
@@ -23,6 +26,7 @@ mod given;
 mod history;
 mod layout;
 mod line;
+mod logs;
 mod made;
 mod named;
 mod noise;
@@ -45,6 +49,8 @@ mod watch;
 mod worked;
 #[cfg(test)]
 mod worked_givers;
+#[cfg(test)]
+mod worked_logs;
 #[cfg(test)]
 mod worked_names;
 

@@ -2,7 +2,7 @@
 //! It looks at the bytes that a call leaves, and knows nothing of how a giver is found.
 
 use crate::calls::{Answer, Call};
-use crate::history::gone_down;
+use crate::disturbed::Disturbed;
 use crate::layout::*;
 
 /// A record, and whose log it is in.
@@ -44,14 +44,14 @@ impl Record {
 }
 
 /// A board's records: those of its selected area, then the volatile ones.
-struct Records {
-    board: usize,
+pub struct Records {
+    pub board: usize,
     stored: Vec<Record>,
     volatile: Vec<Record>,
 }
 
 impl Records {
-    fn of(bank: &[u8], board: usize) -> Records {
+    pub fn of(bank: &[u8], board: usize) -> Records {
         let layout = Layout::of(bank);
         let selected = bank[layout.selector(board)] as usize;
         let records = |area: Option<usize>| {
@@ -70,7 +70,7 @@ impl Records {
     }
 
     /// The pages of the stored showns that name a board.
-    fn shown_to(&self, taker: usize) -> Vec<usize> {
+    pub fn shown_to(&self, taker: usize) -> Vec<usize> {
         let shown = |record: &&Record| record.kind == SHOWN && record.named == taker;
         self.stored
             .iter()
@@ -79,11 +79,22 @@ impl Records {
             .collect()
     }
 
-    /// The pages of all gots that name a board.
-    fn got_from(&self, giver: usize) -> Vec<usize> {
-        let got = |record: &&Record| record.is_got() && record.named == giver;
-        self.all().filter(got).map(|record| record.page).collect()
+    /// The pages of the stored gots that name a board.
+    pub fn stored_from(&self, giver: usize) -> Vec<usize> {
+        got_from(&self.stored, giver)
     }
+
+    /// Those of the volatile ones.
+    pub fn volatile_from(&self, giver: usize) -> Vec<usize> {
+        got_from(&self.volatile, giver)
+    }
+}
+
+/// The pages of the gots among these that name a board.
+fn got_from(records: &[Record], giver: usize) -> Vec<usize> {
+    let got = |record: &&Record| record.is_got() && record.named == giver;
+    let gots = records.iter().filter(got);
+    gots.map(|record| record.page).collect()
 }
 
 /// Each board's selector and how many records it has, from before a call.
@@ -153,8 +164,7 @@ pub const LOGS: [&str; 3] = [
 /// What is followed of names over a whole script, and how much of it came.
 #[derive(Clone, Default)]
 pub struct Names {
-    /// The boards that since the fresh bank were cut or checkpointed, or made a call that ended in code 8.
-    disturbed: [bool; MAX_BOARDS],
+    pub disturbed: Disturbed,
     pub records: [u64; RECORDS.len()],
     pub logs: [u64; LOGS.len()],
 }
@@ -168,7 +178,7 @@ impl Names {
         answer: &Answer,
         before: &Before,
     ) -> Result<(), String> {
-        self.disturb(call, answer);
+        self.disturbed.take(call, answer);
         let made = &before.made(bank)[..];
         if made.is_empty() {
             return Ok(());
@@ -188,25 +198,19 @@ impl Names {
         self.logs_agree(bank, made)
     }
 
-    fn disturb(&mut self, call: &Call, answer: &Answer) {
-        if let Some(board) = gone_down(call, answer) {
-            self.disturbed[board] = true;
-        }
-        let checkpointed = answer.code == 0 && matches!(call, Call::Checkpoint { .. });
-        if answer.code == 8 || checkpointed {
-            self.disturbed[call.board() as usize] = true;
-        }
-    }
-
     /// Of two boards that nothing has disturbed: the pages of all gots of the one that name the other, stored then
     /// volatile, are the pages of the other's stored showns that name the one.
     fn logs_agree(&mut self, bank: &[u8], made: &[Record]) -> Result<(), String> {
-        let boards = (0..Layout::of(bank).boards).filter(|board| !self.disturbed[*board]);
+        let boards = (0..Layout::of(bank).boards).filter(|board| !self.disturbed.is(*board));
         let logs: Vec<Records> = boards.map(|board| Records::of(bank, board)).collect();
         let pairs = logs.iter().flat_map(|x| logs.iter().map(move |y| (x, y)));
         for (giver, taker) in pairs.filter(|(x, y)| x.board != y.board) {
             let shown = giver.shown_to(taker.board);
-            let got = taker.got_from(giver.board);
+            let got = [
+                taker.stored_from(giver.board),
+                taker.volatile_from(giver.board),
+            ]
+            .concat();
             if shown != got {
                 return Err(format!(
                     "board {} has shown board {} pages {shown:?}, which has got {got:?} from it",
@@ -308,16 +312,17 @@ mod tests {
         ));
     }
 
-    /// Whether the logs agree that a script leaves, if these boards were disturbed.
-    fn logs_after(fault: Fault, script: &str, disturbed: &[usize]) -> Result<(), String> {
+    /// Whether the logs agree that a script leaves, if these boards lost their power.
+    fn logs_after(fault: Fault, script: &str, cut: &[u32]) -> Result<(), String> {
         let mut session = Session::new(fault);
         for line in script.split("; ") {
             session.take(read_script_line(line.as_bytes()));
         }
         let mut names = Names::default();
-        disturbed
-            .iter()
-            .for_each(|board| names.disturbed[*board] = true);
+        for board in cut.iter().copied() {
+            let cut = Call::Fuse { board, stores: 0 };
+            names.disturbed.take(&cut, &Answer::default());
+        }
         names.logs_agree(&session.bank.unwrap(), &[])
     }
 

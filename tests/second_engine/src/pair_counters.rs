@@ -64,7 +64,7 @@ impl Refusal {
 }
 
 /// Calls on a pair, by what the old bank was like before.
-const CALLS: [&str; 7] = [
+const CALLS: [&str; 8] = [
     "accesses with since within 5 of 65,535",
     "accesses with an access number within 5 of 4,294,967,295",
     "accesses in a replay, done",
@@ -72,10 +72,11 @@ const CALLS: [&str; 7] = [
     "shelf calls in a replay, done",
     "fuses of 0, done",
     "restarts, done",
+    "comparisons, done",
 ];
 
 /// The codes that a call on a pair can answer.
-const CODES: [usize; 9] = [0, 2, 3, 4, 5, 6, 7, 8, 10];
+const CODES: [usize; 10] = [0, 2, 3, 4, 5, 6, 7, 8, 10, 12];
 
 /// What has to be known of the old bank from before a call.
 pub struct Before([bool; CALLS.len()]);
@@ -83,7 +84,7 @@ pub struct Before([bool; CALLS.len()]);
 pub struct PairCounters {
     sources: [u64; SOURCES.len()],
     refusals: [u64; REFUSALS.len()],
-    codes: [u64; 11],
+    codes: [u64; 13],
     phases: [u64; PHASES],
     calls: [u64; CALLS.len()],
 }
@@ -126,6 +127,7 @@ impl PairCounters {
             shelf && replaying,
             matches!(call, Call::Fuse { stores: 0, .. }),
             matches!(call, Call::Restart { .. }),
+            matches!(call, Call::CompareLogs { .. }),
         ])
     }
 

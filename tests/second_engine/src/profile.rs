@@ -14,6 +14,8 @@ pub struct Profile {
     pub shelves: u32,
     /// Lines about pages whose owner isn't up; none chosen on purpose in scripts for the line runner.
     pub absent: u32,
+    /// Comparisons of two logs; none in scripts for the line runner.
+    pub comparisons: u32,
     pub checkpoints: u32,
     /// Power losses that are asked for.
     pub cuts: u32,
@@ -53,6 +55,7 @@ impl Profile {
             writes: random.pick(&[150, 300, 500, 500, 700]),
             shelves: 0,
             absent: 0,
+            comparisons: 0,
             checkpoints: random.pick(&[0, 2, 10, 30, 60]),
             cuts: random.pick(&[0, 5, 15, 30, 60]),
             fuses: [5, 25, 80][hasty],

@@ -3,6 +3,7 @@
 
 use crate::calls::{self, Answer, Call, UNWRITTEN};
 use crate::claim::{Answered, Before, Judge, Verdict};
+use crate::compared::{self, Compared};
 use crate::fault::Fault;
 use crate::layout::{Layout, UP};
 use crate::line::{read_script_line, Line, Lines};
@@ -16,6 +17,7 @@ pub struct Trial {
     pub session: Session,
     pub judge: Judge,
     pub names: Names,
+    pub compared: Compared,
     pub passages: Passages,
     /// What the latest line was answered.
     pub latest: Answer,
@@ -27,6 +29,8 @@ struct Asked {
     before: Before,
     records: named::Before,
     single: Option<Vec<u8>>,
+    /// The bank itself, before a comparison.
+    bank: Option<Vec<u8>>,
 }
 
 impl Trial {
@@ -35,6 +39,7 @@ impl Trial {
             session: Session::new(fault),
             judge: Judge::new(),
             names: Names::default(),
+            compared: Compared::default(),
             passages: Passages::default(),
             latest: Answer::default(),
         }
@@ -47,6 +52,7 @@ impl Trial {
                 before: self.judge.before(bank, &call),
                 records: named::Before::of(bank),
                 single: self.single_reads(bank, &call),
+                bank: matches!(call, Call::CompareLogs { .. }).then(|| bank.clone()),
                 call,
             }),
             _ => None,
@@ -77,16 +83,21 @@ impl Trial {
             before,
             records,
             single,
+            bank: bank_before,
         } = asked;
         let call = &call;
         let bank = bank.as_deref().unwrap_or(&[]);
+        let bank_before = bank_before.as_deref().unwrap_or(bank);
         let answered = Answered { call, answer, out };
         let verdict = self.judge.after(bank, answered, before, watch);
         let names = self.names.take(bank, call, answer, &records);
+        let logs = names
+            .and_then(|_| compared::fits(bank_before, call, answer, bank))
+            .and_then(|_| self.compared.take(&self.session, &self.names.disturbed));
         let fits = match verdict {
             Verdict::ClaimBroken(_) => return verdict,
-            Verdict::PremiseBroken(_) => names,
-            Verdict::Held => names
+            Verdict::PremiseBroken(_) => logs,
+            Verdict::Held => logs
                 .and_then(|_| buffer_fits(answer, out, single))
                 .and_then(|_| self.all_served()),
         };

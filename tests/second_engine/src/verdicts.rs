@@ -10,8 +10,8 @@ use crate::made;
 use crate::random::Random;
 use crate::watch::Watch;
 
-/// What a call answers, and what it leaves.
-fn taken(bank: &[u8], asked: &Call, fault: Fault) -> (Answer, Vec<u8>, Vec<u8>) {
+/// What a call answers, and what it leaves of bank and second buffer.
+pub fn taken(bank: &[u8], asked: &Call, fault: Fault) -> (Answer, Vec<u8>, Vec<u8>) {
     let (mut bank, mut out) = (bank.to_vec(), asked.second_buffer());
     let mut watch = Watch::of::<NEWEST>(&bank);
     let answer = call(&mut bank, asked, &mut out, fault, &mut watch);
@@ -62,7 +62,8 @@ mod tests {
         bank
     }
 
-    /// But for well-formedness nothing looks at a name: other names, the same answers and the same other bytes.
+    /// But for well-formedness and comparisons nothing looks at a name: other names, the same answers and the same
+    /// other bytes.
     #[test]
     fn no_step_looks_at_a_name() {
         let mut random = Random::new(1);
@@ -72,7 +73,9 @@ mod tests {
         for mut bank in banks {
             let mut other = renamed(&mut random, &bank);
             for _ in 0..5 {
-                let Some(asked) = asked::fitting(&mut random, &bank).call() else {
+                let asked = asked::fitting(&mut random, &bank).call();
+                let by_name = |call: &Call| matches!(call, Call::CompareLogs { .. });
+                let Some(asked) = asked.filter(|call| !by_name(call)) else {
                     continue;
                 };
                 let (right, left, out) = taken(&bank, &asked, Fault::None);

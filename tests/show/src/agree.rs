@@ -1,11 +1,13 @@
 //! Whether diagnosis and archive agree on random banks of every form, sound and damaged: a broken rule is named exactly where the archive answers 1, and
-//! an old or earlier bank gets code 11 exactly where it has records.
+//! an old or earlier bank gets code 11 exactly where it has records. Of sound ones of the newest form the words about two logs are held against the second
+//! engine.
 
 use crate::bank;
 use crate::cases::has;
 use crate::diagnosis;
 use crate::fault::Fault;
 use crate::logs;
+use crate::pairs::Pairs;
 use crate::rules::Rule;
 use crate::table;
 use crate::verdict::{self, HAS_RECORDS, MALFORMED};
@@ -31,6 +33,8 @@ struct Met {
     banks: u64,
     sound: u64,
     broken: Vec<u64>,
+    /// Of the newest form alone.
+    pairs: Pairs,
 }
 
 impl Met {
@@ -39,6 +43,16 @@ impl Met {
             banks: 0,
             sound: 0,
             broken: vec![0; Rule::ALL.len()],
+            pairs: Pairs::default(),
+        }
+    }
+
+    /// A sound bank; of the newest form the words about its pairs of boards must be right.
+    fn take_sound<const FORM: Form>(&mut self, bytes: &[u8]) -> Result<(), String> {
+        self.sound += 1;
+        match FORM {
+            NEWEST => self.pairs.take(bytes),
+            _ => Ok(()),
         }
     }
 
@@ -54,10 +68,17 @@ impl Met {
         for (rule, times) in self.rules::<FORM>() {
             println!("{times:>10}  {}", rule.words());
         }
+        if FORM == NEWEST {
+            self.pairs.print();
+        }
     }
 
     fn every_rule<const FORM: Form>(&self) -> bool {
         self.banks < ENOUGH || self.rules::<FORM>().all(|(_, times)| times > 0)
+    }
+
+    fn every_pair<const FORM: Form>(&self) -> bool {
+        self.banks < ENOUGH || FORM != NEWEST || self.pairs.all_met()
     }
 }
 
@@ -126,7 +147,7 @@ fn look<const FORM: Form>(met: &mut Met, random: &mut Random, bytes: &[u8]) -> R
     met.banks += 1;
     match judged::<FORM>(bytes)? {
         Some(found) => met.broken[found.rule as usize] += 1,
-        None => met.sound += 1,
+        None => met.take_sound::<FORM>(bytes)?,
     }
     if random.below(PRINTED) == 0 {
         print::<FORM>(random, bytes);
@@ -170,11 +191,12 @@ fn form<const FORM: Form>(name: &str, seed: u64, wanted: u64) -> bool {
     let result = run::<FORM>(&mut met, &mut Random::new(seed), wanted);
     met.print::<FORM>(name);
     match &result {
-        Ok(()) if met.every_rule::<FORM>() => (),
-        Ok(()) => println!("a rule was never broken"),
+        Ok(()) if !met.every_rule::<FORM>() => println!("a rule was never broken"),
+        Ok(()) if !met.every_pair::<FORM>() => println!("one kind of pair was never met"),
+        Ok(()) => return true,
         Err(sentence) => println!("bank {} of seed {seed}: {sentence}", met.banks),
     }
-    result.is_ok() && met.every_rule::<FORM>()
+    false
 }
 
 /// A third of the banks have each form. Says what was met, and whether all agreed.

@@ -1,5 +1,6 @@
 //! Banks that are damaged by hand, at least one for each rule of the newest form and of the older. All begin as the script of the tables leaves its bank: of
-//! three boards, 0 replays, and of its four pages board 1 owns page 3. Those of the older form have leftovers behind their logs.
+//! three boards, 0 replays, and of its four pages board 1 owns page 3. Those of the older form have leftovers behind their logs. Two more break no rule, but
+//! their logs don't agree.
 
 use crate::rules::Rule;
 use second::fault::Fault;
@@ -197,6 +198,18 @@ pub fn undamaged<const FORM: Form>(more: &str) -> Vec<u8> {
 /// A bank of the older form without a record.
 pub fn old_without_records() -> Vec<u8> {
     old(&left_by(["N 2 1"].into_iter()))
+}
+
+/// A bank that stays well formed when a byte of a stored log is changed.
+pub fn with_other_log(name: &str) -> Option<Vec<u8>> {
+    let mut bank = undamaged::<NEWEST>("");
+    let l = Layout::of(&bank);
+    match name {
+        "got-of-another-page" => bank[l.area_slot(l.area(2, 0), 2) + SLOT_PAGE] = 1,
+        "shown-to-another-board" => bank[l.area_slot(l.area(1, 0), 1) + SLOT_BOARD] = 2,
+        _ => return None,
+    }
+    Some(bank)
 }
 
 /// A bank of one board with a record, which can name no board.

@@ -1,10 +1,12 @@
 //! The test of what `show` says of bytes that are no well-formed bank of any form: the words for banks damaged by hand, and on random ones whether it
-//! agrees with the archive of the proved engine.
+//! agrees with the archive of the proved engine. Of well-formed ones it tests the words about two logs.
 
 mod agree;
 #[path = "../../../tools/show/src/bank.rs"]
 mod bank;
 mod cases;
+#[path = "../../../tools/show/src/compared.rs"]
+mod compared;
 #[path = "../../../tools/show/src/diagnosis.rs"]
 mod diagnosis;
 #[allow(dead_code)]
@@ -18,6 +20,7 @@ mod log;
 mod logs;
 #[path = "../../../tools/show/src/names.rs"]
 mod names;
+mod pairs;
 #[path = "../../compare/src/place.rs"]
 mod place;
 #[path = "../../../tools/show/src/rules.rs"]
@@ -27,7 +30,7 @@ mod table;
 #[path = "../../../tools/show/src/verdict.rs"]
 mod verdict;
 
-use cases::{cases, has, old_without_records, undamaged};
+use cases::{cases, has, old_without_records, undamaged, with_other_log};
 use rules::Rule;
 use second::layout::{Form, EARLIER, NEWEST, OLDER};
 use std::io::{self, Write};
@@ -35,7 +38,8 @@ use std::process::ExitCode;
 
 const USAGE: &str = "usage: check words          the words for each bank damaged by hand
        check bank NAME      the bytes of one of them, or of the one they come from: undamaged. Of the older form: old-NAME,
-                            also old-without-records. Of the earlier form: earlier
+                            also old-without-records. Of the earlier form: earlier. Well formed, but with logs that
+                            don't agree: got-of-another-page, shown-to-another-board
        check agree SEED BANKS";
 
 /// What names in the older form begin with.
@@ -79,7 +83,7 @@ fn bank(name: &str) -> Option<bool> {
         Some("without-records") => old_without_records(),
         Some(name) => named::<OLDER>(name)?,
         None if name == "earlier" => undamaged::<EARLIER>(""),
-        None => named::<NEWEST>(name)?,
+        None => with_other_log(name).or_else(|| named::<NEWEST>(name))?,
     };
     Some(io::stdout().write_all(&bytes).is_ok())
 }

@@ -1,7 +1,7 @@
-//! What is printed of a bank's bytes: what they are or which rule they break, then the tables or two logs.
+//! What is printed of a bank's bytes: what they are or which rule they break, then the tables or two logs, and of well-formed ones whether logs agree.
 
 use crate::verdict::{self, HAS_RECORDS, MALFORMED};
-use crate::{bank, diagnosis, logs, table};
+use crate::{bank, compared, diagnosis, logs, table};
 use second::layout::{Form, EARLIER, NEWEST, OLDER};
 
 /// What is printed, and whether it is of a well-formed bank.
@@ -14,7 +14,7 @@ pub struct Shown {
 type Two = Option<[usize; 2]>;
 
 /// The tables of all that can be read, or the two logs that are asked for.
-pub fn tables<const FORM: Form>(bytes: &[u8], logs: Two) -> Result<String, String> {
+fn tables<const FORM: Form>(bytes: &[u8], logs: Two) -> Result<String, String> {
     let Some(layout) = diagnosis::layout::<FORM>(bytes) else {
         let sentence = "No table can be printed: where the fields are follows from the numbers of boards and pages in the head.";
         return Ok(format!("\n{sentence}\n"));
@@ -24,6 +24,12 @@ pub fn tables<const FORM: Form>(bytes: &[u8], logs: Two) -> Result<String, Strin
         Some(boards) => logs::print(&bank, boards),
         None => Ok(table::print(&bank)),
     }
+}
+
+/// The same of a well-formed bank of the newest form, and whether its logs agree.
+pub fn sound(bytes: &mut [u8], logs: Two) -> Result<String, String> {
+    let tables = tables::<NEWEST>(bytes, logs)?;
+    Ok(tables + &compared::print(bytes, logs))
 }
 
 /// What an old bank needs, by the engine's code for it.
@@ -80,9 +86,10 @@ fn show_newest(bytes: &mut [u8], logs: Two) -> Result<Shown, String> {
         true => "The bytes of a bank\n".into(),
         false => broken::<NEWEST>(bytes, newest_note(bytes, earlier)),
     };
-    let tables = match earlier {
-        true => tables::<EARLIER>(bytes, logs)?,
-        false => tables::<NEWEST>(bytes, logs)?,
+    let tables = match (well_formed, earlier) {
+        (true, _) => sound(bytes, logs)?,
+        (false, true) => tables::<EARLIER>(bytes, logs)?,
+        (false, false) => tables::<NEWEST>(bytes, logs)?,
     };
     Ok(Shown {
         text: title + &tables,

@@ -1,8 +1,9 @@
-//! Runs a script on the proved engine and prints, after its last line or a named one, the bank in tables, or two boards' logs side by side.
-//! The bytes of a bank are printed as they are, in any form; if they are not well formed, behind the first rule that they break.
+//! Runs a script on the proved engine and prints, after its last line or a named one, the bank in tables, or two boards' logs side by side, and whether the
+//! logs agree. The bytes of a bank are printed as they are, in any form; if they are not well formed, behind the first rule that they break.
 
 mod bank;
 mod bytes;
+mod compared;
 mod diagnosis;
 #[allow(dead_code)]
 #[path = "../../../tests/compare/src/engines.rs"]
@@ -21,7 +22,7 @@ mod words;
 use bytes::Shown;
 use engines::{archive, unpacked};
 use second::calls::Answer;
-use second::layout::{HEAD, NEWEST};
+use second::layout::HEAD;
 use second::line::{read_line, Line, Lines};
 use second::runner::length;
 use std::io::{self, Read, Write};
@@ -128,10 +129,10 @@ fn show_script(script: &[u8], asked: &Asked) -> Result<Shown, String> {
         text,
         answer,
     } = run(script, asked.line)?;
-    let Some(bank) = bank else {
+    let Some(mut bank) = bank else {
         return Err(format!("there is no bank after line {lines}, {text} ({answer}): line 1 must make one, as N 2 1 does"));
     };
-    let tables = bytes::tables::<NEWEST>(&bank, asked.logs)?;
+    let tables = bytes::sound(&mut bank, asked.logs)?;
     Ok(Shown {
         text: format!("After line {lines}, {text}: {answer}\n{tables}"),
         well_formed: true,

@@ -24,6 +24,11 @@ use Rattle.model.specs.Cases.Holders.{holderGives, ownerReplays, lowestG
 use Rattle.model.specs.Cases.Holders.{passedOn}
 use Rattle.model.specs.Cases.Peers.{namesIn, logNames, bankAfter, holderNamed, writerNamed, giversNamed, storedWith, spareWith, volatileWith, parts}
 use Rattle.model.specs.Cases.Peers.{refusedPeers, earlier, adoptsAs, adopts, earlierToday, checkpointsEmpty, peersWorked}
+use Rattle.model.specs.Laws.Codes.Statement.{boardNamed}
+use Rattle.model.specs.Cases.Logs.{answersAs, yields, twoLogs, onePair, lowerFirst, storedOnly, anyState, codesCompared, lostBoard, wasCut}
+use Rattle.model.specs.Cases.Logs.{wasCheckpointed}
+use Rattle.model.specs.Cases.Logs.{calledInVain, broken, breaks, yieldsBy, givenInVain, giverWasCut, takerWasCut, giverCheckpointed, takerCheckpointed}
+use Rattle.model.specs.Cases.Logs.{nothingBroken, eachNeeded}
 use Rattle.model.specs.Cases.Worked.{giverCut, twoDue, holderRepeats}
 use Rattle.model.specs.Cases.Running.{leavesOn, passesOn, passesFresh, premisesOn, claimsOn, holdsOn, grantsIn}
 use Rattle.model.specs.Definitions.Check.{sizesAllowed}
@@ -38,7 +43,9 @@ unfolding noHistory ofBoard discard doneEvent eventOf entryCount repeats withNum
     otherByteRepeated otherOrder readForCells otherOrderLost twoGivers giverCut twoDue glancesOn twoPages giverLost firstGiverLost endLost replayEnds
     wrongLists withStored glancesFrom needsAdded differsWith groupsDiffer glances holderGives ownerReplays lowestGives bothGiven otherMissing giverCharged
     holders holderGave passedOn holderRepeats namesIn logNames bankAfter holderNamed writerNamed giversNamed storedWith spareWith volatileWith
-    parts refusedPeers earlier adoptsAs adopts earlierToday checkpointsEmpty peersWorked
+    parts refusedPeers earlier adoptsAs adopts earlierToday checkpointsEmpty peersWorked boardNamed answersAs yields twoLogs onePair lowerFirst storedOnly
+    anyState codesCompared lostBoard wasCut wasCheckpointed calledInVain broken breaks yieldsBy givenInVain giverWasCut takerWasCut giverCheckpointed
+    takerCheckpointed nothingBroken eachNeeded
 tables = tt
 
 pub lengths-hold : lengths ≡ true
@@ -60,6 +67,26 @@ holders-hold = refl
 pub peers-hold : peersWorked ≡ true
 unfolding evaluate tables
 peers-hold = refl
+
+pub pairs-hold : onePair ≡ true
+unfolding evaluate tables
+pairs-hold = refl
+
+pub lower-first : lowerFirst ≡ true
+unfolding evaluate tables
+lower-first = refl
+
+pub stored-only : storedOnly ≡ true
+unfolding evaluate tables
+stored-only = refl
+
+pub comparisons-hold : (anyState && codesCompared) ≡ true
+unfolding evaluate tables
+comparisons-hold = refl
+
+pub each-needed : eachNeeded ≡ true
+unfolding evaluate tables
+each-needed = refl
 
 pub scripts-sized : every (λ c. sizesAllowed (c .boards) (c .pages)) scripts ≡ true
 unfolding evaluate tables

@@ -13,7 +13,8 @@ use Rattle.model.specs.Definitions.Codec.{decodeIn}
 use Rattle.model.specs.Definitions.WellFormed.{isGot, PlaceOk, rightIn, isUp, isDown, isReplaying}
 use Rattle.model.specs.Definitions.Check.{isZero, headValid, entryValid, directoryValid, areaCount, countsValid, frameValid, framesValid, allFramesValid}
 use Rattle.model.specs.Definitions.Check.{fieldsValid, selectedCount, isBlank, stateValid, boardValid, sameRight, pageAgrees, pageAgreesAt, pagesAgree}
-use Rattle.model.specs.Definitions.Check.{blockFits, gotMark, bareMark, markFits, slotValid, peerAllowed, slotPeerValid, directoryOf, blocksFit, logsValid}
+use Rattle.model.specs.Definitions.Check.{blockFits, gotMark, bareMark, markFits, slotValid, peerAllowed, slotPeerValid, directoryOf, blocksFit}
+use Rattle.model.specs.Definitions.Check.{logsValid}
 use Rattle.model.specs.Definitions.Check.{recordPasses, storedPasses, slotsPass, recordsPass, peersValid, blockOfIn, wellFormedIn}
 use Rattle.model.specs.Definitions.Steps.{start, step, poweredOff, forgotten, powerOff, withFuse, fuseBoard, burnt, store, storeAll, appended, recorded}
 use Rattle.model.specs.Definitions.Steps.{note, movedRecord, storedRecord, recordStores, flush, storedFrame, storedHead, storedSelector, spareStores}
@@ -29,6 +30,8 @@ use Rattle.model.specs.Definitions.Calls.{firstOf, unless, finished, pag
 use Rattle.model.specs.Definitions.Calls.{need, short, shortBoard, isSome, numberIn, nobodyGives, pageMissing, liveRefusals, prepared, performed, live}
 use Rattle.model.specs.Definitions.Calls.{liveAfterEnd, replaying, cellInRange, accessInRange, wrongCells, countersFull, refusalsWithin, accessWithin}
 use Rattle.model.specs.Definitions.Calls.{checkpointBank, fuseBank, restartBank, callBank, refused, replyOf, callWithin, call, make, bufferAfter}
+use Rattle.model.specs.Definitions.Calls.{compareBank}
+use Rattle.model.specs.Definitions.Logs.{isShown, pagesNaming, firstUnmatched, unmatchedIn, comparedInOrder, comparedLogs}
 use Rattle.model.specs.Definitions.Older.{logEmpty, boardEmpty, noRecords, adopt, clearedBoard, cleared, fitsTarget, convert}
 
 unfoldable pub evaluate : Unit {0}
@@ -49,5 +52,5 @@ unfolding bytesOf numberOf part splice byteAt zeros encodeAll decodeAll update e
     short shortBoard isSome numberIn nobodyGives pageMissing liveRefusals prepared performed live liveAfterEnd replaying cellInRange accessInRange wrongCells
     countersFull refusalsWithin accessWithin checkpointBank fuseBank restartBank callBank callWithin refused replyOf call make logEmpty boardEmpty noRecords
     adopt clearedBoard cleared
-    fitsTarget convert bufferAfter
+    fitsTarget convert bufferAfter isShown pagesNaming firstUnmatched unmatchedIn comparedInOrder comparedLogs compareBank
 evaluate = tt

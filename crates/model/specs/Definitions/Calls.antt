@@ -1,4 +1,4 @@
--- Document 01's calls, with document 02's F-1 to F-6, for any numbers: first on a bank, then on bytes of any length and content.
+-- Document 01's calls, with document 02's F-1 to F-7, for any numbers: first on a bank, then on bytes of any length and content.
 -- Each refusal is in the table's order, and the list of tests shows that order. Assumes nothing.
 use Prim.Native.Nat.{ℕ, _+_, _%_}
 use mathlib.Core.Bool.{Bool, true, false, _&&_, _||_, not}
@@ -11,7 +11,7 @@ use Rattle.types.specs.declared.CopyOrOwn.{CopyOrOwn}
 use Rattle.types.specs.declared.CopyOrOwn.the-variants.{GotCopy, GotOwn}
 use Rattle.types.specs.declared.Answer.{Answer}
 use Rattle.types.specs.declared.Answer.the-variants.{Done, Malformed, OutOfRange, WrongState, CountersFull, ReplayDiffers, OwnerNotUp, LogFull, PowerLost}
-use Rattle.types.specs.declared.Answer.the-variants.{WrongCells}
+use Rattle.types.specs.declared.Answer.the-variants.{WrongCells, SameBoard}
 use Rattle.types.specs.declared.Outcome.{Outcome}
 use Rattle.model.specs.Definitions.Parts.{every, firstBelow, sumBelow, member}
 use Rattle.model.specs.Definitions.Layout.{byteValues, pageSize, mostCells, slotCount, noFuse, lastSince, lastNumber, bankSize}
@@ -23,6 +23,7 @@ use Rattle.model.specs.Definitions.Check.{wellFormed, sizesAllowed}
 use Rattle.model.specs.Definitions.Steps.{Run, start, step, fuseBoard, checkpoint, Access, Read, Write, ReadCells, Cell, cellsAsked, cellsRead}
 use Rattle.model.specs.Definitions.Steps.{cellsWritten, anyWrite, takes, lacksPage, lackingPages, valueOf, givenOf, access, ownerUp, giver, dropCopies}
 use Rattle.model.specs.Definitions.Steps.{fetch}
+use Rattle.model.specs.Definitions.Logs.{comparedLogs}
 use Rattle.model.specs.Definitions.Replay.{restarted, lacking, differs, tookDue, replayOver, endReplay, endIfOver, replayed}
 
 -- ==== a call's result on a bank
@@ -229,11 +230,20 @@ restartBank b k =
     (start k)
     (finished (boardAt k b .stable .selected .number) [] (endIfOver b (start (onBoard b restarted k))))
 
+-- "It works in every state of the boards"; "The same board named twice gives code 12, tested after 2" (document 02, F-7). Nothing changes.
+unfoldable pub compareBank : ℕ → ℕ → Bank → Result
+compareBank b c k =
+    unless
+    ((not (ltb b (length (k .boards)) && ltb c (length (k .boards))), OutOfRange) ∷ (eqb b c, SameBoard) ∷ [])
+    (start k)
+    (record { answer = comparedLogs b c k; run = start k; given = [] })
+
 pub data Call : Type 0 where
   Accessing : (board : ℕ) (access : Access) → Call
   Checkpointing : (board : ℕ) → Call
   Fusing : (board stores : ℕ) → Call
   Restarting : (board : ℕ) → Call
+  Comparing : (board other : ℕ) → Call
 
 -- a call, with this largest since
 unfoldable pub callWithin : (largest : ℕ) → Call → Bank → Result
@@ -241,6 +251,7 @@ callWithin largest (Accessing b a) k = accessWithin largest b a k
 callWithin largest (Checkpointing b) k = checkpointBank b k
 callWithin largest (Fusing b n) k = fuseBank b n k
 callWithin largest (Restarting b) k = restartBank b k
+callWithin largest (Comparing b c) k = compareBank b c k
 
 -- with today's
 unfoldable pub callBank : Call → Bank → Result

@@ -17,8 +17,8 @@ use Rattle.model.specs.Definitions.Bank.{Area, Board, Bank, boardAt, ent
 use Rattle.model.specs.Definitions.WellFormed.{isReplaying, WellFormed}
 use Rattle.model.specs.Definitions.Steps.{Run, Access}
 use Rattle.model.specs.Definitions.Replay.{tookDue, replayOver}
-use Rattle.model.specs.Definitions.Calls.{firstOf, accessRefusals, Call, Restarting, callBank}
-use Rattle.model.specs.Laws.Codes.Statement.{boardNamed, afterReplay}
+use Rattle.model.specs.Definitions.Calls.{firstOf, accessRefusals, Call, Accessing, Checkpointing, Fusing, Restarting, Comparing, callBank}
+use Rattle.model.specs.Laws.Codes.Statement.{afterReplay}
 use Rattle.model.specs.History.Statement.{accessOf}
 
 -- ==== what a call gives
@@ -64,6 +64,15 @@ heardOf b a given r = record { answer = a; stores = r .stores; given = given; le
 
 -- ==== a replay
 
+-- a call of board b: its access, a fuse that is set on it, a checkpoint or a restart of it. The call that holds two logs against each other is no board's
+-- (document 02, F-7): it looks at both, and changes nothing.
+unfoldable pub isCallOf : ℕ → Call → Bool
+isCallOf b (Accessing d a) = eqb d b
+isCallOf b (Checkpointing d) = eqb d b
+isCallOf b (Fusing d n) = eqb d b
+isCallOf b (Restarting d) = eqb d b
+isCallOf b (Comparing d e) = false
+
 -- "An access whose got was the last record then goes on live", unless the end's own checkpoint blew the fuse: with what the end of replay left
 unfoldable pub goesOnLive : ℕ → Access → Bank → Option Run
 goesOnLive b a k =
@@ -88,7 +97,7 @@ heard b (c ∷ cs) k =
     elim (isReplaying (boardAt k b .state)) [
       | false ↦ []
       | true ↦
-          elim (eqb (boardNamed c) b) [
+          elim (isCallOf b c) [
             | false ↦ heard b cs (callBank c k .run .bank)
             | true ↦
                 elim (liveIn (accessOf c) k) [
@@ -133,10 +142,10 @@ endFrom b cs k =
 
 -- ==== what it depends on
 
--- the calls of board b: its accesses, and the fuses that are set on it
+-- the calls of board b, in order
 unfoldable pub callsOf : ℕ → List Call → List Call
 callsOf b [] = []
-callsOf b (c ∷ cs) = elim (eqb (boardNamed c) b) [ true ↦ c ∷ callsOf b cs | false ↦ callsOf b cs ]
+callsOf b (c ∷ cs) = elim (isCallOf b c) [ true ↦ c ∷ callsOf b cs | false ↦ callsOf b cs ]
 
 -- number, frames and records; not the bytes behind them
 pub record SameArea (a c : Area) : Type 0 where
@@ -156,7 +165,7 @@ pub record SameStart (b : ℕ) (k j : Bank) : Type 0 where
   pub down : (boardAt k b .state ≡ Down) × (boardAt j b .state ≡ Down)
   pub area : SameArea (boardAt k b .stable .selected) (boardAt j b .stable .selected)
 
--- The claim: the calls of the other boards may be any, and differ in the two banks.
+-- The claim: all other calls may be any, and differ in the two banks.
 abbrev pub SameReplay : ℕ → Bank → Bank → Type 0
 SameReplay b k j =
     (cs ds : List Call)

@@ -13,7 +13,7 @@ use Rattle.types.specs.declared.State.the-variants.{Replaying}
 use Rattle.types.specs.declared.Answer.{Answer}
 use Rattle.types.specs.declared.Outcome.{Outcome}
 use Rattle.types.specs.declared.Answer.the-variants.{Done, Malformed, OutOfRange, WrongState, CountersFull, ReplayDiffers, OwnerNotUp, LogFull, PowerLost}
-use Rattle.types.specs.declared.Answer.the-variants.{WrongCells, HasRecords}
+use Rattle.types.specs.declared.Answer.the-variants.{WrongCells, HasRecords, Compared, SameBoard}
 use Rattle.model.specs.Definitions.Parts.{zeros}
 use Rattle.model.specs.Definitions.Layout.{pageSize}
 use Rattle.model.specs.Definitions.Bank.{Bank, boardAt, onBoard, fresh}
@@ -22,7 +22,7 @@ use Rattle.model.specs.Definitions.WellFormed.{isReplaying}
 use Rattle.model.specs.Definitions.Steps.{start, Access, Read, Write, ReadCells, Cell, cellsRead, cellsWritten, takes, giver}
 use Rattle.model.specs.Definitions.Replay.{tookDue, replayOver, endReplay, recoveryPoint}
 use Rattle.model.specs.Definitions.Answers.{code}
-use Rattle.model.specs.Definitions.Calls.{Call, Accessing, Checkpointing, Fusing, Restarting, call, pagesLacking}
+use Rattle.model.specs.Definitions.Calls.{Call, Accessing, Checkpointing, Fusing, Restarting, Comparing, call, pagesLacking}
 
 -- ==== the history
 
@@ -78,8 +78,10 @@ doneEvent (Checkpointing b) v given = Nothing
 doneEvent (Fusing b zero) v given = LostPower b
 doneEvent (Fusing b (suc n)) v given = Nothing
 doneEvent (Restarting b) v given = Restarted b v
+doneEvent (Comparing b c) v given = Nothing
 
 -- "Cut answered 0", and "any call answered 8": under 8 it is the board that `who` names. "All else: nothing." `given` is the second buffer after a done call.
+-- `Compared` is code 0 too, and the answer of two logs compared alone (Laws/Codes/Statement, doneAs).
 unfoldable pub eventOf : Call → Answer → List ℕ → Event
 eventOf c (Done v) given = doneEvent c v given
 eventOf c Malformed given = Nothing
@@ -92,6 +94,8 @@ eventOf c (LogFull b) given = Nothing
 eventOf c (PowerLost b) given = LostPower b
 eventOf c WrongCells given = Nothing
 eventOf c HasRecords given = Nothing
+eventOf c (Compared i b) given = Nothing
+eventOf c SameBoard given = Nothing
 
 -- how many entries a board has
 unfoldable pub entryCount : ℕ → History → ℕ
@@ -162,6 +166,7 @@ accessOf (Accessing b a) = some (b, a)
 accessOf (Checkpointing b) = none
 accessOf (Fusing b n) = none
 accessOf (Restarting b) = none
+accessOf (Comparing b c) = none
 
 -- the bank on which an access answered 0 goes on live, if it does: of an up board, and of a replaying board whose due gots were the last records
 unfoldable pub liveBank : ℕ → Access → Bank → Option Bank

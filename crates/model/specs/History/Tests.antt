@@ -12,7 +12,7 @@ use Rattle.types.specs.declared.State.{State}
 use Rattle.types.specs.declared.State.the-variants.{Replaying}
 use Rattle.types.specs.declared.Answer.{Answer}
 use Rattle.types.specs.declared.Answer.the-variants.{Done, Malformed, OutOfRange, WrongState, CountersFull, ReplayDiffers, OwnerNotUp, LogFull, PowerLost}
-use Rattle.types.specs.declared.Answer.the-variants.{WrongCells, HasRecords}
+use Rattle.types.specs.declared.Answer.the-variants.{WrongCells, HasRecords, Compared, SameBoard}
 use Rattle.model.specs.Definitions.Parts.{everyBelow}
 use Rattle.model.specs.Definitions.Bank.{Bank, boardAt}
 use Rattle.model.specs.Definitions.Codec.{decode}
@@ -112,6 +112,8 @@ gaveEntry a (some e) (LogFull b) given = true
 gaveEntry a (some e) (PowerLost b) given = true
 gaveEntry a (some e) WrongCells given = true
 gaveEntry a (some e) HasRecords given = true
+gaveEntry a (some e) (Compared i b) given = true
+gaveEntry a (some e) SameBoard given = true
 
 unfoldable pub repeatFor : Answer → List ℕ → History → Option (ℕ × Access) → Bool
 repeatFor r given h none = true
@@ -207,6 +209,8 @@ gaveEntry-all a (some e) (LogFull b) given h = refl
 gaveEntry-all a (some e) (PowerLost b) given h = refl
 gaveEntry-all a (some e) WrongCells given h = refl
 gaveEntry-all a (some e) HasRecords given h = refl
+gaveEntry-all a (some e) (Compared i b) given h = refl
+gaveEntry-all a (some e) SameBoard given h = refl
 
 repeat-for : (c : Call) (t : System) (o : Option (ℕ × Access)) → accessOf c ≡ o
     → Says (repeatFor (call c (t .bytes) .outcome .answer) (call c (t .bytes) .given) (t .history) o) (RepeatAgrees c t)

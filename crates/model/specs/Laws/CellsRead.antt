@@ -17,8 +17,7 @@ use Rattle.types.specs.declared.CopyOrOwn.{CopyOrOwn}
 use Rattle.types.specs.declared.CopyOrOwn.the-variants.{GotCopy, GotOwn}
 use Rattle.types.specs.declared.State.the-variants.{Up}
 use Rattle.types.specs.declared.Answer.{Answer}
-use Rattle.types.specs.declared.Answer.the-variants.{Done, Malformed, OutOfRange, WrongState, CountersFull, ReplayDiffers, OwnerNotUp, LogFull, PowerLost}
-use Rattle.types.specs.declared.Answer.the-variants.{WrongCells, HasRecords}
+use Rattle.types.specs.declared.Answer.the-variants.{Done, Malformed}
 use Rattle.model.specs.Definitions.Bank.{Board, Bank, boardAt, frameAt, onBoard, onWorking, onFrames}
 use Rattle.model.specs.Definitions.Codec.{encode, decode}
 use Rattle.model.specs.Definitions.WellFormed.{isReplaying, WellFormed}
@@ -54,6 +53,7 @@ use Rattle.model.specs.Laws.WellFormedTest.{wellFormed-sound}
 use Rattle.model.specs.History.OnBytes.{call-encode}
 use Rattle.model.specs.History.CellsStatement.{singleReads, answersOf, CellsAsReads}
 use Rattle.model.specs.Laws.Codes.Order.{never}
+use Rattle.model.specs.Laws.Codes.Ends.{access-done-form}
 use Rattle.model.specs.History.Statement.{bytesSeen, runOf}
 
 -- ==== what a board sees
@@ -437,20 +437,6 @@ reads-values b (c ∷ cs) k (v ∷ vs) w up l e =
 
 -- ==== the claim
 
-pub done-form : (x : Answer) → code x ≡ 0 → x ≡ Done (value x)
-unfolding code value
-done-form (Done v) e = refl
-done-form Malformed e = never (omega arith)
-done-form OutOfRange e = never (omega arith)
-done-form (WrongState b) e = never (omega arith)
-done-form (CountersFull b) e = never (omega arith)
-done-form (ReplayDiffers b) e = never (omega arith)
-done-form (OwnerNotUp b) e = never (omega arith)
-done-form (LogFull b) e = never (omega arith)
-done-form (PowerLost b) e = never (omega arith)
-done-form WrongCells e = never (omega arith)
-done-form HasRecords e = never (omega arith)
-
 answers-bytes : (cs : List Call) (s : List ℕ) → wellFormed s ≡ true → answersOf cs s ≡ answersOn cs (decode s)
 unfolding runOf answersOn call replyOf
 answers-bytes [] s t = refl
@@ -467,7 +453,7 @@ unfolding callBank takes cellsRead bytesSeen
 cells-on b cells outLength k w up done values e =
     let a : Access = ReadCells cells outLength in
     let r : ReadDone b a k (value (accessBank b a k .answer)) =
-    read-done b a k w up refl (value (accessBank b a k .answer)) (done-form (accessBank b a k .answer) done) in
+    read-done b a k w up refl (value (accessBank b a k .answer)) (access-done-form b a k done) in
     r .read
     ∙ sym (reads-values b (cellsAsked cells) k values w up (each-imp (cellsAsked cells) (λ c t. r .pages (c .page) t) (read-named a)) e)
 

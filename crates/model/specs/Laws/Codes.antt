@@ -1,4 +1,4 @@
--- Document 01's table "Codes", with document 02's code 10, checked: on any bytes a call answers the code of the first row that holds, and 0 where none
+-- Document 01's table "Codes", with document 02's codes 10 and 12, checked: on any bytes a call answers the code of the first row that holds, and 0 where none
 -- does; who and value as the table says. `codes` is the theorem, what follows it reads it code by code. Assumes nothing.
 pub mod Statement
 pub mod Order
@@ -10,7 +10,7 @@ pub mod Ends
 pub mod Losses
 use mathlib.Core.Path.{_≡_, refl, ap}
 use mathlib.Core.Logic.{_≢_, inl, inr, _↔_}
-use Prim.Native.Nat.{ℕ, _<_}
+use Prim.Native.Nat.{ℕ, suc, _<_}
 use native.Mathlib.Omega.{arith}
 use mathlib.Core.Bool.{Bool, true, false, _&&_, not}
 use mathlib.Core.List.{List, [], _∷_}
@@ -19,7 +19,7 @@ use lib.Dec.{eqb, ltb, leb}
 use borrow.Author.Tests.{eqb-true, eqb-false}
 use Rattle.types.specs.declared.Answer.{Answer}
 use Rattle.types.specs.declared.Answer.the-variants.{Done, Malformed, OutOfRange, WrongState, CountersFull, ReplayDiffers, OwnerNotUp, LogFull, PowerLost}
-use Rattle.types.specs.declared.Answer.the-variants.{WrongCells, HasRecords}
+use Rattle.types.specs.declared.Answer.the-variants.{WrongCells, HasRecords, Compared, SameBoard}
 use Rattle.model.specs.Definitions.Layout.{mostBoards, mostPages, bankSize}
 use Rattle.model.specs.Definitions.Bank.{Bank}
 use Rattle.model.specs.Definitions.Codec.{decode}
@@ -30,13 +30,17 @@ use Rattle.model.specs.Definitions.Calls.{Call, callBank, Reply, refused
 use Rattle.model.specs.Laws.Logic.{cases, clash}
 use Rattle.model.specs.Laws.WellFormedTest.{wellFormed-sound, wellFormed-iff}
 use Rattle.model.specs.Laws.Tests.{Says}
-use Rattle.model.specs.Laws.Codes.Statement.{Row, First, NoRow, WhoIn, codeIn, OfAccess, boardNamed, NumbersOut, AskedOut, StateOut, CountersOut}
-use Rattle.model.specs.Laws.Codes.Statement.{ReplayOut, OwnerOut, RoomOut, Live, LowestMissing, LowestShort, LosesPower, refusalRows, table, SizesOut}
+use Rattle.model.specs.Laws.Codes.Statement.{Row, First, NoRow, WhoIn, codeIn, OfAccess, boardNamed, NumbersOut, AskedOut, SameTwice, StateOut}
+use Rattle.model.specs.Laws.Codes.Statement.{CountersOut}
+use Rattle.model.specs.Laws.Codes.Statement.{ReplayOut, OwnerOut, RoomOut, Live, LowestMissing, LowestShort, LosesPower, refusalRows, bankRows, table}
+use Rattle.model.specs.Laws.Codes.Statement.{SizesOut}
+use Rattle.model.specs.Laws.Codes.Statement.{doneAs}
 use Rattle.model.specs.Laws.Codes.Statement.{LengthOut}
 use Rattle.model.specs.Laws.Codes.Order.{never, fails, refuted, says-not-and, says-not-pos, says-not-le, Judged, byRow, IsDone, judged-nil, judged-past}
 use Rattle.model.specs.Laws.Codes.Order.{noCode, differ, apart, judged-append, judged-code, judged-done, judged-who, judged-value}
 use Rattle.model.specs.Laws.Codes.Rows.{Ran, rows-judged}
 use Rattle.model.specs.Laws.Codes.Losses.{loses-power}
+use Rattle.model.specs.Laws.Codes.Ends.{done-form}
 
 -- ==== all rows
 
@@ -54,6 +58,8 @@ power-lost-form (LogFull b) e = never (omega arith)
 power-lost-form (PowerLost b) e = refl
 power-lost-form WrongCells e = never (omega arith)
 power-lost-form HasRecords e = never (omega arith)
+power-lost-form (Compared i b) e = never (omega arith)
+power-lost-form SameBoard e = never (omega arith)
 
 module _ (c : Call) (k : Bank) (w : WellFormed k) where
   -- row 8 of a call that nothing refused
@@ -76,7 +82,7 @@ is-true false n = absurd (n refl)
 
 module _ (c : Call) (s : List ℕ) where
   judged : Judged IsDone (table c s) (answerTo c s)
-  unfolding call replyOf refused table refusalRows code who value First WhoIn codeIn
+  unfolding call replyOf refused table bankRows refusalRows code who value First WhoIn codeIn
   judged =
       let k : Bank = decode s in
       let t : List Row = table c s in
@@ -89,7 +95,7 @@ module _ (c : Call) (s : List ℕ) where
       (λ e. byRow 0 e refl refl refl)
 
   told : apart (table c s) ≡ true
-  unfolding table refusalRows apart noCode differ
+  unfolding table bankRows refusalRows apart noCode differ
   told = refl
 
   -- CODES: a row's code is answered exactly where it is the first that holds ..
@@ -111,7 +117,7 @@ module _ (c : Call) (s : List ℕ) where
   -- ==== the same code by code
 
   pub code-1 : (code (answerTo c s) ≡ 1) ↔ (wellFormed s ≡ false)
-  unfolding table First codeIn
+  unfolding table bankRows First codeIn
   code-1 = codes 0 (omega arith)
 
   -- well formed as the clauses of Definitions.WellFormed say
@@ -119,99 +125,62 @@ module _ (c : Call) (s : List ℕ) where
   code-1-clauses =
       (λ e w. clash (wellFormed-iff s .1 w) (code-1 .0 e), λ n. code-1 .1 (refuted (wellFormed s) (wellFormed-iff s) n))
 
-  pub code-2 : (code (answerTo c s) ≡ 2) ↔ ((wellFormed s ≡ true) × NumbersOut c (decode s))
-  unfolding table refusalRows First codeIn
-  code-2 =
-      let row = codes 1 (omega arith) in
+  -- a code of well-formed bytes: its row holds, and none before it
+  refused-by : (i : ℕ) → suc i < length (table c s) → (code (answerTo c s) ≡ codeIn (bankRows c (decode s)) i)
+      ↔ ((wellFormed s ≡ true) × First (bankRows c (decode s)) i)
+  unfolding table bankRows First codeIn
+  refused-by i l =
+      let row = codes (suc i) l in
       (λ e. let f = row .0 e in (is-true (wellFormed s) (f .0), f .1), λ u. row .1 (λ n. clash (u .0) n, u .1))
 
-  pub code-10 : (code (answerTo c s) ≡ 10) ↔ ((wellFormed s ≡ true) × (¬ NumbersOut c (decode s)) × AskedOut c (decode s))
-  unfolding table refusalRows First codeIn
-  code-10 =
-      let row = codes 2 (omega arith) in (
-        λ e. let f = row .0 e in (is-true (wellFormed s) (f .0), f .1 .0, f .1 .1),
-        λ u. row .1 (λ n. clash (u .0) n, (u .1, u .2)),
-      )
+  pub code-2 : (code (answerTo c s) ≡ 2) ↔ ((wellFormed s ≡ true) × NumbersOut c (decode s))
+  unfolding table bankRows refusalRows First codeIn
+  code-2 = refused-by 0 (omega arith)
+
+  pub code-10 : (code (answerTo c s) ≡ 10) ↔ ((wellFormed s ≡ true) × ((¬ NumbersOut c (decode s)) × AskedOut c (decode s)))
+  unfolding table bankRows refusalRows First codeIn
+  code-10 = refused-by 1 (omega arith)
+
+  pub code-12 : (code (answerTo c s) ≡ 12) ↔ ((wellFormed s ≡ true) × ((¬ NumbersOut c (decode s)) × ((¬ AskedOut c (decode s)) × SameTwice c)))
+  unfolding table bankRows refusalRows First codeIn
+  code-12 = refused-by 2 (omega arith)
 
   pub code-3 : (code (answerTo c s) ≡ 3)
-      ↔ ((wellFormed s ≡ true) × (¬ NumbersOut c (decode s)) × (¬ AskedOut c (decode s)) × StateOut c (decode s))
-  unfolding table refusalRows First codeIn
-  code-3 =
-      let row = codes 3 (omega arith) in (
-        λ e. let f = row .0 e in (is-true (wellFormed s) (f .0), f .1 .0, f .1 .1 .0, f .1 .1 .1),
-        λ u. row .1 (λ n. clash (u .0) n, (u .1, (u .2, u .3))),
-      )
+      ↔ ((wellFormed s ≡ true) × ((¬ NumbersOut c (decode s)) × ((¬ AskedOut c (decode s)) × ((¬ SameTwice c) × StateOut c (decode s)))))
+  unfolding table bankRows refusalRows First codeIn
+  code-3 = refused-by 3 (omega arith)
 
   pub code-4 : (code (answerTo c s) ≡ 4)
-      ↔ ((wellFormed s ≡ true) × (¬ NumbersOut c (decode s)) × (¬ AskedOut c (decode s)) × (¬ StateOut c (decode s)) × CountersOut c (decode s))
-  unfolding table refusalRows First codeIn
-  code-4 =
-      let row = codes 4 (omega arith) in (
-        λ e. let f = row .0 e in (is-true (wellFormed s) (f .0), f .1 .0, f .1 .1 .0, f .1 .1 .1 .0, f .1 .1 .1 .1),
-        λ u. row .1 (λ n. clash (u .0) n, (u .1, (u .2, (u .3, u .4)))),
-      )
+      ↔ ((wellFormed s ≡ true) × ((¬ NumbersOut c (decode s)) × ((¬ AskedOut c (decode s)) × ((¬ SameTwice c) × ((¬ StateOut c (decode s))
+      × CountersOut c (decode s))))))
+  unfolding table bankRows refusalRows First codeIn
+  code-4 = refused-by 4 (omega arith)
 
   pub code-5 : (code (answerTo c s) ≡ 5)
-      ↔ ((wellFormed s ≡ true) × (¬ NumbersOut c (decode s)) × (¬ AskedOut c (decode s)) × (¬ StateOut c (decode s)) × (¬ CountersOut c (decode s))
-      × ReplayOut c (decode s))
-  unfolding table refusalRows First codeIn
-  code-5 =
-      let row = codes 5 (omega arith) in (
-        λ e. let f = row .0 e in (
-          is-true (wellFormed s) (f .0),
-          f .1 .0,
-          f .1 .1 .0,
-          f .1 .1 .1 .0,
-          f .1 .1 .1 .1 .0,
-          f .1 .1 .1 .1 .1,
-        ),
-        λ u. row .1 (λ n. clash (u .0) n, (u .1, (u .2, (u .3, (u .4, u .5))))),
-      )
+      ↔ ((wellFormed s ≡ true) × ((¬ NumbersOut c (decode s)) × ((¬ AskedOut c (decode s)) × ((¬ SameTwice c) × ((¬ StateOut c (decode s))
+      × ((¬ CountersOut c (decode s)) × ReplayOut c (decode s)))))))
+  unfolding table bankRows refusalRows First codeIn
+  code-5 = refused-by 5 (omega arith)
 
   pub code-6 : (code (answerTo c s) ≡ 6)
-      ↔ ((wellFormed s ≡ true) × (¬ NumbersOut c (decode s)) × (¬ AskedOut c (decode s)) × (¬ StateOut c (decode s)) × (¬ CountersOut c (decode s))
-      × (¬ ReplayOut c (decode s)) × OwnerOut c (decode s))
-  unfolding table refusalRows First codeIn
-  code-6 =
-      let row = codes 6 (omega arith) in (
-        λ e. let f = row .0 e in (
-          is-true (wellFormed s) (f .0),
-          f .1 .0,
-          f .1 .1 .0,
-          f .1 .1 .1 .0,
-          f .1 .1 .1 .1 .0,
-          f .1 .1 .1 .1 .1 .0,
-          f .1 .1 .1 .1 .1 .1,
-        ),
-        λ u. row .1 (λ n. clash (u .0) n, (u .1, (u .2, (u .3, (u .4, (u .5, u .6)))))),
-      )
+      ↔ ((wellFormed s ≡ true) × ((¬ NumbersOut c (decode s)) × ((¬ AskedOut c (decode s)) × ((¬ SameTwice c) × ((¬ StateOut c (decode s))
+      × ((¬ CountersOut c (decode s)) × ((¬ ReplayOut c (decode s)) × OwnerOut c (decode s))))))))
+  unfolding table bankRows refusalRows First codeIn
+  code-6 = refused-by 6 (omega arith)
 
   pub code-7 : (code (answerTo c s) ≡ 7)
-      ↔ ((wellFormed s ≡ true) × (¬ NumbersOut c (decode s)) × (¬ AskedOut c (decode s)) × (¬ StateOut c (decode s)) × (¬ CountersOut c (decode s))
-      × (¬ ReplayOut c (decode s)) × (¬ OwnerOut c (decode s)) × RoomOut c (decode s))
-  unfolding table refusalRows First codeIn
-  code-7 =
-      let row = codes 7 (omega arith) in (
-        λ e. let f = row .0 e in (
-          is-true (wellFormed s) (f .0),
-          f .1 .0,
-          f .1 .1 .0,
-          f .1 .1 .1 .0,
-          f .1 .1 .1 .1 .0,
-          f .1 .1 .1 .1 .1 .0,
-          f .1 .1 .1 .1 .1 .1 .0,
-          f .1 .1 .1 .1 .1 .1 .1,
-        ),
-        λ u. row .1 (λ n. clash (u .0) n, (u .1, (u .2, (u .3, (u .4, (u .5, (u .6, u .7))))))),
-      )
+      ↔ ((wellFormed s ≡ true) × ((¬ NumbersOut c (decode s)) × ((¬ AskedOut c (decode s)) × ((¬ SameTwice c) × ((¬ StateOut c (decode s))
+      × ((¬ CountersOut c (decode s)) × ((¬ ReplayOut c (decode s)) × ((¬ OwnerOut c (decode s)) × RoomOut c (decode s)))))))))
+  unfolding table bankRows refusalRows First codeIn
+  code-7 = refused-by 7 (omega arith)
 
   -- board b is answered with code 8 exactly where it was not down before and is down after; then no row before holds
   pub code-8 : (b : ℕ) → ((code (answerTo c s) ≡ 8) × (who (answerTo c s) ≡ b)) ↔ ((wellFormed s ≡ true) × LosesPower c (decode s) b)
-  unfolding table refusalRows First WhoIn codeIn call replyOf code who
+  unfolding table bankRows refusalRows First WhoIn codeIn call replyOf code who
   code-8 b = (
     λ u.
-        let f = codes 8 (omega arith) .0 (u .0) in
-        let l : LosesPower c (decode s) (who (answerTo c s)) = codes-who 8 (omega arith) (u .0) in
+        let f = codes 9 (omega arith) .0 (u .0) in
+        let l : LosesPower c (decode s) (who (answerTo c s)) = codes-who 9 (omega arith) (u .0) in
         (is-true (wellFormed s) (f .0), rw (u .1) at l),
     λ u.
         let w : wellFormed s ≡ true = u .0 in
@@ -220,39 +189,55 @@ module _ (c : Call) (s : List ℕ) where
         (ap code g, ap who g),
   )
 
+  -- ---- done
+
+  -- code 0 has one form: who is 0 unless two logs were compared
+  pub done-as : code (answerTo c s) ≡ 0 → answerTo c s ≡ doneAs c (value (answerTo c s)) (who (answerTo c s))
+  unfolding call replyOf refused code
+  done-as =
+      cases
+      (λ (y : Reply). code (y .outcome .answer) ≡ 0 → y .outcome .answer ≡ doneAs c (value (y .outcome .answer)) (who (y .outcome .answer)))
+      (wellFormed s)
+      (λ e. done-form c (decode s))
+      (λ e z. never (omega arith))
+
   -- ---- who
 
   pub who-1 : code (answerTo c s) ≡ 1 → who (answerTo c s) ≡ 0
-  unfolding table WhoIn codeIn
+  unfolding table bankRows WhoIn codeIn
   who-1 e = codes-who 0 (omega arith) e
 
   pub who-2 : code (answerTo c s) ≡ 2 → who (answerTo c s) ≡ 0
-  unfolding table refusalRows WhoIn codeIn
+  unfolding table bankRows refusalRows WhoIn codeIn
   who-2 e = codes-who 1 (omega arith) e
 
   pub who-10 : code (answerTo c s) ≡ 10 → who (answerTo c s) ≡ 0
-  unfolding table refusalRows WhoIn codeIn
+  unfolding table bankRows refusalRows WhoIn codeIn
   who-10 e = codes-who 2 (omega arith) e
 
+  pub who-12 : code (answerTo c s) ≡ 12 → who (answerTo c s) ≡ 0
+  unfolding table bankRows refusalRows WhoIn codeIn
+  who-12 e = codes-who 3 (omega arith) e
+
   pub who-3 : code (answerTo c s) ≡ 3 → who (answerTo c s) ≡ boardNamed c
-  unfolding table refusalRows WhoIn codeIn
-  who-3 e = codes-who 3 (omega arith) e
+  unfolding table bankRows refusalRows WhoIn codeIn
+  who-3 e = codes-who 4 (omega arith) e
 
   pub who-4 : code (answerTo c s) ≡ 4 → who (answerTo c s) ≡ boardNamed c
-  unfolding table refusalRows WhoIn codeIn
-  who-4 e = codes-who 4 (omega arith) e
+  unfolding table bankRows refusalRows WhoIn codeIn
+  who-4 e = codes-who 5 (omega arith) e
 
   pub who-5 : code (answerTo c s) ≡ 5 → who (answerTo c s) ≡ boardNamed c
-  unfolding table refusalRows WhoIn codeIn
-  who-5 e = codes-who 5 (omega arith) e
+  unfolding table bankRows refusalRows WhoIn codeIn
+  who-5 e = codes-who 6 (omega arith) e
 
   pub who-6 : code (answerTo c s) ≡ 6 → OfAccess (λ b a. Live (λ j. LowestMissing b a j (who (answerTo c s))) (decode s) b a) c
-  unfolding table refusalRows WhoIn codeIn
-  who-6 e = codes-who 6 (omega arith) e
+  unfolding table bankRows refusalRows WhoIn codeIn
+  who-6 e = codes-who 7 (omega arith) e
 
   pub who-7 : code (answerTo c s) ≡ 7 → OfAccess (λ b a. Live (λ j. LowestShort b a j (who (answerTo c s))) (decode s) b a) c
-  unfolding table refusalRows WhoIn codeIn
-  who-7 e = codes-who 7 (omega arith) e
+  unfolding table bankRows refusalRows WhoIn codeIn
+  who-7 e = codes-who 8 (omega arith) e
 
 -- ==== making a bank: 2 before 1
 

@@ -26,8 +26,10 @@ use Rattle.model.specs.Definitions.Steps.{restedWorking, checkpoint, sho
 use Rattle.model.specs.Definitions.Replay.{settle, loaded, usedUp, differs, tookDue, replayed, replayOver, endReplay, endIfOver}
 use Rattle.model.specs.Definitions.Calls.{Result, firstOf, unless, finished, pageWritten, copiesOut, lackingOf, pagesLacking, liveRefusals, prepared}
 use Rattle.model.specs.Definitions.Calls.{performed, live, liveAfterEnd, replaying, accessRefusals, accessWithin, accessBank, checkpointBank, fuseBank}
-use Rattle.model.specs.Definitions.Calls.{restartBank, Call, Accessing, Checkpointing, Fusing, Restarting, callBank, Reply, refused, replyOf, call}
+use Rattle.model.specs.Definitions.Calls.{restartBank, Call, Accessing, Checkpointing, Fusing, Restarting, Comparing, callBank, Reply, refused}
+use Rattle.model.specs.Definitions.Calls.{replyOf, call}
 use Rattle.model.specs.Laws.Logic.{byOption, cases, casesOption}
+use Rattle.model.specs.Laws.Codes.Cases.{compare-cases}
 use Rattle.model.specs.Laws.Lists.{each-head}
 use Rattle.model.specs.Laws.Below.{lackingPages-few}
 use Rattle.model.specs.Laws.Runs.{store-cases, step-going, follows-step, follows-note-flush, follows-show, follows-showAll, sizes-onBoard, step-stores}
@@ -222,11 +224,12 @@ module _ (b : ℕ) (k : Bank) (w : WellFormed k) where
       (λ e. finished-few _ _ (endIfOver b (start j)) mostStores (omega (arith, endIfOver-few b (start j), onBoard-few b (λ x. usedUp (loaded x)) k w)))
 
 bank-few : (c : Call) (k : Bank) → WellFormed k → callBank c k .run .stores ≤ mostStores
-unfolding callBank
+unfolding callBank start
 bank-few (Accessing b a) k w = access-few b k w a
 bank-few (Checkpointing b) k w = checkpointBank-few b k w
 bank-few (Fusing b n) k w = fuseBank-few b k w n
 bank-few (Restarting b) k w = restartBank-few b k w
+bank-few (Comparing b c) k w = compare-cases (λ (t : Result). t .run .stores ≤ mostStores) b c k (λ x h i. omega arith) (λ i d. omega arith)
 
 -- every call, on any bytes
 pub call-few : (c : Call) (s : List ℕ) → call c s .outcome .stores ≤ mostStores

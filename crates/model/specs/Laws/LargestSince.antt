@@ -10,7 +10,7 @@ use Rattle.model.specs.Definitions.WellFormed.{isDown}
 use Rattle.model.specs.Definitions.Answers.{code}
 use Rattle.model.specs.Definitions.Steps.{Access}
 use Rattle.model.specs.Definitions.Calls.{Result, unless, firstOf, accessInRange, wrongCells, countersFull, refusalsWithin, accessWithin, Call}
-use Rattle.model.specs.Definitions.Calls.{Accessing, Checkpointing, Fusing, Restarting, callWithin}
+use Rattle.model.specs.Definitions.Calls.{Accessing, Checkpointing, Fusing, Restarting, Comparing, callWithin}
 use Rattle.model.specs.Laws.Logic.{byBool}
 
 -- m and n are two largest sinces
@@ -24,6 +24,7 @@ module _ (m n : ℕ) where
   by-access P (Checkpointing b) k of-access same = same _
   by-access P (Fusing b s) k of-access same = same _
   by-access P (Restarting b) k of-access same = same _
+  by-access P (Comparing b c) k of-access same = same _
 
   -- board b's since is m exactly where it is n
   abbrev pub SameTest : ℕ → Bank → Type 0

@@ -1,5 +1,5 @@
--- "Codes 1 to 7 change no byte, except that an access ending a replay keeps what the end did"; nor does code 10 (document 02, F-3). Of every call on any
--- bytes, with the stores that are answered beside. Assumes nothing.
+-- "Codes 1 to 7 change no byte, except that an access ending a replay keeps what the end did"; nor do codes from 10 on (document 02, F-3, F-7). Of every call on
+-- any bytes, with the stores that are answered beside. Assumes nothing.
 use mathlib.Core.Path.{_≡_, refl, sym, ap, _∙_}
 use mathlib.Core.Logic.{_≢_, _⊎_, inl, inr}
 use Prim.Native.Nat.{ℕ, _+_, _≤_}
@@ -17,14 +17,14 @@ use Rattle.model.specs.Definitions.Check.{wellFormed, sizesAllowed}
 use Rattle.model.specs.Definitions.Answers.{code}
 use Rattle.model.specs.Definitions.Steps.{Run, start, step, store, storeAll, checkpointStores, restedWorking, checkpoint, Access}
 use Rattle.model.specs.Definitions.Replay.{tookDue, settled, settle, endReplay}
-use Rattle.model.specs.Definitions.Calls.{Result, finished, refused, Call, Accessing, Checkpointing, Fusing, Restarting, callBank, Reply}
+use Rattle.model.specs.Definitions.Calls.{Result, finished, refused, Call, Accessing, Checkpointing, Fusing, Restarting, Comparing, callBank, Reply}
 use Rattle.model.specs.Definitions.Calls.{replyOf, call, make}
 use Rattle.model.specs.Laws.Logic.{cases, casesOption}
 use Rattle.model.specs.Laws.CodecBankBack.{encode-decode}
 use Rattle.model.specs.Laws.Runs.{lost-not, step-none, step-stores, store-cases, follows-none, follows-storeAll, length-checkpointStores}
 use Rattle.model.specs.Laws.Codes.Statement.{OfAccess, boardNamed, afterReplay}
 use Rattle.model.specs.Laws.Codes.{answerTo}
-use Rattle.model.specs.Laws.Codes.Ends.{Ends, refusedFirst, refusedLate, ran, ReplayEnd, LateIn, call-ended}
+use Rattle.model.specs.Laws.Codes.Ends.{Ends, refusedFirst, refusedLate, ran, looked, ReplayEnd, LateIn, call-ended}
 
 -- the bytes at entry, and no store made
 pub record Kept (s : List ℕ) (y : Reply) : Type 0 where
@@ -39,7 +39,7 @@ pub record KeptEnd (b : ℕ) (k : Bank) (y : Reply) : Type 0 where
 
 -- the codes that refuse a call
 abbrev pub Refuses : ℕ → Type 0
-Refuses n = ((1 ≤ n) × (n ≤ 7)) ⊎ (n ≡ 10)
+Refuses n = ((1 ≤ n) × (n ≤ 7)) ⊎ (10 ≤ n)
 
 -- ==== on a bank
 
@@ -53,26 +53,30 @@ ran-code {X} v given r =
 
 -- refused before a replay could end, or not by a replaying board: the call ends as it began
 kept-run : (b : ℕ) (k : Bank) (Late : Run → Type 0) (t : Result) → ((r : Run) → Late r → boardAt k b .state ≡ Replaying) → Ends b k Late t
-    → Refuses (code (t .answer)) → (code (t .answer) ≤ 5) ⊎ (code (t .answer) ≡ 10) ⊎ (boardAt k b .state ≢ Replaying) → t .run ≡ start k
+    → Refuses (code (t .answer)) → (code (t .answer) ≤ 5) ⊎ (10 ≤ code (t .answer)) ⊎ (boardAt k b .state ≢ Replaying) → t .run ≡ start k
 kept-run b k Late t f (refusedFirst x h i n) p u = refl
 kept-run b k Late t f (refusedLate x r h i l) p (inl m) = absurd (omega arith)
 kept-run b k Late t f (refusedLate x r h i l) p (inr (inl m)) = absurd (omega arith)
 kept-run b k Late t f (refusedLate x r h i l) p (inr (inr m)) = absurd (m (f r l))
 kept-run b k Late t f (ran v given r) p u = ran-code v given r p
+kept-run b k Late t f (looked i d) p u = refl
 
 -- refused live though the board was replaying: its replay has ended
 late-run : (b : ℕ) (k : Bank) (Late : Run → Type 0) (t : Result) → Ends b k Late t
     → 6 ≤ code (t .answer) → code (t .answer) ≤ 7 → boardAt k b .state ≡ Replaying → Late (t .run)
+unfolding code
 late-run b k Late t (refusedFirst x h i n) p q e = absurd (n p q e)
 late-run b k Late t (refusedLate x r h i l) p q e = l
 late-run b k Late t (ran v given r) p q e = ran-code v given r (inl (omega arith, q))
+late-run b k Late t (looked i d) p q e = absurd (omega arith)
 
-late-replaying : (c : Call) (k : Bank) (r : Run) → LateIn c k r → boardAt k (boardNamed c) .state ≡ Replaying
+pub late-replaying : (c : Call) (k : Bank) (r : Run) → LateIn c k r → boardAt k (boardNamed c) .state ≡ Replaying
 unfolding OfAccess boardNamed
 late-replaying (Accessing b a) k r l = l .state
 late-replaying (Checkpointing b) k r l = absurd l
 late-replaying (Fusing b n) k r l = absurd l
 late-replaying (Restarting b) k r l = absurd l
+late-replaying (Comparing b c) k r l = absurd l
 
 -- ==== on bytes
 
@@ -82,6 +86,7 @@ of-access (Accessing b a) f l = f b a l
 of-access (Checkpointing b) f l = l
 of-access (Fusing b n) f l = l
 of-access (Restarting b) f l = l
+of-access (Comparing b c) f l = l
 
 end-left : (b : ℕ) (k : Bank) (t : Result) → ReplayEnd b k (t .run) → KeptEnd b k (replyOf t)
 unfolding replyOf
@@ -108,14 +113,14 @@ refusal-after-replay c s =
 
 -- any other refusal
 pub refusal-keeps : (c : Call) (s : List ℕ) → Refuses (code (answerTo c s))
-    → (code (answerTo c s) ≤ 5) ⊎ (code (answerTo c s) ≡ 10) ⊎ (boardAt (decode s) (boardNamed c) .state ≢ Replaying) → Kept s (call c s)
+    → (code (answerTo c s) ≤ 5) ⊎ (10 ≤ code (answerTo c s)) ⊎ (boardAt (decode s) (boardNamed c) .state ≢ Replaying) → Kept s (call c s)
 unfolding call refused replyOf start
 refusal-keeps c s =
     let k : Bank = decode s in
     cases
     (λ (y : Reply).
     Refuses (code (y .outcome .answer))
-    → (code (y .outcome .answer) ≤ 5) ⊎ (code (y .outcome .answer) ≡ 10) ⊎ (boardAt k (boardNamed c) .state ≢ Replaying) → Kept s y)
+    → (code (y .outcome .answer) ≤ 5) ⊎ (10 ≤ code (y .outcome .answer)) ⊎ (boardAt k (boardNamed c) .state ≢ Replaying) → Kept s y)
     (wellFormed s)
     (λ w p u.
     let e : callBank c k .run ≡ start k = kept-run (boardNamed c) k (LateIn c k) (callBank c k) (late-replaying c k) (call-ended c k) p u in

@@ -257,7 +257,7 @@ follows-endReplay b r =
 
 -- ---- only the board that stores is lost
 
-step-same : (f : Bank → Bank) (r : Run) → step f r .lost ≡ r .lost
+pub step-same : (f : Bank → Bank) (r : Run) → step f r .lost ≡ r .lost
 step-same f r = step-cases (λ s. s .lost ≡ r .lost) f r (λ c e. refl) (λ n. sym n)
 
 storeAll-self : (b : ℕ) (fs : List (Board → Board)) (r : Run) (c : ℕ) → r .lost ≡ none → storeAll b fs r .lost ≡ some c → c ≡ b

@@ -39,13 +39,15 @@ use Rattle.model.specs.Laws.Runs.{lost-not, store-cases, step-cases, eac
 use Rattle.model.specs.Laws.WellFormedTest.{wellFormed-sound}
 use Rattle.model.specs.Laws.Keeps.Clauses.{fits, up-below, up-not-down, up-not-replaying}
 use Rattle.model.specs.Laws.Moves.Calls.{copy-out}
-use Rattle.model.specs.Laws.CellsRead.{pageSeen, byteSeen, read-done, read-copy, single-seen, done-form}
+use Rattle.model.specs.Laws.CellsRead.{pageSeen, byteSeen, read-done, read-copy, single-seen}
+use Rattle.model.specs.Laws.Codes.Ends.{access-done-form}
 use Rattle.model.specs.Laws.Codes.{codes-done, code-6}
 use Rattle.model.specs.Laws.Codes.Ends.{power-lost}
 use Rattle.model.specs.Laws.Codes.Losses.{loses-power}
 use Rattle.model.specs.Laws.Codes.Needs.{says-giver}
 use Rattle.model.specs.Laws.Codes.Order.{never}
-use Rattle.model.specs.Laws.Codes.Statement.{NoRow, Some, OfAccess, AccessOut, NumbersOut, CellsOut, AskedOut, StateOut, CountersOut, Names, ReplayOut}
+use Rattle.model.specs.Laws.Codes.Statement.{bankRows, NoRow, Some, OfAccess, AccessOut, NumbersOut, CellsOut, AskedOut, StateOut, SameTwice}
+use Rattle.model.specs.Laws.Codes.Statement.{CountersOut, Names, ReplayOut}
 use Rattle.model.specs.Laws.Codes.Statement.{LiveOn, up, replayEnded, NobodyGives, SomeMissing, OwnerOut, GivesToReader, Needs, nothing, reader}
 use Rattle.model.specs.Laws.Codes.Statement.{readGiver, writer, writeOwner, otherHolder, holder, NeedsAll, noPages, onePage, SomeShort, RoomOut}
 use Rattle.model.specs.Laws.Codes.Statement.{refusalRows, table}
@@ -169,12 +171,12 @@ module _ (b : ℕ) (a : Access) where
   pub never-6 : (s : List ℕ) → Never6 b a s
   unfolding OwnerOut OfAccess
   never-6 s copy u had e =
-      let m = code-6 (Accessing b a) s .0 e .6 in none-missing (decode s) (m .0) copy u had (m .1) (m .2)
+      let m = code-6 (Accessing b a) s .0 e .1 .1 .1 .1 .1 .1 .1 in none-missing (decode s) (m .0) copy u had (m .1) (m .2)
 
   -- ==== done
 
   pub is-served : (s : List ℕ) → IsServed b a s
-  unfolding table refusalRows NoRow OfAccess NumbersOut AskedOut StateOut CountersOut ReplayOut OwnerOut RoomOut callBank noBoard
+  unfolding table bankRows refusalRows NoRow OfAccess NumbersOut AskedOut SameTwice StateOut CountersOut ReplayOut OwnerOut RoomOut callBank noBoard
   is-served s w copy u had h =
       let k : Bank = decode s in
       let quiet : Unfused k = λ c. byBoard k c (λ l. h .fuses c l) (λ l. ap (λ (x : Board). x .fuse) (boardAt-out k c l)) in
@@ -185,20 +187,23 @@ module _ (b : ℕ) (a : Access) where
           (
             h .cells,
             (
-              λ d. up-not-down u d,
+              λ z. z,
               (
-                h .counters,
+                λ d. up-not-down u d,
                 (
-                  λ r. up-not-replaying u (r .0),
+                  h .counters,
                   (
-                    λ m. none-missing k (m .0) copy u had (m .1) (m .2),
+                    λ r. up-not-replaying u (r .0),
                     (
-                      λ m. h .roomy (let same : m .0 ≡ k = live-here b a k (m .0) u (m .1) in rw same at (m .2)),
+                      λ m. none-missing k (m .0) copy u had (m .1) (m .2),
                       (
-                        λ l.
-                            lost-not (access-power b a copy k u quiet)
-                            (power-lost (Accessing b a) k (l .0) .0 (loses-power (Accessing b a) k (wellFormed-sound s w) (l .0) .1 (l .1))),
-                        tt,
+                        λ m. h .roomy (let same : m .0 ≡ k = live-here b a k (m .0) u (m .1) in rw same at (m .2)),
+                        (
+                          λ l.
+                              lost-not (access-power b a copy k u quiet)
+                              (power-lost (Accessing b a) k (l .0) .0 (loses-power (Accessing b a) k (wellFormed-sound s w) (l .0) .1 (l .1))),
+                          tt,
+                        ),
                       ),
                     ),
                   ),
@@ -297,7 +302,7 @@ read-gives-held b p o s u done none-here c l g =
     let one : call (Accessing b a) s ≡ replyOf (accessBank b a k) = cc in
     let v : ℕ = value (accessBank b a k .answer) in
     let seen : v ≡ byteSeen b k (record { page = p; offset = o }) =
-    single-seen b k p o v _ (read-done b a k w u (read-copy p o) v (done-form (accessBank b a k .answer) (rw one at done)) .read) in
+    single-seen b k p o v _ (read-done b a k w u (read-copy p o) v (access-done-form b a k (rw one at done)) .read) in
     let lack : lacks GotCopy (frameOf k b p .right) ≡ true = ap (lacks GotCopy) none-here in
     let from : c ≡ giver GotCopy k p = eqb-true c (giver GotCopy k p) (says-giver k p c (omega (arith, l, w .sizes .boards)) .1 g) in
     let given : pageSeen b k p ≡ frameOf k (giver GotCopy k p) p .bytes = cc in

@@ -69,6 +69,18 @@ enum-told-4 c = search needs
 row-requires-11 : tie.Need-row-requires-11
 row-requires-11 c κs = search needs
 
+enum-known-answer-8 : tie.Need-enum-known-answer-8
+enum-known-answer-8 c = search needs
+
+row-requires-12 : tie.Need-row-requires-12
+row-requires-12 c κs = search needs
+
+enum-told-5 : tie.Need-enum-told-5
+enum-told-5 c = search needs
+
+row-requires-13 : tie.Need-row-requires-13
+row-requires-13 c κs = search needs
+
 returns : tie.Need-returns
 returns c = cc
 
@@ -102,6 +114,12 @@ returns-10 c = cc
 returns-11 : tie.Need-returns-11
 returns-11 c = cc
 
+returns-12 : tie.Need-returns-12
+returns-12 c = cc
+
+returns-13 : tie.Need-returns-13
+returns-13 c = cc
+
 pub numbers-of-spec : {M : Type 1} → statement M
 numbers-of-spec =
     tie.close
@@ -128,6 +146,10 @@ numbers-of-spec =
     row-requires-10
     enum-told-4
     row-requires-11
+    enum-known-answer-8
+    row-requires-12
+    enum-told-5
+    row-requires-13
     returns
     returns-2
     returns-3
@@ -138,4 +160,6 @@ numbers-of-spec =
     returns-8
     returns-9
     returns-10
-    returns-11)
+    returns-11
+    returns-12
+    returns-13)

@@ -5,7 +5,7 @@ use native.Mathlib.Omega.{arith}
 use Rattle.types.specs.declared.AnswerNumbers.{AnswerNumbers}
 use Rattle.model.specs.Definitions.Layout.{byteValues}
 use Rattle.model.specs.Definitions.Answers.{code, value, who}
-use Rattle.answers.specs.Packed.{packed, unpacked-packed}
+use Rattle.answers.specs.Packed.{packed, packed-back}
 use borrow.Author.Needs.{needs}
 use Rattle.answers.proofs.pack.pack.Statement.{statement}
 use Rattle.answers.proofs.pack.pack.Tie as tie
@@ -49,7 +49,7 @@ returns c =
     let o = c .before .before .before .before .before .args .o in
     let row = c .before .before .before .before .numbers-of in
     let small : who (o .answer) < byteValues = omega (arith, ap (λ (n : AnswerNumbers). n .who) (row .ensures)) in
-    (rw (row .ensures), rw (row .ensures) (unpacked-packed o small (omega arith)))
+    (rw (row .ensures), rw (row .ensures) (packed-back o small (omega arith)))
 
 pub pack-spec : {M : Type 1} → statement M
 pack-spec =

@@ -3,7 +3,7 @@ use mathlib.Core.Path.{sym, ap, _∙_}
 use Rattle.model.specs.Definitions.Parts.{splice}
 use Rattle.model.specs.Laws.BlockFields.{splice-all}
 use Rattle.model.specs.Laws.Parts.{part-all}
-use Rattle.engine.specs.Cells.{left-done, left-none}
+use Rattle.engine.specs.Cells.{when-done, when-other}
 use borrow.Author.Needs.{needs}
 use Rattle.engine.proofs.access.give.Statement.{statement}
 use Rattle.engine.proofs.access.give.Tie as tie
@@ -24,12 +24,12 @@ returns c =
     c .before .before .copy .ensures
     ∙ (ap (splice (n .out .now) 0) (part-all (n .bytes .now) _ (sym (start .pre)))
     ∙ (splice-all (n .out .now) (n .bytes .now) (start .pre)
-    ∙ left-done (n .answer) _ _ (sym (c .before .before .before .before .before .is-done .ensures) ∙ c .before .before .before .before .if1 .taken)))
+    ∙ when-done (n .answer) _ _ (sym (c .before .before .before .before .before .is-done .ensures) ∙ c .before .before .before .before .if1 .taken)))
 
 returns-2 : tie.Need-returns-2
 returns-2 c =
     let n = c .before .before .before .before .args in
-    left-none (n .answer) _ _ (sym (c .before .is-done .ensures) ∙ c .if1 .left)
+    when-other (n .answer) _ _ (sym (c .before .is-done .ensures) ∙ c .if1 .left)
 
 pub give-spec : {M : Type 1} → statement M
 give-spec = tie.close (tie.spec is-done-requires copy-requires same-length returns returns-2)

@@ -1,27 +1,43 @@
 -- The cases of a call on a bank, for anything that holds of its result: each refusal with its code, then each way to go on. Assumes nothing.
-use mathlib.Core.Path.{_≡_, refl}
+use mathlib.Core.Path.{_≡_}
 use mathlib.Core.Logic.{_⊎_, inl, inr}
 use Prim.Native.Nat.{ℕ, _≤_}
 use native.Mathlib.Omega.{arith}
 use mathlib.Core.Bool.{Bool, true, false, _&&_, not}
 use mathlib.Core.Option.{none, some}
 use mathlib.Core.List.{[], _∷_}
+use lib.ListN.{length}
+use lib.Dec.{eqb, ltb}
 use Rattle.types.specs.declared.Answer.{Answer}
 use Rattle.types.specs.declared.Answer.the-variants.{OutOfRange, WrongState, CountersFull, ReplayDiffers, OwnerNotUp, LogFull, PowerLost, WrongCells}
+use Rattle.types.specs.declared.Answer.the-variants.{Compared, SameBoard}
 use Rattle.model.specs.Definitions.Layout.{lastSince}
 use Rattle.model.specs.Definitions.Bank.{Board, Bank, boardAt, entryAt, onBoard}
 use Rattle.model.specs.Definitions.WellFormed.{isDown, isReplaying}
 use Rattle.model.specs.Definitions.Answers.{code}
 use Rattle.model.specs.Definitions.Steps.{Run, start, Access, valueOf, givenOf}
+use Rattle.model.specs.Definitions.Logs.{unmatchedIn, comparedInOrder, comparedLogs}
 use Rattle.model.specs.Definitions.Replay.{differs, tookDue, replayOver, endIfOver, replayed}
 use Rattle.model.specs.Definitions.Calls.{Result, unless, finished, shortBoard, isSome, numberIn, pageMissing, liveRefusals, prepared, performed, live}
 use Rattle.model.specs.Definitions.Calls.{liveAfterEnd, replaying, accessInRange, wrongCells, countersFull, refusalsWithin, accessWithin, accessBank}
+use Rattle.model.specs.Definitions.Calls.{compareBank}
 use Rattle.model.specs.Laws.Logic.{cases, casesOption}
 use Rattle.model.specs.Laws.Codes.Statement.{afterReplay}
 use Rattle.model.specs.Laws.Codes.Order.{unless-test, unless-go}
 
+-- what two logs held against each other answer is a place
+pub compared-cases : (P : Answer → Type 0) → ((i d : ℕ) → P (Compared i d)) → (b c : ℕ) (k : Bank) → P (comparedLogs b c k)
+unfolding comparedLogs comparedInOrder
+compared-cases P h b c k = cases P (ltb b c) (λ l. ordered b c) (λ l. ordered c b)
+  where
+    ordered : (x y : ℕ) → P (comparedInOrder x y k)
+    ordered x y =
+        cases P (eqb (unmatchedIn x y k) 0)
+        (λ t. cases P (eqb (unmatchedIn y x k) 0) (λ u. h 0 0) (λ u. h _ x))
+        (λ t. h _ y)
+
 module _ (P : Result → Type 0) where
-  -- the two tests that every call but an access makes, and then it runs
+  -- the two tests of a checkpoint, a fuse and a restart, and then it runs
   pub plain-cases : (k : Bank) (b : ℕ) (out wrong : Bool) (go : Result)
       → ((x : Answer) → 2 ≤ code x → code x ≤ 3 → P (record { answer = x; run = start k; given = [] }))
       → (out ≡ false → wrong ≡ false → P go)
@@ -34,6 +50,21 @@ module _ (P : Result → Type 0) where
       unless-test P wrong (WrongState b) [] (start k) go
       (λ u. refusal (WrongState b) (omega arith) (omega arith))
       (λ u. unless-go P (start k) go (on t u)))
+
+  -- two logs held against each other
+  pub compare-cases : (b c : ℕ) (k : Bank)
+      → ((x : Answer) → 2 ≤ code x → (code x ≤ 5) ⊎ (10 ≤ code x) → P (record { answer = x; run = start k; given = [] }))
+      → ((i d : ℕ) → P (record { answer = Compared i d; run = start k; given = [] }))
+      → P (compareBank b c k)
+  unfolding compareBank code
+  compare-cases b c k refusal on =
+      let go : Result = record { answer = comparedLogs b c k; run = start k; given = [] } in
+      unless-test P (not (ltb b (length (k .boards)) && ltb c (length (k .boards)))) OutOfRange ((eqb b c, SameBoard) ∷ []) (start k) go
+      (λ t. refusal OutOfRange (omega arith) (inl (omega arith)))
+      (λ t.
+      unless-test P (eqb b c) SameBoard [] (start k) go
+      (λ u. refusal SameBoard (omega arith) (inr (omega arith)))
+      (λ u. unless-go P (start k) go (compared-cases (λ x. P (record { answer = x; run = start k; given = [] })) on b c k)))
 
   module _ (b : ℕ) (a : Access) where
     pub live-cases : (r : Run) → ((x : Answer) → 6 ≤ code x → code x ≤ 7 → P (record { answer = x; run = r; given = [] }))
@@ -68,7 +99,7 @@ module _ (P : Result → Type 0) where
         (λ t. not-over)
 
     pub access-cases : (k : Bank)
-        → ((x : Answer) → 2 ≤ code x → (code x ≤ 5) ⊎ (code x ≡ 10) → P (record { answer = x; run = start k; given = [] }))
+        → ((x : Answer) → 2 ≤ code x → (code x ≤ 5) ⊎ (10 ≤ code x) → P (record { answer = x; run = start k; given = [] }))
         → (isDown (boardAt k b .state) ≡ false → isReplaying (boardAt k b .state) ≡ true → P (replaying b a k))
         → (isDown (boardAt k b .state) ≡ false → isReplaying (boardAt k b .state) ≡ false → P (live b a (start k)))
         → P (accessBank b a k)
@@ -83,7 +114,7 @@ module _ (P : Result → Type 0) where
         (λ t. refusal OutOfRange (omega arith) (inl (omega arith)))
         (λ t.
         unless-test P (wrongCells a) WrongCells (t3 ∷ t4 ∷ t5 ∷ []) (start k) go
-        (λ t. refusal WrongCells (omega arith) (inr refl))
+        (λ t. refusal WrongCells (omega arith) (inr (omega arith)))
         (λ t.
         unless-test P (t3 .0) (t3 .1) (t4 ∷ t5 ∷ []) (start k) go
         (λ t. refusal (t3 .1) (omega arith) (inl (omega arith)))

@@ -1,5 +1,5 @@
--- How a call on a bank ends: refused with the bank as it was, refused after the end of a replay, or run to its end or to a power loss. Of any
--- bank, well formed or not. Assumes nothing.
+-- How a call on a bank ends: refused with the bank as it was, refused after the end of a replay, run to its end or to a power loss, or done with a look at
+-- it. Of any bank, well formed or not. Assumes nothing.
 use mathlib.Core.Path.{_≡_, refl, ap}
 use mathlib.Core.Logic.{_≢_, _⊎_, inl, inr, _↔_}
 use Prim.Native.Nat.{ℕ, _≤_}
@@ -13,33 +13,40 @@ use Rattle.types.specs.declared.Frame.{Frame}
 use Rattle.types.specs.declared.State.the-variants.{Replaying}
 use Rattle.types.specs.declared.Answer.{Answer}
 use Rattle.types.specs.declared.Answer.the-variants.{Done, Malformed, OutOfRange, WrongState, CountersFull, ReplayDiffers, OwnerNotUp, LogFull}
-use Rattle.types.specs.declared.Answer.the-variants.{PowerLost, WrongCells, HasRecords}
+use Rattle.types.specs.declared.Answer.the-variants.{PowerLost, WrongCells, HasRecords, Compared, SameBoard}
 use Rattle.model.specs.Definitions.Layout.{noFuse}
 use Rattle.model.specs.Definitions.Bank.{Bank, boardAt, onBoard}
 use Rattle.model.specs.Definitions.WellFormed.{isUp, isDown}
-use Rattle.model.specs.Definitions.Answers.{code, value}
+use Rattle.model.specs.Definitions.Answers.{code, value, who}
 use Rattle.model.specs.Definitions.Steps.{Run, start, step, fuseBoard, checkpoint, Access, valueOf, givenOf, access}
 use Rattle.model.specs.Definitions.Replay.{loaded, usedUp, tookDue, endIfOver, replayed}
 use Rattle.model.specs.Definitions.Calls.{Result, unless, finished, prepared, performed, live, replaying, accessBank, checkpointBank, fuseBank}
-use Rattle.model.specs.Definitions.Calls.{restartBank, Call, Accessing, Checkpointing, Fusing, Restarting, callBank}
+use Rattle.model.specs.Definitions.Calls.{restartBank, Call, Accessing, Checkpointing, Fusing, Restarting, Comparing, callBank}
 use Rattle.model.specs.Laws.Logic.{casesOption}
-use Rattle.model.specs.Laws.Codes.Statement.{OfAccess, boardNamed, afterReplay}
+use Rattle.model.specs.Laws.Codes.Statement.{OfAccess, boardNamed, doneAs, afterReplay}
 use Rattle.model.specs.Laws.Tests.{says-replaying}
 use Rattle.model.specs.Laws.Codes.Order.{never, fails}
-use Rattle.model.specs.Laws.Codes.Cases.{plain-cases, live-cases, replaying-cases, access-cases}
+use Rattle.model.specs.Laws.Codes.Cases.{plain-cases, compare-cases, live-cases, replaying-cases, access-cases}
 
--- Refused first are codes 2 to 7 and 10; `Late` says on which run, besides the one that the call of board b began with, it may have been refused
+-- Refused first are codes 2 to 7 and those from 10 on; `Late` says on which run, besides the one that the call of board b began with, it may have been refused
 pub data Ends (b : ℕ) (k : Bank) (Late : Run → Type 0) : Result → Type 0 where
-  refusedFirst : (x : Answer) → 2 ≤ code x → (code x ≤ 7) ⊎ (code x ≡ 10) → (6 ≤ code x → code x ≤ 7 → boardAt k b .state ≢ Replaying)
+  refusedFirst : (x : Answer) → 2 ≤ code x → (code x ≤ 7) ⊎ (10 ≤ code x) → (6 ≤ code x → code x ≤ 7 → boardAt k b .state ≢ Replaying)
       → Ends b k Late (record { answer = x; run = start k; given = [] })
   refusedLate : (x : Answer) (r : Run) → 6 ≤ code x → code x ≤ 7 → Late r → Ends b k Late (record { answer = x; run = r; given = [] })
   ran : (v : ℕ) (given : List ℕ) (r : Run) → Ends b k Late (finished v given r)
+  looked : (i d : ℕ) → Ends b k Late (record { answer = Compared i d; run = start k; given = [] })
 
 -- the end of a replay, after which the access went on live
 pub record ReplayEnd (b : ℕ) (k : Bank) (r : Run) : Type 0 where
   pub state : boardAt k b .state ≡ Replaying
   pub lost : r .lost ≡ none
   pub run : r ≡ afterReplay b k
+
+-- refused on entry
+entry-ended : (k : Bank) (Late : Run → Type 0) (b : ℕ) (x : Answer) → 2 ≤ code x → (code x ≤ 5) ⊎ (10 ≤ code x)
+    → Ends b k Late (record { answer = x; run = start k; given = [] })
+entry-ended k Late b x h (inl l) = refusedFirst x h (inl (omega arith)) (λ f g. absurd (omega arith))
+entry-ended k Late b x h (inr l) = refusedFirst x h (inr l) (λ f g. absurd (omega arith))
 
 module _ (b : ℕ) (a : Access) (k : Bank) where
   live-ended : (r : Run) → ((x : Answer) → 6 ≤ code x → code x ≤ 7 → Ends b k (ReplayEnd b k) (record { answer = x; run = r; given = [] }))
@@ -67,11 +74,7 @@ module _ (b : ℕ) (a : Access) (k : Bank) where
   access-ended : Ends b k (ReplayEnd b k) (accessBank b a k)
   access-ended =
       access-cases (Ends b k (ReplayEnd b k)) b a k
-      (λ x h i.
-      elim i [
-        | inl l ↦ refusedFirst x h (inl (omega arith)) (λ f g. absurd (omega arith))
-        | inr e ↦ refusedFirst x h (inr e) (λ f g. absurd (omega arith))
-      ])
+      (entry-ended k (ReplayEnd b k) b)
       (λ d t. replaying-ended (says-replaying (boardAt k b .state) .0 t))
       (λ d t. live-ended (start k) (λ x h i. refusedFirst x (omega arith) (inl i) (λ f g. fails (says-replaying (boardAt k b .state)) t)))
 
@@ -79,7 +82,7 @@ plain-ended : (k : Bank) (Late : Run → Type 0) (b : ℕ) (out wrong : Bool) (v
     → Ends b k Late (unless ((out, OutOfRange) ∷ (wrong, WrongState b) ∷ []) (start k) (finished v [] r))
 plain-ended k Late b out wrong v r =
     plain-cases (Ends b k Late) k b out wrong (finished v [] r)
-    (λ x h i. refusedFirst x h (inl (omega arith)) (λ f g. absurd (omega arith)))
+    (λ x h i. entry-ended k Late b x h (inl (omega arith)))
     (λ t u. ran v [] r)
 
 -- the runs after which a call may be refused late: an access whose board was replaying
@@ -99,6 +102,7 @@ call-ended (Restarting b) k =
     (not (ltb b (length (k .boards)))) (not (isDown (boardAt k b .state)))
     (boardAt k b .stable .selected .number)
     (endIfOver b (start (onBoard b (λ x. usedUp (loaded x)) k)))
+call-ended (Comparing b c) k = compare-cases (Ends b k (λ r. ⊥)) b c k (entry-ended k (λ r. ⊥) b) looked
 
 -- ---- "8: a fuse blew in this call; who: that board"
 
@@ -118,10 +122,11 @@ unfolding code
 loss-refused x r h n b = (λ e. absurd (h (ap code e)), λ e. never (cc))
 
 ended-loss : (d : ℕ) (k : Bank) (Late : Run → Type 0) (t : Result) → ((r : Run) → Late r → r .lost ≡ none) → Ends d k Late t → AnswersLoss t
-unfolding start
+unfolding start code
 ended-loss d k Late t f (refusedFirst x h i n) = loss-refused x (start k) (λ e. elim i [ inl l ↦ omega arith | inr g ↦ omega arith ]) refl
 ended-loss d k Late t f (refusedLate x r h i l) = loss-refused x r (λ e. omega arith) (f r l)
 ended-loss d k Late t f (ran v given r) = loss-finished v given r
+ended-loss d k Late t f (looked i c) = loss-refused (Compared i c) (start k) (λ e. never (omega arith)) refl
 
 late-not-lost : (c : Call) (k : Bank) (r : Run) → LateIn c k r → r .lost ≡ none
 unfolding OfAccess
@@ -129,6 +134,7 @@ late-not-lost (Accessing b a) k r l = l .lost
 late-not-lost (Checkpointing b) k r l = absurd l
 late-not-lost (Fusing b n) k r l = absurd l
 late-not-lost (Restarting b) k r l = absurd l
+late-not-lost (Comparing b c) k r l = absurd l
 
 pub power-lost : (c : Call) (k : Bank) (b : ℕ) → (callBank c k .answer ≡ PowerLost b) ↔ (callBank c k .run .lost ≡ some b)
 power-lost c k b = ended-loss (boardNamed c) k (LateIn c k) (callBank c k) (late-not-lost c k) (call-ended c k) b
@@ -144,6 +150,7 @@ ended-gives : {b : ℕ} {k : Bank} {Late : Run → Type 0} {t : Result} → Ends
 ended-gives (refusedFirst x h i n) z = refl
 ended-gives (refusedLate x r h i l) z = refl
 ended-gives (ran v given r) z = finished-gives v given r z
+ended-gives (looked i d) z = refl
 
 -- a call that is not done gives nothing
 pub not-done-gives : (c : Call) (k : Bank) → code (callBank c k .answer) ≢ 0 → callBank c k .given ≡ []
@@ -164,6 +171,8 @@ refused-value (LogFull b) z = refl
 refused-value (PowerLost b) z = refl
 refused-value WrongCells z = refl
 refused-value HasRecords z = refl
+refused-value (Compared i b) z = absurd (z refl)
+refused-value SameBoard z = refl
 
 finished-value : (v : ℕ) (given : List ℕ) (r : Run) → v ≡ 0 → value (finished v given r .answer) ≡ 0
 unfolding finished value
@@ -192,3 +201,46 @@ module _ (b : ℕ) (a : Access) (rest : (fs : List Frame) → valueOf a fs ≡ 0
       replaying-cases Zero b a k (λ l. live-value (afterReplay b k)) (λ c l. refl)
       (finished-value (valueOf a fs) (givenOf a fs) (endIfOver b (start (onBoard b (replayed a) taken))) (rest fs)))
       (λ d t. live-value (start k))
+
+-- ---- code 0 has one form: a value, or a place and the taker
+
+abbrev DoneWith : (ℕ → ℕ → Answer) → Result → Type 0
+DoneWith form t = code (t .answer) ≡ 0 → t .answer ≡ form (value (t .answer)) (who (t .answer))
+
+finished-form : (v : ℕ) (given : List ℕ) (r : Run) → DoneWith (λ v w. Done v) (finished v given r)
+unfolding finished code value
+finished-form v given r = casesOption (DoneWith (λ v w. Done v)) (r .lost) (λ n e. refl) (λ c l e. never (omega arith))
+
+refused-form : (form : ℕ → ℕ → Answer) (x : Answer) (r : Run) → 2 ≤ code x → DoneWith form (record { answer = x; run = r; given = [] })
+refused-form form x r h e = absurd (omega arith)
+
+pub access-done-form : (b : ℕ) (a : Access) (k : Bank) → code (accessBank b a k .answer) ≡ 0
+    → accessBank b a k .answer ≡ Done (value (accessBank b a k .answer))
+unfolding performed code
+access-done-form b a k =
+    let P : Result → Type 0 = DoneWith (λ v w. Done v) in
+    let lives : (r : Run) → P (live b a r) =
+    λ r. live-cases P b a r (λ x h i. refused-form (λ v w. Done v) x r (omega arith)) (finished-form _ _ (step (access b a) (prepared b a r))) in
+    access-cases P b a k
+    (λ x h i. refused-form (λ v w. Done v) x (start k) h)
+    (λ d t.
+    replaying-cases P b a k (λ l. lives (afterReplay b k)) (λ c l e. never (omega arith))
+    (finished-form _ _ (endIfOver b (start (onBoard b (replayed a) (onBoard b tookDue k))))))
+    (λ d t. lives (start k))
+
+plain-form : (k : Bank) (b : ℕ) (out wrong : Bool) (v : ℕ) (r : Run)
+    → DoneWith (λ v w. Done v) (unless ((out, OutOfRange) ∷ (wrong, WrongState b) ∷ []) (start k) (finished v [] r))
+plain-form k b out wrong v r =
+    plain-cases (DoneWith (λ v w. Done v)) k b out wrong (finished v [] r)
+    (λ x h i. refused-form (λ v w. Done v) x (start k) h)
+    (λ t u. finished-form v [] r)
+
+pub done-form : (c : Call) (k : Bank) → code (callBank c k .answer) ≡ 0
+    → callBank c k .answer ≡ doneAs c (value (callBank c k .answer)) (who (callBank c k .answer))
+unfolding callBank doneAs checkpointBank fuseBank restartBank code value who
+done-form (Accessing b a) k e = access-done-form b a k e
+done-form (Checkpointing b) k e = plain-form k b _ _ 0 (checkpoint b (start k)) e
+done-form (Fusing b n) k e = plain-form k b _ _ 0 (step (fuseBoard b n) (start k)) e
+done-form (Restarting b) k e = plain-form k b _ _ _ (endIfOver b (start (onBoard b (λ x. usedUp (loaded x)) k))) e
+done-form (Comparing b c) k e =
+    compare-cases (DoneWith Compared) b c k (λ x h i. refused-form Compared x (start k) h) (λ i d f. refl) e

@@ -10,12 +10,12 @@ use lib.ListN.{length}
 use lib.Dec.{ltb}
 use Rattle.types.specs.declared.Answer.{Answer}
 use Rattle.types.specs.declared.Answer.the-variants.{Done, Malformed, OutOfRange, WrongState, CountersFull, ReplayDiffers, OwnerNotUp, LogFull, PowerLost}
-use Rattle.types.specs.declared.Answer.the-variants.{WrongCells, HasRecords}
+use Rattle.types.specs.declared.Answer.the-variants.{WrongCells, HasRecords, Compared, SameBoard}
 use Rattle.model.specs.Definitions.Layout.{noFuse}
 use Rattle.model.specs.Definitions.Bank.{Bank, boardAt}
 use Rattle.model.specs.Definitions.WellFormed.{WellFormed, isDown}
 use Rattle.model.specs.Definitions.Steps.{Run, start, step, fuseBoard}
-use Rattle.model.specs.Definitions.Calls.{Result, finished, fuseBank, Call, Accessing, Checkpointing, Fusing, Restarting, callBank}
+use Rattle.model.specs.Definitions.Calls.{Result, finished, fuseBank, Call, Accessing, Checkpointing, Fusing, Restarting, Comparing, callBank}
 use Rattle.model.specs.History.Statement.{LostPower, doneEvent, eventOf}
 use Rattle.model.specs.Laws.Logic.{byOption, byEq}
 use Rattle.model.specs.Laws.Runs.{lost-not}
@@ -43,6 +43,7 @@ fed-done (Checkpointing d) v given b e = never (cc)
 fed-done (Fusing d zero) v given b e = (d, refl)
 fed-done (Fusing d (suc n)) v given b e = never (cc)
 fed-done (Restarting d) v given b e = never (cc)
+fed-done (Comparing d e) v given b f = never (cc)
 
 fed-lost : (c : Call) (x : Answer) (given : List ℕ) (b : ℕ) → ((d : ℕ) → c ≢ Fusing d 0) → eventOf c x given ≡ LostPower b → x ≡ PowerLost b
 unfolding eventOf
@@ -57,6 +58,8 @@ fed-lost c (LogFull d) given b n e = never (cc)
 fed-lost c (PowerLost d) given b n e = let i : d ≡ b = cc in ap PowerLost i
 fed-lost c WrongCells given b n e = never (cc)
 fed-lost c HasRecords given b n e = never (cc)
+fed-lost c (Compared i d) given b n e = never (cc)
+fed-lost c SameBoard given b n e = never (cc)
 
 pub loses-power : (c : Call) (k : Bank) → WellFormed k → (b : ℕ) → (callBank c k .answer ≡ PowerLost b) ↔ LosesPower c k b
 unfolding CutIn

@@ -1,4 +1,4 @@
--- Codes 2 to 7 and 10 of every call on a well-formed bank: the answer is that of the first row of the table that holds, and a call that no row refuses is
+-- Codes 2 to 7, 10 and 12 of every call on a well-formed bank: the answer is that of the first row of the table that holds, and a call that no row refuses is
 -- done or lost power. Assumes nothing.
 use mathlib.Core.Path.{_≡_, refl}
 use mathlib.Core.Logic.{_≢_, _⊎_, inl, inr}
@@ -8,12 +8,13 @@ use mathlib.Core.Bool.{Bool, true, false, _&&_, not}
 use mathlib.Core.Option.{none}
 use mathlib.Core.List.{List, [], _∷_}
 use lib.ListN.{length}
-use lib.Dec.{ltb}
+use lib.Dec.{eqb, ltb}
 use Rattle.types.specs.declared.Frame.{Frame}
 use Rattle.types.specs.declared.State.{State}
 use Rattle.types.specs.declared.State.the-variants.{Up, Down, Replaying}
 use Rattle.types.specs.declared.Answer.{Answer}
 use Rattle.types.specs.declared.Answer.the-variants.{OutOfRange, WrongState, CountersFull, ReplayDiffers, OwnerNotUp, LogFull, PowerLost, WrongCells}
+use Rattle.types.specs.declared.Answer.the-variants.{SameBoard}
 use Rattle.model.specs.Definitions.Layout.{mostBoards, noFuse, lastSince}
 use Rattle.model.specs.Definitions.Bank.{Board, Bank, boardAt, entryAt, onBoard}
 use Rattle.model.specs.Definitions.WellFormed.{WellFormed, PlaceOk, isUp, isDown, isReplaying}
@@ -23,16 +24,19 @@ use Rattle.model.specs.Definitions.Replay.{loaded, usedUp, differs, took
 use Rattle.model.specs.Definitions.Calls.{Result, unless, finished, shortBoard, isSome, numberIn, pageMissing, liveRefusals, prepared, performed, live}
 use Rattle.model.specs.Definitions.Calls.{liveAfterEnd, replaying, accessInRange, wrongCells, countersFull, refusalsWithin, accessWithin, accessBank}
 use Rattle.model.specs.Definitions.Calls.{checkpointBank, fuseBank, restartBank, Call, Accessing, Checkpointing, Fusing, Restarting, callBank}
+use Rattle.model.specs.Definitions.Calls.{compareBank, Comparing}
+use Rattle.model.specs.Definitions.Logs.{comparedLogs}
 use Rattle.model.specs.Laws.Logic.{cases, casesOption}
 use Rattle.model.specs.Laws.Boards.{boardAt-same, boards-onBoard}
 use Rattle.model.specs.Laws.Runs.{follows-endReplay}
 use Rattle.model.specs.Laws.Codes.Statement.{Row, OfAccess, boardNamed, AccessOut, NumbersOut, CellsOut, AskedOut, StateOut, CountersEnd, CountersOut}
 use Rattle.model.specs.Laws.Codes.Statement.{ReplayOther, ReplayOut, afterReplay, LiveOn, up, replayEnded, Live, SomeMissing, OwnerOut, LowestMissing}
-use Rattle.model.specs.Laws.Codes.Statement.{SomeShort, RoomOut, LowestShort, refusalRows}
-use Rattle.model.specs.Laws.Tests.{Says, says-and, says-down, says-replaying}
+use Rattle.model.specs.Laws.Codes.Statement.{SomeShort, RoomOut, LowestShort, SameTwice, refusalRows}
+use Rattle.model.specs.Laws.Tests.{Says, says-and, says-down, says-eq, says-replaying}
 use Rattle.model.specs.Laws.Codes.Order.{never, fails, says-absurd, says-iff, says-no, says-not-and, says-not-lt, Judged, judged-nil}
 use Rattle.model.specs.Laws.Codes.Order.{judged-past, judged-test, judged-go}
 use Rattle.model.specs.Laws.Codes.Tests.{access-out, cells-out, counters-end, replay-other, LastDue, last-due}
+use Rattle.model.specs.Laws.Codes.Cases.{compared-cases}
 use Rattle.model.specs.Laws.Codes.Needs.{some-missing, lowest-missing, some-short, lowest-short}
 
 -- what is answered where nothing is refused: done, or "a fuse blew"
@@ -144,6 +148,7 @@ accessRows : ℕ → Access → Bank → List Row
 accessRows b a k =
     record { code = 2; when = AccessOut b a k; who = λ w. w ≡ 0 }
     ∷ record { code = 10; when = CellsOut a; who = λ w. w ≡ 0 }
+    ∷ record { code = 12; when = ⊥; who = λ w. w ≡ 0 }
     ∷ record { code = 3; when = boardAt k b .state ≡ Down; who = λ w. w ≡ b }
     ∷ record { code = 4; when = CountersEnd (boardAt k b); who = λ w. w ≡ b }
     ∷ record { code = 5; when = (boardAt k b .state ≡ Replaying) × ReplayOther a (boardAt k b); who = λ w. w ≡ b }
@@ -178,7 +183,8 @@ access-judged b a k w =
     judged-test (wrongCells a) WrongCells (t3 ∷ t4 ∷ t5 ∷ []) (start k) go
     (record { says = cells-out a; code = refl; who = λ t. refl; value = refl })
     (λ n10.
-    judged-test (isDown (x .state)) (WrongState b) (t4 ∷ t5 ∷ []) (start k) go
+    judged-past _ (λ u. u)
+    (judged-test (isDown (x .state)) (WrongState b) (t4 ∷ t5 ∷ []) (start k) go
     (record { says = says-down (x .state); code = refl; who = λ t. refl; value = refl })
     (λ n3.
     judged-test (countersFull lastSince x) (CountersFull b) (t5 ∷ []) (start k) go
@@ -198,7 +204,7 @@ access-judged b a k w =
     let s : x .state ≡ Replaying = says-replaying (x .state) .0 t in
     let h : b < length (k .boards) = in-range b a k n2 in
     replaying-judged b a k (w .sizes .boards) s h (replaying-place k b w h s) (λ o. n5 (s, o)))
-    (λ t. live-judged b a k (start k) (judgedOn-up b a k (w .sizes .boards) (is-up (x .state) n3 (fails (says-replaying (x .state)) t))))))))))
+    (λ t. live-judged b a k (start k) (judgedOn-up b a k (w .sizes .boards) (is-up (x .state) n3 (fails (says-replaying (x .state)) t)))))))))))
 
 -- ==== 2 and 3: the other calls
 
@@ -210,38 +216,66 @@ not-up Down = (λ t. inl refl, λ u. refl)
 not-up Replaying = (λ t. inr refl, λ u. refl)
 
 -- the two tests that every other call makes, and then it runs
-plain-judged : (c : Call) (k : Bank) (out wrong : Bool) (v : ℕ) (r : Run) → ((P : ℕ → Access → Type 0) → ¬ OfAccess P c)
+plain-judged : (c : Call) (k : Bank) (out wrong : Bool) (v : ℕ) (r : Run) → ((P : ℕ → Access → Type 0) → ¬ OfAccess P c) → (¬ SameTwice c)
     → Says out (NumbersOut c k) → Says wrong (StateOut c k)
     → Judged Ran (refusalRows c k) (unless ((out, OutOfRange) ∷ (wrong, WrongState (boardNamed c)) ∷ []) (start k) (finished v [] r) .answer)
 unfolding refusalRows AskedOut CountersOut ReplayOut OwnerOut RoomOut code who value
-plain-judged c k out wrong v r other d2 d3 =
+plain-judged c k out wrong v r other once d2 d3 =
     judged-test out OutOfRange ((wrong, WrongState (boardNamed c)) ∷ []) (start k) (finished v [] r)
     (record { says = d2; code = refl; who = λ t. refl; value = refl })
     (λ n2.
     judged-past _ (other _)
+    (judged-past _ once
     (judged-test wrong (WrongState (boardNamed c)) [] (start k) (finished v [] r)
     (record { says = d3; code = refl; who = λ t. refl; value = refl })
     (λ n3.
     judged-go (start k) (finished v [] r)
-    (judged-past _ (other _) (judged-past _ (other _) (judged-past _ (other _) (judged-past _ (other _) (judged-nil (finished-ran v [] r)))))))))
+    (judged-past _ (other _) (judged-past _ (other _) (judged-past _ (other _) (judged-past _ (other _) (judged-nil (finished-ran v [] r))))))))))
+
+-- ==== 2 and 12: two logs held against each other
+
+compare-judged : (b c : ℕ) (k : Bank) → Judged Ran (refusalRows (Comparing b c) k) (compareBank b c k .answer)
+unfolding compareBank refusalRows OfAccess NumbersOut AskedOut SameTwice StateOut CountersOut ReplayOut OwnerOut RoomOut code who value
+compare-judged b c k =
+    let go : Result = record { answer = comparedLogs b c k; run = start k; given = [] } in
+    judged-test (not (ltb b (length (k .boards)) && ltb c (length (k .boards)))) OutOfRange ((eqb b c, SameBoard) ∷ []) (start k) go
+    (record {
+      says =
+          says-not-and (ltb b (length (k .boards))) (ltb c (length (k .boards)))
+          (says-not-lt b (length (k .boards))) (says-not-lt c (length (k .boards)));
+      code = refl;
+      who = λ t. refl;
+      value = refl;
+    })
+    (λ n2.
+    judged-past _ (λ u. u)
+    (judged-test (eqb b c) SameBoard [] (start k) go
+    (record { says = says-eq b c; code = refl; who = λ t. refl; value = refl })
+    (λ n12.
+    judged-go (start k) go
+    (judged-past _ (λ u. u)
+    (judged-past _ (λ u. u)
+    (judged-past _ (λ u. u)
+    (judged-past _ (λ u. u) (judged-past _ (λ u. u) (judged-nil (compared-cases Ran (λ i d. inl refl) b c k))))))))))
 
 pub rows-judged : (c : Call) (k : Bank) → WellFormed k → Judged Ran (refusalRows c k) (callBank c k .answer)
-unfolding callBank refusalRows OfAccess NumbersOut AskedOut StateOut CountersOut ReplayOut OwnerOut RoomOut boardNamed accessRows liveRows checkpointBank
-    fuseBank restartBank
+unfolding callBank refusalRows OfAccess NumbersOut AskedOut SameTwice StateOut CountersOut ReplayOut OwnerOut RoomOut boardNamed accessRows liveRows
+    checkpointBank fuseBank restartBank
 rows-judged (Accessing b a) k w = access-judged b a k w
 rows-judged (Checkpointing b) k w =
     plain-judged (Checkpointing b) k (not (ltb b (length (k .boards)))) (not (isUp (boardAt k b .state))) 0 (checkpoint b (start k))
-    (λ P u. u) (says-not-lt b (length (k .boards))) (not-up (boardAt k b .state))
+    (λ P u. u) (λ u. u) (says-not-lt b (length (k .boards))) (not-up (boardAt k b .state))
 rows-judged (Fusing b n) k w =
     plain-judged (Fusing b n) k
     (not (ltb b (length (k .boards)) && ltb n noFuse)) (isDown (boardAt k b .state)) 0 (step (fuseBoard b n) (start k))
-    (λ P u. u)
+    (λ P u. u) (λ u. u)
     (says-not-and (ltb b (length (k .boards))) (ltb n noFuse) (says-not-lt b (length (k .boards))) (says-not-lt n noFuse))
     (says-down (boardAt k b .state))
 rows-judged (Restarting b) k w =
     plain-judged (Restarting b) k
     (not (ltb b (length (k .boards)))) (not (isDown (boardAt k b .state)))
     (boardAt k b .stable .selected .number) (endIfOver b (start (onBoard b (λ x. usedUp (loaded x)) k)))
-    (λ P u. u)
+    (λ P u. u) (λ u. u)
     (says-not-lt b (length (k .boards)))
     (says-no (isDown (boardAt k b .state)) (says-down (boardAt k b .state)))
+rows-judged (Comparing b c) k w = compare-judged b c k

@@ -1,5 +1,5 @@
--- Document 01's table "Codes", with document 02's code 10 and F-4, in propositions: of each code when it is answered and who stands beside it, in ≤, <, ≡ and
--- "there is", without the tests of Definitions.Calls. Laws.Codes proves that those tests say the same. No proof stands here. Assumes nothing.
+-- Document 01's table "Codes", with document 02's codes 10 and 12 and F-4, in propositions: of each code when it is answered and who stands beside it, in ≤,
+-- <, ≡ and "there is", without the tests of Definitions.Calls. Laws.Codes proves that those tests say the same. No proof stands here. Assumes nothing.
 use mathlib.Core.Path.{_≡_}
 use mathlib.Core.Logic.{_≢_, _⊎_}
 use Prim.Native.Nat.{ℕ, zero, suc, _+_, _%_, _≤_, _<_}
@@ -14,6 +14,8 @@ use Rattle.types.specs.declared.CopyOrOwn.{CopyOrOwn}
 use Rattle.types.specs.declared.CopyOrOwn.the-variants.{GotCopy, GotOwn}
 use Rattle.types.specs.declared.Kind.the-variants.{Got}
 use Rattle.types.specs.declared.Record.{Record}
+use Rattle.types.specs.declared.Answer.{Answer}
+use Rattle.types.specs.declared.Answer.the-variants.{Done, Compared}
 use Rattle.types.specs.declared.State.the-variants.{Up, Down, Replaying}
 use Rattle.model.specs.Definitions.Parts.{member}
 use Rattle.model.specs.Definitions.Layout.{byteValues, mostBoards, mostPages, mostCells, pageSize, slotCount, noFuse, lastSince, lastNumber, bankSize}
@@ -22,7 +24,7 @@ use Rattle.model.specs.Definitions.Codec.{pageOf, decode}
 use Rattle.model.specs.Definitions.Check.{wellFormed}
 use Rattle.model.specs.Definitions.Steps.{Run, start, Access, Read, Write, ReadCells, Cell, cellsAsked, cellsRead, cellsWritten, takes}
 use Rattle.model.specs.Definitions.Replay.{tookDue, endReplay}
-use Rattle.model.specs.Definitions.Calls.{Call, Accessing, Checkpointing, Fusing, Restarting, callBank}
+use Rattle.model.specs.Definitions.Calls.{Call, Accessing, Checkpointing, Fusing, Restarting, Comparing, callBank}
 use Rattle.model.specs.Contracts.{storedCount, volatileCount}
 
 -- ==== rows, and their order
@@ -63,12 +65,21 @@ Some P (x ∷ xs) = P x ⊎ Some P xs
 
 -- ==== the calls by their numbers
 
--- the board that a call names
+-- the board that a call names, of two the first
 unfoldable pub boardNamed : Call → ℕ
 boardNamed (Accessing b a) = b
 boardNamed (Checkpointing b) = b
 boardNamed (Fusing b n) = b
 boardNamed (Restarting b) = b
+boardNamed (Comparing b c) = b
+
+-- what a done call answers by its numbers: a value, and "who (0 under code 0)"; of two logs compared a place and the taker (document 02, F-7)
+unfoldable pub doneAs : Call → (value who : ℕ) → Answer
+doneAs (Accessing b a) v w = Done v
+doneAs (Checkpointing b) v w = Done v
+doneAs (Fusing b n) v w = Done v
+doneAs (Restarting b) v w = Done v
+doneAs (Comparing b c) v w = Compared v w
 
 -- what only an access can meet
 unfoldable pub OfAccess : (ℕ → Access → Type 0) → Call → Type 0
@@ -76,6 +87,7 @@ OfAccess P (Accessing b a) = P b a
 OfAccess P (Checkpointing b) = ⊥
 OfAccess P (Fusing b n) = ⊥
 OfAccess P (Restarting b) = ⊥
+OfAccess P (Comparing b c) = ⊥
 
 -- ==== 2: "board ≥ N, page ≥ P, offset ≥ 16, value > 255, fuse out of range"
 
@@ -92,6 +104,7 @@ NumbersOut (Accessing b a) k = AccessOut b a k
 NumbersOut (Checkpointing b) k = length (k .boards) ≤ b
 NumbersOut (Fusing b n) k = (length (k .boards) ≤ b) ⊎ (noFuse ≤ n)
 NumbersOut (Restarting b) k = length (k .boards) ≤ b
+NumbersOut (Comparing b c) k = (length (k .boards) ≤ b) ⊎ (length (k .boards) ≤ c)
 
 -- ==== 10: "Zero cells, an odd byte, more than 32, or a second buffer of another length give code 10, tested just after 2" (document 02, F-3)
 
@@ -104,13 +117,23 @@ CellsOut (ReadCells cells outLength) =
 unfoldable pub AskedOut : Call → Bank → Type 0
 AskedOut c k = OfAccess (λ b a. CellsOut a) c
 
--- ==== 3: "dark and not restart; restart and not dark; checkpoint while replaying"
+-- ==== 12: "The same board named twice gives code 12, tested after 2" (document 02, F-7)
+
+unfoldable pub SameTwice : Call → Type 0
+SameTwice (Accessing b a) = ⊥
+SameTwice (Checkpointing b) = ⊥
+SameTwice (Fusing b n) = ⊥
+SameTwice (Restarting b) = ⊥
+SameTwice (Comparing b c) = b ≡ c
+
+-- ==== 3: "dark and not restart; restart and not dark; checkpoint while replaying"; two logs are compared "in every state of the boards" (document 02, F-7)
 
 unfoldable pub StateOut : Call → Bank → Type 0
 StateOut (Accessing b a) k = boardAt k b .state ≡ Down
 StateOut (Checkpointing b) k = (boardAt k b .state ≡ Down) ⊎ (boardAt k b .state ≡ Replaying)
 StateOut (Fusing b n) k = boardAt k b .state ≡ Down
 StateOut (Restarting b) k = boardAt k b .state ≢ Down
+StateOut (Comparing b c) k = ⊥
 
 -- ==== 4: "since or access number at 4,294,967,295" (document 02, F-2)
 
@@ -287,11 +310,12 @@ pub record LosesPower (c : Call) (k : Bank) (b : ℕ) : Type 0 where
 
 -- ==== the table
 
--- codes 2, 10 and 3 to 7, on the bank that well-formed bytes stand for; "who is 0 unless named" (document 02, F-3)
+-- codes 2, 10, 12 and 3 to 7, on the bank that well-formed bytes stand for; "who is 0 unless named" (document 02, F-3)
 unfoldable pub refusalRows : Call → Bank → List Row
 refusalRows c k =
     record { code = 2; when = NumbersOut c k; who = λ w. w ≡ 0 }
     ∷ record { code = 10; when = AskedOut c k; who = λ w. w ≡ 0 }
+    ∷ record { code = 12; when = SameTwice c; who = λ w. w ≡ 0 }
     ∷ record { code = 3; when = StateOut c k; who = λ w. w ≡ boardNamed c }
     ∷ record { code = 4; when = CountersOut c k; who = λ w. w ≡ boardNamed c }
     ∷ record { code = 5; when = ReplayOut c k; who = λ w. w ≡ boardNamed c }
@@ -299,12 +323,13 @@ refusalRows c k =
     ∷ record { code = 7; when = RoomOut c k; who = λ w. OfAccess (λ b a. Live (λ j. LowestShort b a j w) k b a) c }
     ∷ []
 
--- codes 1 to 8 and 10 of a call on any bytes
+-- .. and code 8
+unfoldable pub bankRows : Call → Bank → List Row
+bankRows c k = refusalRows c k ++ (record { code = 8; when = (b : ℕ) × LosesPower c k b; who = λ w. LosesPower c k w } ∷ [])
+
+-- codes 1 to 8, 10 and 12 of a call on any bytes
 unfoldable pub table : Call → List ℕ → List Row
-table c s =
-    record { code = 1; when = wellFormed s ≡ false; who = λ w. w ≡ 0 }
-    ∷ (refusalRows c (decode s)
-    ++ (record { code = 8; when = (b : ℕ) × LosesPower c (decode s) b; who = λ w. LosesPower c (decode s) w } ∷ []))
+table c s = record { code = 1; when = wellFormed s ≡ false; who = λ w. w ≡ 0 } ∷ bankRows c (decode s)
 
 -- ==== "making a bank checks 2 before 1"
 

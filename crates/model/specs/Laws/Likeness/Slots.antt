@@ -1,17 +1,20 @@
--- No call reads a slot at or past a count or is decided by a name: likeness with the same page bytes, and any bytes written over those slots. Assumes nothing.
+-- No call reads a slot at or past a count, and only the one that holds two logs against each other is decided by a name: likeness with the same page bytes,
+-- and any bytes written over those slots. Assumes nothing.
 use mathlib.Core.Path.{_≡_, refl, sym, ap, _∙_}
 use Prim.Native.Nat.{ℕ}
+use mathlib.Core.Bool.{true, false}
 use mathlib.Core.List.{List, map-id}
 use Rattle.types.specs.declared.Answer.{Answer}
 use Rattle.types.specs.declared.Answer.the-variants.{Done, Malformed, OutOfRange, WrongState, CountersFull, ReplayDiffers, OwnerNotUp, LogFull, PowerLost}
-use Rattle.types.specs.declared.Answer.the-variants.{WrongCells, HasRecords}
+use Rattle.types.specs.declared.Answer.the-variants.{WrongCells, HasRecords, Compared, SameBoard}
 use Rattle.types.specs.declared.Frame.{Frame}
 use Rattle.model.specs.Definitions.Layout.{lastSince}
 use Rattle.model.specs.Definitions.Bank.{Log, Area, Board, Bank, logOver, areaOver, boardOver}
 use Rattle.model.specs.Definitions.Steps.{Access, Read, Write, ReadCells}
-use Rattle.model.specs.Definitions.Calls.{Call, Accessing, Checkpointing, Fusing, Restarting, callWithin, callBank}
+use Rattle.model.specs.Definitions.Calls.{Call, Accessing, Checkpointing, Fusing, Restarting, Comparing, callWithin, callBank}
 use Rattle.model.specs.Likeness.{FrameAlike, RecordAlike, FramesAlike, LogAlike, AreaAlike, BoardAlike, slotsOver, mappedAccess, mappedValue, mappedCall}
-use Rattle.model.specs.Likeness.{mappedCallValue, onValue, ResultAlike, Change, Alike, samePages, SameBelowCounts, SameButNames, SameAnswer}
+use Rattle.model.specs.Likeness.{mappedCallValue, onValue, ResultAlike, Change, Alike, samePages, SameBelowCounts, SameButNames, SameAnswer, readsNames}
+use Rattle.model.specs.Laws.Logic.{clash}
 use Rattle.model.specs.Laws.Likeness.{pairs-over, pairs-same}
 use Rattle.model.specs.Laws.Likeness.Calls.{calls-alike}
 
@@ -34,6 +37,7 @@ mappedCall-same (Accessing b a) = ap (Accessing b) (mappedAccess-same a)
 mappedCall-same (Checkpointing b) = refl
 mappedCall-same (Fusing b n) = refl
 mappedCall-same (Restarting b) = refl
+mappedCall-same (Comparing b c) = refl
 
 mappedCallValue-same : (c : Call) (v : ℕ) → mappedCallValue (λ v. v) c v ≡ v
 unfolding mappedCallValue
@@ -41,6 +45,7 @@ mappedCallValue-same (Accessing b a) v = mappedValue-same a v
 mappedCallValue-same (Checkpointing b) v = refl
 mappedCallValue-same (Fusing b n) v = refl
 mappedCallValue-same (Restarting b) v = refl
+mappedCallValue-same (Comparing b c) v = refl
 
 onValue-same : (g : ℕ → ℕ) → ((v : ℕ) → g v ≡ v) → (x : Answer) → onValue g x ≡ x
 unfolding onValue
@@ -55,15 +60,17 @@ onValue-same g i (LogFull b) = refl
 onValue-same g i (PowerLost b) = refl
 onValue-same g i WrongCells = refl
 onValue-same g i HasRecords = refl
+onValue-same g i (Compared n b) = refl
+onValue-same g i SameBoard = refl
 
--- No call reads a slot at or past a count, and none is decided by a name: two banks that differ only there, or in names too, answer every call alike, and are
--- left differing only there.
+-- Two banks that differ only in slots at or past a count answer every call alike; two that differ in names too, every call but the one that compares logs.
+-- They are left differing only there.
 module _ (Peers : ℕ → ℕ → Type 0) (same : (b : ℕ) → Peers b b) where
-  same-answer : (largest : ℕ) (c : Call) {k j : Bank} → Alike (samePages Peers same) k j
+  same-answer : (largest : ℕ) (c : Call) → (readsNames c ≡ true → (x y : ℕ) → Peers x y → y ≡ x) → {k j : Bank} → Alike (samePages Peers same) k j
       → SameAnswer (Alike (samePages Peers same)) (callWithin largest c k) (callWithin largest c j)
-  same-answer largest c {k} {j} e =
+  same-answer largest c named {k} {j} e =
       let q : ResultAlike (samePages Peers same) (mappedCallValue (λ v. v) c) (callWithin largest c k) (callWithin largest c j) =
-      rw (mappedCall-same c) at (calls-alike (samePages Peers same) refl (λ v. refl) largest c e) in
+      rw (mappedCall-same c) at (calls-alike (samePages Peers same) refl (λ v. refl) largest c named e) in
       record {
         answer = q .answer ∙ onValue-same (mappedCallValue (λ v. v) c) (mappedCallValue-same c) (callWithin largest c k .answer);
         given = q .given ∙ map-id (callWithin largest c k .given);
@@ -73,10 +80,11 @@ module _ (Peers : ℕ → ℕ → Type 0) (same : (b : ℕ) → Peers b b) where
       }
 
 pub unread-slots : (largest : ℕ) (c : Call) {k j : Bank} → SameBelowCounts k j → SameAnswer SameBelowCounts (callWithin largest c k) (callWithin largest c j)
-unread-slots largest c e = same-answer _ _ largest c e
+unread-slots largest c e = same-answer _ _ largest c (λ t x y i. i) e
 
-pub unread-names : (largest : ℕ) (c : Call) {k j : Bank} → SameButNames k j → SameAnswer SameButNames (callWithin largest c k) (callWithin largest c j)
-unread-names largest c e = same-answer _ _ largest c e
+pub unread-names : (largest : ℕ) (c : Call) → readsNames c ≡ false → {k j : Bank} → SameButNames k j
+    → SameAnswer SameButNames (callWithin largest c k) (callWithin largest c j)
+unread-names largest c unnamed e = same-answer _ _ largest c (λ t x y i. clash t unnamed) e
 
 -- ---- two such banks: any bytes written over the slots past a count
 

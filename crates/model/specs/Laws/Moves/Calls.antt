@@ -27,7 +27,7 @@ use Rattle.model.specs.Definitions.Replay.{settle, loaded, usedUp, diffe
 use Rattle.model.specs.Definitions.Calls.{Result, firstOf, unless, finished, pageWritten, copiesOut, lackingOf, pagesLacking, liveRefusals, prepared}
 use Rattle.model.specs.Definitions.Calls.{performed, live, liveAfterEnd, replaying, refusalsWithin, accessRefusals, accessWithin, accessBank}
 use Rattle.model.specs.Definitions.Calls.{checkpointBank, fuseBank, restartBank, Call, Accessing, Reply, refused, replyOf, call, Checkpointing, Fusing}
-use Rattle.model.specs.Definitions.Calls.{Restarting, callBank}
+use Rattle.model.specs.Definitions.Calls.{Restarting, compareBank, Comparing, callBank}
 use Rattle.model.specs.Definitions.Answers.{code}
 use Rattle.model.specs.Definitions.Codec.{decode}
 use Rattle.model.specs.Definitions.Check.{wellFormed}
@@ -42,6 +42,7 @@ use Rattle.model.specs.Laws.Boards.{droppedIf, withoutCopies, boards-onB
 use Rattle.model.specs.Laws.Boards.{entryAt-passOwnership-same, directory-dropCopies, tookDue-state, replayed-state}
 use Rattle.model.specs.Laws.Runs.{step-done, step-none, step-going, follows-fetch, follows-step, SameSizes, sizes-same, sizes-dropCopies}
 use Rattle.model.specs.Laws.Codes.Statement.{boardNamed}
+use Rattle.model.specs.Laws.Codes.Cases.{compared-cases}
 use Rattle.model.specs.Laws.Keeps.Clauses.{up-below, isUp-up, isDown-down, isDown-not, isReplaying-replaying}
 use Rattle.model.specs.Laws.Lists.{each-imp}
 use Rattle.model.specs.Laws.Below.{Lacks, lacking-none, lackingPages-lack, lackingPages-rise}
@@ -421,6 +422,14 @@ module _ (b : ℕ) (k : Bank) (w : WellFormed k) where
         (endIfOver-moves b begun (moves-do (Load b) still (λ n. loads l down)) refl (rw (boards-onBoard b f k) l)
         (rw (boardAt-same b f k l) refl)))
 
+    -- nothing moves
+    compareBank-moves : (c : ℕ) → MadeBy b Again Begun (start k) (Comparing b c) k (compareBank b c k)
+    unfolding compareBank eventOf gaveIn
+    compareBank-moves c =
+        unless-moves (Comparing b c) k _ (start k) _ (each-cons refl (each-cons refl each-nil)) still
+        (λ e.
+        compared-cases (λ x. MadeBy b Again Begun (start k) (Comparing b c) k (record { answer = x; run = start k; given = [] })) (λ i d. ends still) b c k)
+
 -- every call, of any numbers, with any answer, is moves of the board that it names, up to what its answer feeds to the history
 pub call-moves : (c : Call) (k : Bank) → WellFormed k
     → Moves (boardNamed c) (RepeatsIn c k) Begun (start k) (feeds c k (callBank c k .answer) (callBank c k .given)) (callBank c k .run)
@@ -429,6 +438,7 @@ call-moves (Accessing b a) k w = access-moves b k w a
 call-moves (Checkpointing b) k w = checkpointBank-moves b k w
 call-moves (Fusing b n) k w = fuseBank-moves b k w n
 call-moves (Restarting b) k w = restartBank-moves b k w
+call-moves (Comparing b c) k w = compareBank-moves b k w c
 
 -- ---- well formed after each
 
