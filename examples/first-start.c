@@ -1,5 +1,5 @@
 /* The first start after an update from the earlier firmware, whose log records named no board. bank_adopt says whether the new firmware may go on with the
- * bank, before any other call; where it may not, the machine goes back to the earlier firmware. */
+ * bank, before any other call, and then bank_clean zeroes what that firmware left in slots; where it may not, the machine goes back to that firmware. */
 #include "bank.h"
 #include <stdio.h>
 #include <stdlib.h>
@@ -18,11 +18,12 @@ static const size_t len = sizeof memory.bank;
 enum next { GO_ON, BACK_TO_EARLIER_FIRMWARE, BRING_BACK_A_COPY };
 
 /* What every start of the new firmware does first. The mark is stored before the first other call: from then on the log gets records that name boards, and
- * bank_adopt would refuse them. A power loss before the mark does no harm, since bank_adopt writes nothing. */
+ * bank_adopt would refuse them. A power loss before the mark does no harm: bank_adopt writes nothing, and both may be called again. */
 static enum next start(void) {
     if (memory.adopted) return GO_ON;
     switch (bank_code(bank_adopt(memory.bank, len))) {
     case BANK_DONE:
+        if (bank_code(bank_clean(memory.bank, len)) != BANK_DONE) return BRING_BACK_A_COPY;
         memory.adopted = 1;
         return GO_ON;
     case BANK_HAS_RECORDS:
@@ -67,8 +68,12 @@ int main(int count, char **names) {
     printf("A read would have been done, on a log that says the price came from board 0. It came from board %d.\n", DRAWER);
 
     load(names[1]);
+    printf("The earlier firmware checkpoints boards %d and %d twice each. ", DISPLAY, DRAWER);
+    /* The logs are empty, but the drawer's first area still has its two records, past the count. */
+    expect("the code of an adoption", bank_code(bank_adopt(memory.bank, len)), BANK_DONE);
+    expect("the code of a read before bank_clean", bank_code(read_price(memory.bank)), BANK_MALFORMED);
     expect("what to do after the checkpoints", start(), GO_ON);
-    printf("The earlier firmware checkpoints boards %d and %d twice each. Then code %u: the new firmware goes on.\n", DISPLAY, DRAWER, BANK_DONE);
+    printf("Then code %u: bank_clean zeroes what the logs left, and the new firmware goes on.\n", BANK_DONE);
     uint64_t answer = read_price(memory.bank);
     expect("the code of a read", bank_code(answer), BANK_DONE);
     expect("the price", bank_value(answer), 130);

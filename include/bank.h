@@ -2,7 +2,8 @@
  *
  * A bank is one buffer of BANK_LENGTH(boards, pages) bytes, of any alignment. bank_make fills it, and bank_convert does from a bank
  * of the older form, of BANK_OLDER_LENGTH(boards, pages) bytes, which to the other calls is no bank; these work on a bank in place.
- * A bank of the earlier form, as long as today's, goes through bank_adopt once, before any other call.
+ * A bank of the earlier form, as long as today's, goes through bank_adopt once, before any other call. Every bank that a firmware without
+ * bank_clean wrote, also one just adopted, goes through bank_clean once: the other calls want zero in all slots that hold no record.
  * Every call may be given any bytes and any numbers: what it can't use it refuses, and then it changes nothing.
  *
  * The caller promises two things. The pointer is valid for `len` bytes, to read and, where it isn't const, to write. Nobody else
@@ -39,10 +40,11 @@ enum {
 enum bank_codes {
     BANK_DONE = 0,           /* Done. */
     BANK_MALFORMED = 1,      /* The bytes are no bank, or bank_make was given a wrong length. Sell nothing from it: bring back a good copy, or make a
-                                new bank. If it has the older length, convert it. If the firmware was just updated, ask bank_adopt first: a bank of
-                                the earlier form with records may get 1 from the other calls. From bank_adopt: no bank of that form. From
-                                bank_convert: the new buffer has not BANK_LENGTH of the old bank's boards and pages, or the old bytes are no bank of
-                                the older form. */
+                                new bank. If it has the older length, convert it. If the firmware was just updated, ask bank_adopt (from the earlier
+                                form alone) and then call bank_clean: a bank of the earlier form with records may get 1 from the other calls, and
+                                one with leftovers in its slots does. From bank_adopt: no bank of that form. From bank_clean: leftovers aren't all
+                                that is wrong. From bank_convert: the new buffer has not BANK_LENGTH of the old bank's boards and pages, or the old
+                                bytes are no bank of the older form. */
     BANK_OUT_OF_RANGE = 2,   /* A number is too large, or a size is 0. The caller is wrong: mend it. */
     BANK_WRONG_STATE = 3,    /* Board `who` is down: restart it. Or it is not down and needs no restart. Or it replays: no checkpoint until that is over. */
     BANK_COUNTERS_FULL = 4,  /* Board `who` made 4,294,967,295 accesses: its access number is used up, make a new bank. (In a bank that was made by
@@ -81,7 +83,7 @@ uint64_t bank_write(uint8_t *bank, size_t len, uint32_t board, uint32_t page, ui
  * Under every code but 0 `out` is as it was. A board that replays repeats the call with the same cells in the same order. */
 uint64_t bank_shelf(uint8_t *bank, size_t len, uint32_t board, const uint8_t *cells, size_t cells_len, uint8_t *out, size_t out_len);
 
-/* Stores what a board holds and empties its log: a restart begins here. */
+/* Stores what a board holds in the other one of its two areas, with zero in all slots there, and empties its log: a restart begins here. */
 uint64_t bank_checkpoint(uint8_t *bank, size_t len, uint32_t board);
 
 /* Takes a board's power, also while it replays. With stores 0 the power is gone now, without a store: code 0, not 8. Call it so when a board
@@ -94,18 +96,26 @@ uint64_t bank_fuse(uint8_t *bank, size_t len, uint32_t board, uint32_t stores);
  * did after that, and gets the same bytes from its log. Where the log ends it goes on live. */
 uint64_t bank_restart(uint8_t *bank, size_t len, uint32_t board);
 
-/* Writes a bank of the older form anew, in today's: the same boards, pages and numbers, and zero in the slots of the logs, which are empty.
- * `old` is only read; `new_bank` has BANK_LENGTH of its boards and pages, and every byte of it is written. From then on the new bank
- * answers every call as the old one would have until that one's first code 4; where that one had made 65,535 accesses since a record,
- * the new one goes on. Under codes 1 and 11 nothing is written, and 1 comes first. */
+/* Writes a bank of the older form anew, in today's: the same boards, pages and numbers, and zero in the slots of the logs, which are empty,
+ * whatever the old slots hold.
+ * `old` is only read; `new_bank` has BANK_LENGTH of its boards and pages, and every byte of it is written. From then on the new bank answers
+ * every call as the old one, were its slots zero too, would have until that one's first code 4; where that one had made 65,535 accesses
+ * since a record, the new one goes on. Under codes 1 and 11 nothing is written, and 1 comes first. */
 uint64_t bank_convert(const uint8_t *old, size_t old_len, uint8_t *new_bank, size_t new_len);
 
-/* Whether a bank of the earlier form (today's bytes, but byte 3 of a record is 0 where it now names a board) can go on as it is. Code 0: every
- * log is empty, and the same bytes are a bank of today. Code 1: no bank of that form. Code 11: it has records. The bank is only read.
- * Call it once, at the first start after the update and before any other call: a 0 in byte 3 names board 0, so the other calls take a bank
+/* Whether a bank of the earlier form (today's bytes, but byte 3 of a record is 0 where it now names a board, and slots without a record may hold
+ * anything) can go on. Code 0: every log is empty, and after bank_clean it is a bank of today; until then the other calls answer 1 if a slot
+ * holds something. Code 1: no bank of that form. Code 11: it has records. The bank is only read.
+ * Call it once, at the first start after the update and before any other call: a 0 in byte 3 names board 0, so the other calls may take a bank
  * of the earlier form for their own, records and all, unless a log of board 0 has a record; then they answer 1. A bank of today gets 0
  * here while its logs are empty, else 1 or 11. */
 uint64_t bank_adopt(const uint8_t *bank, size_t len);
+
+/* Zeroes every slot that holds no record, in place: in the volatile log and in both areas of every board, where earlier firmware left what it no
+ * longer needed. Code 0: the bank is one of today, for all other calls; no record and no other byte changed, a clean bank stays as it is, and
+ * value, `who` and stores are 0. Code 1: leftovers aren't all that is wrong, and nothing is written. Call it once after an update: today's
+ * calls leave nothing to clean. It takes a zero byte 3 of a record for board 0, so ask bank_adopt first where the bank may be of the earlier form. */
+uint64_t bank_clean(uint8_t *bank, size_t len);
 
 /* Holds the stored logs of two boards, in any states and named in either order, against each other; the bank is only read. Where one board gave
  * pages to the other, the i-th got of the taker that names the giver must have the page of the i-th shown of the giver that names the taker.

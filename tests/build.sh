@@ -38,10 +38,11 @@ building() {
 }
 
 # The proved engine for C and Rust to link: $archive. Its proof is checked on the way, which takes a minute or more.
-# It stands on all crates but lines, script and runner.
+# It stands on all crates but lines, script, cases and runner.
 build_archive() {
     archive=$root/target/staticlib/libbank.a
-    if newer "$archive" "$root/crates" "$root/crates.txt" ! -path "$root/crates/lines/*" ! -path "$root/crates/script/*" ! -path "$root/crates/runner/*"; then
+    if newer "$archive" "$root/crates" "$root/crates.txt" ! -path "$root/crates/lines/*" ! -path "$root/crates/script/*" ! -path "$root/crates/cases/*" \
+        ! -path "$root/crates/runner/*"; then
         echo "building target/staticlib/libbank.a" >&2
         proving bank env -C "$root" rt staticlib bank
     fi
@@ -50,7 +51,7 @@ build_archive() {
 # The proved line runner: $runner. Its proof is checked on the way too.
 build_runner() {
     runner=$root/target/bin/runner
-    if newer "$runner" "$root/crates" "$root/crates.txt"; then
+    if newer "$runner" "$root/crates" "$root/crates.txt" ! -path "$root/crates/cases/*"; then
         echo "building target/bin/runner: all proofs below it are checked, which takes minutes" >&2
         proving runner env -C "$root" rt check runner
     fi

@@ -1,6 +1,7 @@
 //! The same calls on the archive and on the second engine, both optimised, on the same buffers by turns; beside the accept
-//! also the check of a bank in `check.c`. `bench` prints nanoseconds for each call; `bench counts` runs every row once, for a
-//! tool that counts instructions; `bench verdicts` compares what the three accept.
+//! also the check of a bank in `check.c`, the C library's `memcmp` and a sum. `bench` prints nanoseconds for each call;
+//! `bench counts` runs every row once, for a tool that counts instructions; `bench verdicts` compares what archive, second
+//! engine and C check accept.
 
 #[allow(dead_code)]
 #[path = "../../tests/compare/src/engines.rs"]
@@ -14,6 +15,7 @@ use engines::{
 use rows::{rows, Glance, Row, Work};
 use second::adopt::adopt;
 use second::calls::{call, make, Call};
+use second::clean::clean;
 use second::convert::convert;
 use second::fault::Fault;
 use second::layout::{Layout, SLOTS};
@@ -45,10 +47,15 @@ const SIZES: [(Layout, usize); 2] = [
 /// The best of so many batches counts: what disturbs a batch only makes it longer.
 const BATCHES: usize = 400;
 
-/// A copy of a row's bank, and the second engine's notes about it.
+extern "C" {
+    fn memcmp(one: *const u8, other: *const u8, len: usize) -> i32;
+}
+
+/// A copy of a row's bank, the second engine's notes about it, and two runs of zeros of its length.
 struct Buffer {
     bank: Box<[u8]>,
     watch: Watch,
+    zeros: [Box<[u8]>; 2],
 }
 
 #[derive(Clone, Copy)]
@@ -57,11 +64,14 @@ enum Timed {
     Second,
     /// The C check of the same bank, which no accept is to be slower than.
     Check,
-    /// One pass over the bytes of a bank, which the goal measures the accept by.
+    /// The C library holds as many zeros as the bank has bytes against zeros. At N 8, P 16 an accept is to take at most 1.5
+    /// times as long.
+    Memcmp,
+    /// One pass over the bytes of a bank.
     Sum,
 }
 
-const ACCEPTS_ONLY: &str = "the C check and the sum are timed beside accepts only";
+const ACCEPTS_ONLY: &str = "the C check, memcmp and the sum are timed beside accepts only";
 
 /// What is timed, and what is counted: the calls one after another, each behind a choice of the C function or of the
 /// second engine's call, and nothing else. The state was copied into the buffers before.
@@ -75,6 +85,7 @@ fn measured(timed: Timed, buffers: &mut [Buffer], work: &mut Work) {
                     Timed::Archive => black_box(archive(&mut buffer.bank, line)),
                     Timed::Second => black_box(second(buffer, line)),
                     Timed::Check => black_box(check(black_box(&buffer.bank)) as u64),
+                    Timed::Memcmp => black_box(all_equal(black_box(&buffer.zeros)) as u64),
                     Timed::Sum => black_box(sum(black_box(&buffer.bank))),
                 };
             }),
@@ -84,21 +95,21 @@ fn measured(timed: Timed, buffers: &mut [Buffer], work: &mut Work) {
                     Timed::Second => {
                         black_box(packed(&convert(old, &mut buffer.bank, Fault::None)))
                     }
-                    Timed::Check | Timed::Sum => unreachable!("{ACCEPTS_ONLY}"),
+                    _ => unreachable!("{ACCEPTS_ONLY}"),
                 };
             }),
             Work::Adoptions(_, count) => (0..*count).for_each(|_| {
                 match timed {
                     Timed::Archive => black_box(archive_adopt(&mut buffer.bank)),
                     Timed::Second => black_box(packed(&adopt(&mut buffer.bank, Fault::None))),
-                    Timed::Check | Timed::Sum => unreachable!("{ACCEPTS_ONLY}"),
+                    _ => unreachable!("{ACCEPTS_ONLY}"),
                 };
             }),
             Work::Glances(Glance { cells, call, out }, count) => (0..*count).for_each(|_| {
                 match timed {
                     Timed::Archive => black_box(archive_shelf(&mut buffer.bank, 0, cells, out)),
                     Timed::Second => black_box(second_call(buffer, call, out)),
-                    Timed::Check | Timed::Sum => unreachable!("{ACCEPTS_ONLY}"),
+                    _ => unreachable!("{ACCEPTS_ONLY}"),
                 };
             }),
         }
@@ -106,11 +117,11 @@ fn measured(timed: Timed, buffers: &mut [Buffer], work: &mut Work) {
 }
 
 fn second(buffer: &mut Buffer, line: &Line) -> u64 {
-    if let Line::Make { boards, pages } = line {
-        return packed(&make(&mut buffer.bank, *boards, *pages));
+    match (line, line.call()) {
+        (_, Some(asked)) => second_call(buffer, &asked, &mut []),
+        (Line::Make { boards, pages }, _) => packed(&make(&mut buffer.bank, *boards, *pages)),
+        _ => packed(&clean(&mut buffer.bank, Fault::None)),
     }
-    let asked = line.call().expect("every line but a making asks for a call");
-    second_call(buffer, &asked, &mut [])
 }
 
 fn second_call(buffer: &mut Buffer, asked: &Call, out: &mut [u8]) -> u64 {
@@ -123,6 +134,12 @@ fn second_call(buffer: &mut Buffer, asked: &Call, out: &mut [u8]) -> u64 {
     ))
 }
 
+/// The C library's verdict on two buffers of one length.
+fn all_equal([one, other]: &[Box<[u8]>; 2]) -> bool {
+    // Safe since both pointers are valid for the length, and it only reads.
+    unsafe { memcmp(one.as_ptr(), other.as_ptr(), one.len()) == 0 }
+}
+
 fn sum(bank: &[u8]) -> u64 {
     let mut sum = 0;
     for byte in bank {
@@ -131,21 +148,34 @@ fn sum(bank: &[u8]) -> u64 {
     sum
 }
 
-/// The first two on every row, and on an accept all, of which the first three are counted.
-const TIMED: [Timed; 4] = [Timed::Archive, Timed::Second, Timed::Check, Timed::Sum];
+/// The first two on every row, and on an accept all, of which the first four are counted.
+const TIMED: [Timed; 5] = [
+    Timed::Archive,
+    Timed::Second,
+    Timed::Check,
+    Timed::Memcmp,
+    Timed::Sum,
+];
 const ENGINES: usize = 2;
-const COUNTED: usize = 3;
+const COUNTED: usize = 4;
 
 /// Copies the row's state into the buffers; outside of what is timed.
 fn prepare(buffers: &mut [Buffer], row: &Row) {
     let layout = Layout::of(&row.bank);
-    for Buffer { bank, watch } in buffers {
+    for Buffer { bank, watch, .. } in buffers {
         bank.copy_from_slice(&row.bank);
         for board in 0..layout.boards {
             watch.log_emptied(board);
             (0..bank[layout.volatile(board)]).for_each(|_| watch.record_made(board, 0));
         }
     }
+}
+
+/// Written, so that they have memory of their own: pages that nobody wrote may all be the same one.
+fn zeros(len: usize) -> Box<[u8]> {
+    let mut bytes = black_box(vec![1; len]);
+    bytes.fill(0);
+    bytes.into()
 }
 
 /// The second engine's notes have room for every record, so that no timed call allocates.
@@ -158,6 +188,7 @@ fn buffers(row: &Row, count: usize) -> Vec<Buffer> {
         Buffer {
             bank: row.bank.clone().into(),
             watch,
+            zeros: [(); 2].map(|_| zeros(row.bank.len())),
         }
     };
     (0..count).map(buffer).collect()
@@ -211,11 +242,15 @@ fn difference(layout: Layout) -> Option<String> {
     })
 }
 
+/// Behind each of what an accept is held against stands how many times as long the archive takes.
+const HEADINGS: &str =
+    "nanoseconds a call                      archive    second     ratio     calls   C check     ratio    memcmp     ratio       sum     ratio";
+
 fn bench() {
     for (layout, least) in SIZES {
         let Layout { boards, pages } = layout;
         println!("N {boards}, P {pages}: {} bytes", layout.length());
-        println!("nanoseconds a call           archive    second     ratio     calls   C check     ratio   of a summing pass");
+        println!("{HEADINGS}");
         for row in &mut rows(layout) {
             let timed = match row.accepts() {
                 true => &TIMED[..],
@@ -225,24 +260,20 @@ fn bench() {
             let [archive, second] = [best[0], best[1]];
             let calls = row.work.calls();
             print!(
-                "{:26}{archive:>10.0}{second:>10.0}{:>10.2}{calls:>10}",
+                "{:37}{archive:>10.0}{second:>10.0}{:>10.2}{calls:>10}",
                 row.name,
                 archive / second
             );
-            match best[ENGINES..] {
-                [check, sum] => println!(
-                    "{check:>10.0}{:>10.2}{:>10.2} of {sum:.0}",
-                    archive / check,
-                    archive / sum
-                ),
-                _ => println!(),
-            }
+            best[ENGINES..]
+                .iter()
+                .for_each(|other| print!("{other:>10.0}{:>10.2}", archive / other));
+            println!();
         }
         println!();
     }
 }
 
-/// Each engine, and on an accept the C check, once on one buffer; a line for each row with its number of calls and of what
+/// Each engine, and on an accept the C check and memcmp, once on one buffer; a line for each row with its number of calls and of what
 /// was counted.
 fn counts() {
     for (layout, _) in SIZES {

@@ -1,8 +1,8 @@
 //! The rows of the bench: a bank in some state, and the calls that are timed on it; or an old bank that is converted into it,
-//! or one of the earlier form that is adopted.
+//! one of the earlier form that is adopted, or one with leftovers that is cleaned.
 
 use second::calls::{call, make, Call};
-use second::check::well_formed;
+use second::check::{fits, well_formed};
 use second::fault::Fault;
 use second::gen::Generator;
 use second::layout::*;
@@ -89,6 +89,24 @@ fn adoption(name: &'static str, bank: &[u8], code: u64) -> Row {
         bank: unnamed(bank),
         work: Work::Adoptions(code, REPEATS),
     }
+}
+
+/// The bank is cleaned, so many times in a row.
+fn cleaning(name: &'static str, bank: Vec<u8>, count: usize) -> Row {
+    assert!(fits::<UNCLEANED>(&bank));
+    Row {
+        name,
+        bank,
+        work: Work::Calls(vec![Line::Clean; count]),
+    }
+}
+
+/// The bank with something in every slot past a count.
+fn littered(bank: &[u8]) -> Vec<u8> {
+    let mut littered = bank.to_vec();
+    let runs = Layout::of(bank).past_counts(bank);
+    runs.into_iter().for_each(|run| littered[run].fill(7));
+    littered
 }
 
 /// 32 cells, spread over all pages; page and offset of each.
@@ -204,7 +222,10 @@ pub fn rows(layout: Layout) -> Vec<Row> {
         pages: layout.pages as u32,
     };
     let mut all_down = fresh(layout);
-    let power_losses = done(&mut all_down, (0..boards).map(|board| format!("F {board} 0")));
+    let power_losses = done(
+        &mut all_down,
+        (0..boards).map(|board| format!("F {board} 0")),
+    );
 
     let reads = (0..boards).flat_map(|board| {
         let others = (0..layout.pages).filter(move |page| page % boards != board);
@@ -278,6 +299,10 @@ pub fn rows(layout: Layout) -> Vec<Row> {
         conversion("convert, code 11", &full_logs(layout), HAS_RECORDS),
         adoption("adopt, fresh bank", &bank, DONE),
         adoption("adopt, code 11", &full_logs(layout), HAS_RECORDS),
+        adoption("adopt, all slots full of leftovers", &littered(&bank), DONE),
+        cleaning("clean, clean bank", bank.clone(), REPEATS),
+        // Once on each copy: a second call would find nothing to zero.
+        cleaning("clean, all slots full of leftovers", littered(&bank), 1),
         row("compare logs, fresh bank", &bank, comparisons.clone()),
         row("compare logs, all full", &full_logs(layout), comparisons),
     ];

@@ -6,6 +6,7 @@ use crate::rows::ACCEPT;
 use second::check::well_formed;
 use second::damage;
 use second::layout::*;
+use second::leftovers;
 use second::made;
 use second::random::Random;
 
@@ -51,15 +52,19 @@ fn said(verdict: bool) -> &'static str {
 enum Source {
     Reached,
     Made,
+    Littered,
+    Slot,
     Damaged,
     Length,
     Sizes,
     Short,
 }
 
-const SOURCES: [&str; 6] = [
+const SOURCES: [&str; 8] = [
     "reached by a random script",
     "made by hand",
+    "with leftovers",
+    "one byte past a count",
     "with damaged bytes",
     "of a wrong length",
     "all down, any N and P",
@@ -74,7 +79,9 @@ fn random_bytes(random: &mut Random) -> (Source, Vec<u8>) {
     match random.below(100) {
         0 => (Source::Reached, made::reached(random)),
         1..=24 => (Source::Made, made::bank::<NEWEST>(random)),
-        25..=84 => (Source::Damaged, damaged(random)),
+        25..=29 => (Source::Littered, littered(random)),
+        30..=44 => (Source::Slot, one_byte_past(random)),
+        45..=84 => (Source::Damaged, damaged(random)),
         85..=91 => (Source::Length, of_wrong_length(random)),
         92..=94 => (Source::Sizes, all_down(random)),
         _ => (Source::Short, short(random)),
@@ -109,6 +116,19 @@ fn lure(bank: &mut [u8]) {
 fn damaged(random: &mut Random) -> Vec<u8> {
     let mut bank = good(random);
     damage::bytes::<NEWEST>(random, &mut bank);
+    bank
+}
+
+/// Well formed but for slots past a count.
+fn littered(random: &mut Random) -> Vec<u8> {
+    let mut bank = made::bank::<NEWEST>(random);
+    leftovers::put::<NEWEST>(random, &mut bank);
+    bank
+}
+
+fn one_byte_past(random: &mut Random) -> Vec<u8> {
+    let mut bank = good(random);
+    damage::slot::<NEWEST>(random, &mut bank);
     bank
 }
 

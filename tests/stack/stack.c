@@ -8,6 +8,7 @@
 #include "bank.h"
 
 enum { SIZE = 65536, PAINT = 0xa5, CALLS = 300000 };
+enum { A_SLOT = 4 + 2 * 16 + 14 + 17 * 16 }; /* board 0's first volatile slot, in a bank of 16 pages (docs/FORMAT.md) */
 
 static uint8_t stack[SIZE] __attribute__((aligned(64)));
 static ucontext_t back, there;
@@ -31,6 +32,7 @@ static void call(void) {
     case 7: answer = bank_shelf(bank, len, arg[0], cells, 2 * cell_count, out, cell_count); break;
     case 8: answer = bank_adopt(bank, len); break;
     case 9: answer = bank_compare_logs(bank, len, arg[0], arg[1]); break;
+    case 10: answer = bank_clean(bank, len); break;
     default: answer = 0; break; /* nothing: what the measuring itself takes */
     }
 }
@@ -59,8 +61,8 @@ static uint32_t below(uint32_t n) {
 }
 
 int main(int count, char **files) {
-    static const char *names[] = {"bank_make",    "bank_read",    "bank_write", "bank_checkpoint", "bank_fuse",
-                                  "bank_restart", "bank_convert", "bank_shelf", "bank_adopt",      "bank_compare_logs"};
+    static const char *names[] = {"bank_make",    "bank_read",  "bank_write", "bank_checkpoint",   "bank_fuse", "bank_restart",
+                                  "bank_convert", "bank_shelf", "bank_adopt", "bank_compare_logs", "bank_clean"};
     enum { KINDS = sizeof names / sizeof *names };
     size_t most[KINDS] = {0};
     len = BANK_LENGTH(8, 16);
@@ -75,6 +77,12 @@ int main(int count, char **files) {
         fprintf(stderr, "stack: a fresh bank isn't adopted\n");
         return 1;
     }
+    kind = 10, bank[A_SLOT] = 1; /* something to zero */
+    most[10] = used();
+    if (bank_code(answer) != BANK_DONE || bank[A_SLOT] != 0) {
+        fprintf(stderr, "stack: a slot isn't cleaned\n");
+        return 1;
+    }
     for (int i = 0; i < CALLS; i++) {
         uint32_t k = below(16);
         kind = k < 4 ? 1 : k < 6 ? 7 : k < 12 ? 2 : k == 12 ? 3 : k == 13 || (k == 14 && below(4) == 0) ? 4 : 5;
@@ -85,7 +93,7 @@ int main(int count, char **files) {
         if (n > most[kind]) most[kind] = n;
         if (i % 16 == 0) { /* any code, of an adoption mostly 1 */
             arg[1] = below(8);
-            for (kind = 8; kind <= 9; kind++) {
+            for (kind = 8; kind <= 10; kind++) {
                 n = used();
                 if (n > most[kind]) most[kind] = n;
             }

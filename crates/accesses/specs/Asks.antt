@@ -22,7 +22,7 @@ use Rattle.model.specs.Laws.Valid.{Writable}
 use Rattle.model.specs.Contracts.{CanAccess, Entered}
 use Rattle.fields.specs.Cells.{CellIn}
 use Rattle.steps.specs.Asked.{Takes, wroteByte}
-use Rattle.exchange.specs.Banks.{OfBank}
+use Rattle.copies.specs.Banks.{OfBank}
 use Rattle.exchange.specs.Progress.{running}
 
 -- access a is what an ask says, but for the cells that it reads

@@ -35,10 +35,11 @@ use Rattle.model.specs.Laws.Keeps.Live.{first-in, lacking-own, can-drop, prepar
 use Rattle.model.specs.Likeness.{onValue}
 use Rattle.steps.specs.Access.{lacking-test}
 use Rattle.steps.specs.Asked.{got}
+use Rattle.copies.specs.Copies.{pagesIn}
+use Rattle.copies.specs.Banks.{Holds, OfBank, holds-wellFormed, holds-decode, holds-of}
 use Rattle.exchange.specs.declared.progress.Loss.{Loss}
 use Rattle.exchange.specs.declared.progress.Loss.the-variants.{Nobody, Board}
-use Rattle.exchange.specs.Progress.{running, lossOf, Came, pagesIn}
-use Rattle.exchange.specs.Banks.{Holds, OfBank, holds-wellFormed, holds-decode, holds-of}
+use Rattle.exchange.specs.Progress.{running, lossOf, Came}
 use Rattle.accesses.specs.Needs.{foundIn, none-found, firstBelow-same, need-zero, need-of, room-kept}
 use Rattle.accesses.specs.Asks.{Lacking, Asks}
 use Rattle.accesses.specs.Results.{Answered}

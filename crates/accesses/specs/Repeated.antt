@@ -23,7 +23,7 @@ use Rattle.model.specs.Laws.Lists.{update-set}
 use Rattle.model.specs.Laws.Boards.{boards-onBoard, boardAt-same, onBoard-onBoard}
 use Rattle.model.specs.Laws.Runs.{SameSizes, follows-endReplay}
 use Rattle.model.specs.Contracts.{InReplay, WellFormedBut}
-use Rattle.exchange.specs.Banks.{Holds, holds-wellFormed, holds-decode, holds-of}
+use Rattle.copies.specs.Banks.{Holds, holds-wellFormed, holds-decode, holds-of}
 use Rattle.exchange.specs.Progress.{running, lostBy, Came}
 use Rattle.model.specs.Likeness.{onValue}
 use Rattle.accesses.specs.Asks.{Asks}

@@ -1,6 +1,6 @@
 // Code 7: "stored + volatile + needed > 32 on some board".
 use crate::ask::Ask;
-use exchange::givers::giver;
+use copies::givers::giver;
 use fields::copies::holds;
 use fields::sets::has;
 use format::directory::read_copies;
@@ -19,7 +19,7 @@ ghost use Rattle.model.specs.Definitions.Steps.{Access};
 ghost use Rattle.model.specs.Definitions.Calls.{fetchNeed, pageNeed, need, shortBoard};
 ghost use Rattle.model.specs.Contracts.{volatileCount, storedCount};
 ghost use Rattle.steps.specs.Asked.{got};
-ghost use Rattle.exchange.specs.Banks.{OfBank};
+ghost use Rattle.copies.specs.Banks.{OfBank};
 ghost use Rattle.accesses.specs.Asks.{Lacking, Asks};
 ghost use Rattle.accesses.specs.Needs.{heldBy, foundIn};
 

@@ -26,7 +26,7 @@ ghost use Rattle.model.specs.Definitions.Steps.{Access, cellsAsked, cellsRead, 
 ghost use Rattle.model.specs.Definitions.Replay.{tookDue, replayOver, endReplay};
 ghost use Rattle.model.specs.Definitions.Calls.{replaying, liveAfterEnd};
 ghost use Rattle.model.specs.Contracts.{WellFormedBut, InReplay};
-ghost use Rattle.exchange.specs.Banks.{OfBank, Holds};
+ghost use Rattle.copies.specs.Banks.{OfBank, Holds};
 ghost use Rattle.exchange.specs.Progress.{running, lostBy, Came};
 ghost use Rattle.accesses.specs.Asks.{Stands, GoesOn, Enters, Asks, InRange};
 ghost use Rattle.accesses.specs.Results.{Answered};

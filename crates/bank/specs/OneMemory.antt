@@ -1,5 +1,6 @@
--- Demand 3 and F-7's claim of the archive: along any list of calls, whatever numbers and bytes the contracts of the C calls allow keep them. Premise and claim
--- are said of the fields that a caller reads back from the numbers, of the bytes left and of second buffers (engine's OneMemory). Assumes nothing.
+-- Demand 3, F-7's claim and F-8's of the archive: along any list of calls, whatever numbers and bytes the contracts of the C calls allow keep them.
+-- Premise and claim are said of the fields that a caller reads back from the numbers, of the bytes left and of second buffers (engine's OneMemory).
+-- Assumes nothing.
 use mathlib.Core.Path.{_≡_, refl, sym, ap, _∙_}
 use mathlib.Core.Logic.{_≢_}
 use Prim.Native.Nat.{ℕ, _<_, _%_}
@@ -19,10 +20,12 @@ use Rattle.model.specs.Laws.Codes.{done-as}
 use Rattle.model.specs.Laws.Codes.Order.{never}
 use Rattle.model.specs.Laws.Codes.Statement.{doneAs}
 use Rattle.model.specs.Laws.LogPages.{compares-logs}
-use Rattle.model.specs.History.Statement.{Observed, made, PremisesSeen, ClaimsSeen}
-use Rattle.model.specs.History.LogsStatement.{Spared, bytesLeft}
+use Rattle.model.specs.History.Statement.{Observed, made, bytesLeft, PremisesSeen, ClaimsSeen}
+use Rattle.model.specs.History.LogsStatement.{Spared}
+use Rattle.model.specs.History.CleanStatement.{SlotsZero, StaysClean}
+use Rattle.model.specs.Definitions.Older.{clean}
 use Rattle.answers.specs.Packed.{whoUnit, packed, unpacked, unpacked-back}
-use Rattle.engine.specs.OneMemory.{seenIn, Allowed, one-memory-seen, no-place-seen}
+use Rattle.engine.specs.OneMemory.{seenIn, Allowed, one-memory-seen, no-place-seen, stays-clean-seen}
 use Rattle.bank.specs.Contracts.{RepliedPacked}
 
 -- what a caller in C sees of a call: what was asked, the number, the bytes left, and the second buffer, which is empty for a call that takes none
@@ -91,3 +94,12 @@ module _ (n p : ℕ) (s₀ s : List ℕ) (r : ℕ) (y : RepliedPacked (make n p 
       no-place-seen n p s₀ s (make n p s₀ .outcome) 0 (refl, y .bytes) made-zero (map readBack xs) (allowed-back xs s ok) b c lb lc other sb sc .answer in
       let none : call (Comparing b c) left .outcome .stores ≡ 0 = compares-logs b c left .leaves .stores in
       z .number ∙ rw (found, none) refl
+
+  -- F-8: every slot at or past a count is zero, and `bank_clean` answers 0, all of the number, and changes nothing.
+  pub stays-clean-archive : SlotsZero (bytesLeft s (map readBack xs))
+      × ((q : ℕ) (t : List ℕ) → RepliedPacked (clean (bytesLeft s (map readBack xs))) q t → (q ≡ 0) × (t ≡ bytesLeft s (map readBack xs)))
+  unfolding packed code who value
+  stays-clean-archive =
+      let c : StaysClean s (map readBack xs) =
+      stays-clean-seen n p s₀ s (make n p s₀ .outcome) 0 (refl, y .bytes) made-zero (map readBack xs) (allowed-back xs s ok) in
+      (c .zero, λ q t z. (z .number ∙ rw (c .cleaning) refl, z .bytes ∙ rw (c .cleaning)))

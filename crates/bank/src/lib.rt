@@ -4,6 +4,7 @@ use engine::access::read;
 use engine::access::read_cells;
 use engine::access::write;
 use engine::checkpoint::checkpoint;
+use engine::clean::clean;
 use engine::compare::compare_logs;
 use engine::convert::adopt;
 use engine::convert::convert;
@@ -14,7 +15,7 @@ ghost use mathlib.Core.Path.{_≡_};
 ghost use lib.ListN.{length};
 ghost use Rattle.model.specs.Definitions.Steps.{Read, Write, ReadCells};
 ghost use Rattle.model.specs.Definitions.Calls.{make as making, call, bufferAfter, Accessing, Checkpointing, Fusing, Restarting, Comparing};
-ghost use Rattle.model.specs.Definitions.Older.{convert as converting, adopt as adopting};
+ghost use Rattle.model.specs.Definitions.Older.{convert as converting, adopt as adopting, clean as cleaning};
 ghost use Rattle.bank.specs.Contracts.{RepliedPacked};
 
 #[no_mangle]
@@ -88,4 +89,11 @@ pub extern "C" fn bank_compare_logs(bank: &[u8], board: u32, other: u32) -> u64
     ensures { λ r. ⌜ RepliedPacked (call (Comparing board other) (now (bank .entry))) r (now (bank .entry)) ⌝ }
 {
     pack(compare_logs(bank, board, other))
+}
+
+#[no_mangle]
+pub extern "C" fn bank_clean(bank: &mut [u8]) -> u64
+    ensures { λ r. ⌜ RepliedPacked (cleaning (now (bank .entry))) r (now (bank .exit)) ⌝ }
+{
+    pack(clean(bank))
 }

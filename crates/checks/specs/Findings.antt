@@ -19,7 +19,7 @@ use Rattle.model.specs.Laws.Logic.{byBool}
 use Rattle.model.specs.Laws.WellFormedTest.{wellFormed-sound}
 use Rattle.model.specs.Laws.BankSteps.{isBank-test}
 use Rattle.model.specs.Contracts.{IsBank}
-use Rattle.exchange.specs.Banks.{OfBank}
+use Rattle.copies.specs.Banks.{OfBank}
 use Rattle.checks.specs.declared.entry.Refusal.{Refusal}
 use Rattle.checks.specs.declared.entry.Refusal.the-variants.{Unreadable, NoBoard}
 use Rattle.checks.specs.declared.entry.Finding.{Finding}

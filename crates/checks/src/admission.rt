@@ -10,7 +10,7 @@ ghost use Rattle.model.specs.Definitions.Codec.{decode};
 ghost use Rattle.model.specs.Definitions.Steps.{Access};
 ghost use Rattle.steps.specs.Asked.{Takes};
 ghost use Rattle.steps.specs.Blocks.{IsBlock, boardOf};
-ghost use Rattle.exchange.specs.Banks.{OfBank};
+ghost use Rattle.copies.specs.Banks.{OfBank};
 ghost use Rattle.checks.specs.Admission.{numbersFit, admissionOf};
 
 // What a byte can hold, as wide as the number that a call is given.

@@ -1,5 +1,5 @@
 // What every call reads of a bank before it begins: the numbers of boards and pages, and a board's state.
-use exchange::state;
+use copies::state;
 use fields::bytes::get;
 use fields::bytes::wide;
 use format::layout::BOARDS_AT;

@@ -43,7 +43,7 @@ fn names(value: Record, shown: bool, peer: u8) -> bool
 fn pages_naming(block: &[u8], pages: usize, shown: bool, peer: u8, out: &mut [u8]) -> usize
     requires { ⌜ IsBlock pages (now block) × (length (now out) ≡ slotCount) ⌝ }
     ensures written { λ r. ⌜ take r (now (out .exit))
-        ≡ pagesNaming (wanted shown) peer (boardOf pages (now (block .entry)) .stable .selected .log .records) ⌝ }
+        ≡ pagesNaming (wanted shown) peer (boardOf pages (now (block .entry)) .stable .selected .log) ⌝ }
     ensures few { λ r. ⌜ r ≤ slotCount ⌝ }
 {
     let stored = selected::read_stored_count(block, pages) as usize;

@@ -1,8 +1,9 @@
--- A block of the older form as it is written anew, part by part: what the parts come to is the block of the board that was read, cleared. Assumes nothing.
+-- A block of the older form as it is written anew, part by part: what the parts come to is today's block of the board that was read.
+-- Assumes nothing.
 use mathlib.Core.Path.{_≡_, refl, sym, ap, _∙_}
 use Prim.Native.Nat.{ℕ, zero, suc, _+_, _*_, _-_, _≤_, _<_}
 use native.Mathlib.Omega.{arith}
-use mathlib.Core.Bool.{Bool, true, false, _&&_}
+use mathlib.Core.Bool.{true, _&&_}
 use mathlib.Core.List.{List, [], _∷_, _++_, append-assoc}
 use lib.ListN.{length, take, drop, length-append}
 use lib.Dec.{eqb, lit<}
@@ -10,21 +11,22 @@ use Rattle.words.specs.Bytes.{Bytes}
 use Rattle.words.specs.LittleEndian.{bytesOf, numberOf}
 use Rattle.words.specs.LittleEndianLaws.{length-bytesOf}
 use Rattle.model.specs.Definitions.Parts.{part, splice, byteAt, encodeAll, zeros, decodeAll}
-use Rattle.model.specs.Definitions.Layout.{mostPages, fuseSize, numberSize, sinceSize, frameSize, areaNumberAt, areaCountAt, areaFramesAt, areaSlotsAt}
+use Rattle.model.specs.Definitions.Layout.{today, mostPages, fuseSize, numberSize, sinceSize, frameSize, areaNumberAt, areaCountAt, areaFramesAt, areaSlotsAt}
 use Rattle.model.specs.Definitions.Layout.{stateAt, selectorAt, fuseAt, numberAt, sinceAt, slotsSize, slotsSizeIn, areaSizeIn, placeAtIn}
 use Rattle.model.specs.Definitions.Layout.{volatileCountAtIn, framesAtIn, slotsAtIn, areaAtIn, blockSizeIn, placeAt, slotsAt, areaAt, blockSize, areaSize}
-use Rattle.model.specs.Definitions.Bank.{Area, Board, logOver, areaOver, boardOver, Log}
-use Rattle.model.specs.Definitions.Codec.{selectorByte, encodeFrame, decodeStable, encodeLog, decodeLogIn, encodeArea, encodeAreaIn, decodeAreaIn, encodeFixed}
-use Rattle.model.specs.Definitions.Codec.{encodeFixedIn, encodeStable, encodeStableIn, encodeBoard, encodeBoardIn, decodeBoardIn, encodeLogIn}
-use Rattle.model.specs.Definitions.Older.{older, clearedBoard}
+use Rattle.model.specs.Definitions.Bank.{Board}
+use Rattle.model.specs.Definitions.Codec.{selectorByte, encodeFrame, encodeLog, decodeLogIn, encodeArea, encodeAreaIn, decodeAreaIn, encodeFixed}
+use Rattle.model.specs.Definitions.Codec.{encodeFixedIn, encodeStable, encodeBoard, encodeBoardIn, decodeBoardIn}
+use Rattle.model.specs.Definitions.Older.{older}
 use Rattle.model.specs.Definitions.Check.{areaCount}
 use Rattle.model.specs.Laws.Parts.{each-part, length-part, part-join, byte-part, splice-next}
 use Rattle.fields.proofs.Lent.{lent-part}
 use Rattle.fields.proofs.Splices.{splice-triple}
 use Rattle.model.specs.Laws.CodecBack.{AreaPasses, Readable, area-inside, bytesOf-part, frames-part, length-decodeLog, stateByte-stateOf, selectorByte-eqb}
-use Rattle.model.specs.Laws.CodecBack.{second-decodeStable}
+use Rattle.model.specs.Laws.CodecBack.{second-decodeStable, encode-decodeStable}
+use Rattle.model.specs.Laws.CodecAt.{encode-noRecord}
 use Rattle.model.specs.Laws.Logic.{and-left, and-right}
-use Rattle.model.specs.Laws.Fresh.{zeros-length}
+use Rattle.model.specs.Laws.Zeros.{zeros-length}
 use Rattle.model.specs.Laws.BoardTests.{count-place}
 use Rattle.model.specs.Contracts.{countsZero}
 use borrow.Author.Tests.{eqb-true}
@@ -68,22 +70,15 @@ module _ (pages : ℕ) (l : List ℕ) (o : OlderBlock pages l) where
 
 -- ---- an area
 
--- a log, and an area, over zeros, as a conversion writes it
-abbrev pub clearedLog : Log → Log
-clearedLog = logOver (zeros slotsSize)
-
-abbrev pub clearedArea : Area → Area
-clearedArea = areaOver (zeros slotsSize)
-
 -- a log without a record: 32 slots of zeros
-log-zeros : (count : ℕ) (l : List ℕ) → count ≡ 0 → encodeLog (clearedLog (decodeLogIn older count l)) ≡ zeros slotsSize
-unfolding encodeLogIn decodeLogIn logOver decodeAll encodeAll
-log-zeros count l e = rw e
+log-zeros : (count : ℕ) (l : List ℕ) → count ≡ 0 → encodeLog (decodeLogIn older count l) ≡ zeros slotsSize
+unfolding decodeLogIn decodeAll
+log-zeros count l e = rw e encode-noRecord
 
 -- number, stored count and frames are as they were
 pub area-written : (pages : ℕ) (l : List ℕ) → OlderArea pages l
-    → part l 0 (areaSlotsAt pages) ++ zeros slotsSize ≡ encodeArea (clearedArea (decodeAreaIn older pages l))
-unfolding encodeAreaIn decodeAreaIn areaOver logOver
+    → part l 0 (areaSlotsAt pages) ++ zeros slotsSize ≡ encodeArea (decodeAreaIn older pages l)
+unfolding encodeAreaIn decodeAreaIn
 area-written pages l o =
     let n : ℕ = pages * frameSize in
     let e : length l ≡ areaSizeIn older pages = o .size in
@@ -100,7 +95,7 @@ area-written pages l o =
     ∙ ap (λ (t : List ℕ). part l areaNumberAt numberSize ++ ((byteAt l areaCountAt ∷ part l areaFramesAt n) ++ t))
     (sym (log-zeros (byteAt l areaCountAt) (part l (areaSlotsAt pages) (slotsSizeIn older)) (o .empty))))
 
-area-length : (pages : ℕ) (l : List ℕ) → OlderArea pages l → length (encodeArea (clearedArea (decodeAreaIn older pages l))) ≡ areaSize pages
+area-length : (pages : ℕ) (l : List ℕ) → OlderArea pages l → length (encodeArea (decodeAreaIn older pages l)) ≡ areaSize pages
 area-length pages l o =
     rw (← area-written pages l o)
     (simp (
@@ -123,7 +118,7 @@ area-part pages area l o h =
       empty = count-place older pages area l ∙ area-zero pages l o area h;
     }
 
--- all before the areas: since in four bytes, the volatile log cleared
+-- all before the areas: since in four bytes, the volatile log without a record
 unfoldable pub widenedWorking : ℕ → List ℕ → List ℕ
 widenedWorking pages l =
     part l 0 sinceAt
@@ -131,7 +126,7 @@ widenedWorking pages l =
     ++ (part l (placeAtIn older) (slotsAt pages - placeAt) ++ zeros slotsSize))
 
 unfoldable pub widenedArea : ℕ → ℕ → List ℕ → List ℕ
-widenedArea pages area l = encodeArea (clearedArea (decodeAreaIn older pages (part l (areaAtIn older pages area) (areaSizeIn older pages))))
+widenedArea pages area l = encodeArea (decodeAreaIn older pages (part l (areaAtIn older pages area) (areaSizeIn older pages)))
 
 -- ---- an area of a block, as it is lent: `&l[a..a + n]`
 
@@ -142,22 +137,9 @@ module _ (pages area : ℕ) (l : List ℕ) {a n : ℕ} (at : a ≡ areaAtIn olde
   pub lent-area : OlderBlock pages l → area < 2 → OlderArea pages (take (a + n - a) (drop a l))
   lent-area o h = rw lent (area-part pages area l o h)
 
-  pub lent-widened : encodeArea (clearedArea (decodeAreaIn older pages (take (a + n - a) (drop a l)))) ≡ widenedArea pages area l
+  pub lent-widened : encodeArea (decodeAreaIn older pages (take (a + n - a) (drop a l))) ≡ widenedArea pages area l
   unfolding widenedArea
   lent-widened = rw lent
-
--- either area may be the selected one
-stable-cleared : (second : Bool) (a0 a1 : Area)
-    → encodeStable
-    (record {
-      second = decodeStable second a0 a1 .second;
-      selected = clearedArea (decodeStable second a0 a1 .selected);
-      spare = clearedArea (decodeStable second a0 a1 .spare);
-    })
-    ≡ encodeArea (clearedArea a0) ++ encodeArea (clearedArea a1)
-unfolding decodeStable encodeStableIn
-stable-cleared true a0 a1 = refl
-stable-cleared false a0 a1 = refl
 
 -- the pieces as they are written, and as a board's bytes have them
 regroup : (h f n s p v g r : List ℕ) → ((h ++ (f ++ n)) ++ (s ++ ((p ++ v) ++ g))) ++ r ≡ (h ++ (f ++ (n ++ (s ++ p)))) ++ (v ++ (g ++ r))
@@ -222,17 +204,17 @@ module _ (pages : ℕ) (l : List ℕ) (o : OlderBlock pages l) where
   unfolding widenedArea
   widened-length area h = area-length pages _ (area-part pages area l o h)
 
-  -- the board, cleared, and its bytes part by part
+  -- the board, and its bytes part by part
   abbrev y : Board
-  y = clearedBoard (decodeBoardIn older pages l)
+  y = decodeBoardIn older pages l
 
-  fixed-cleared : encodeFixed y
+  fixed-same : encodeFixed y
       ≡ (byteAt l stateAt ∷ byteAt l selectorAt ∷ [])
       ++ (part l fuseAt fuseSize
       ++ (part l numberAt numberSize
       ++ (bytesOf sinceSize (numberOf (part l sinceAt (older .sinceWidth))) ++ (byteAt l (placeAtIn older) ∷ byteAt l (volatileCountAtIn older) ∷ []))))
-  unfolding encodeFixedIn decodeBoardIn clearedBoard boardOver logOver
-  fixed-cleared =
+  unfolding encodeFixedIn decodeBoardIn
+  fixed-same =
       rw (
         stateByte-stateOf (byteAt l stateAt) (o .readable .state),
         second-decodeStable (eqb (byteAt l selectorAt) (selectorByte true)) _ _,
@@ -242,22 +224,22 @@ module _ (pages : ℕ) (l : List ℕ) (o : OlderBlock pages l) where
         length-decodeLog older (byteAt l (volatileCountAtIn older)) (part l (slotsAtIn older pages) (slotsSizeIn older)),
       )
 
-  frames-cleared : encodeAll encodeFrame (y .working .frames) ≡ part l (framesAtIn older) n
-  unfolding decodeBoardIn clearedBoard boardOver
-  frames-cleared = frames-part pages l (framesAtIn older) (o .readable .frames) (omega arith)
+  frames-same : encodeAll encodeFrame (y .working .frames) ≡ part l (framesAtIn older) n
+  unfolding decodeBoardIn
+  frames-same = frames-part pages l (framesAtIn older) (o .readable .frames) (omega arith)
 
-  log-cleared : encodeLog (y .working .log) ≡ zeros slotsSize
-  unfolding decodeBoardIn clearedBoard boardOver
-  log-cleared = log-zeros (byteAt l (volatileCountAtIn older)) (part l (slotsAtIn older pages) (slotsSizeIn older)) (volatile-zero pages l o)
+  log-zero : encodeLog (y .working .log) ≡ zeros slotsSize
+  unfolding decodeBoardIn
+  log-zero = log-zeros (byteAt l (volatileCountAtIn older)) (part l (slotsAtIn older pages) (slotsSizeIn older)) (volatile-zero pages l o)
 
-  areas-cleared : encodeStable (y .stable) ≡ widenedArea pages 0 l ++ widenedArea pages 1 l
-  unfolding decodeBoardIn clearedBoard boardOver widenedArea
-  areas-cleared = stable-cleared (eqb (byteAt l selectorAt) (selectorByte true)) _ _
+  areas-same : encodeStable (y .stable) ≡ widenedArea pages 0 l ++ widenedArea pages 1 l
+  unfolding decodeBoardIn widenedArea
+  areas-same = encode-decodeStable today (eqb (byteAt l selectorAt) (selectorByte true)) _ _
 
-  block-written : widenedWorking pages l ++ (widenedArea pages 0 l ++ widenedArea pages 1 l) ≡ encodeBoard (clearedBoard (decodeBoardIn older pages l))
+  block-written : widenedWorking pages l ++ (widenedArea pages 0 l ++ widenedArea pages 1 l) ≡ encodeBoard (decodeBoardIn older pages l)
   unfolding widenedWorking encodeBoardIn
   block-written =
-      rw (fixed-cleared, frames-cleared, log-cleared, areas-cleared, front, behind)
+      rw (fixed-same, frames-same, log-zero, areas-same, front, behind)
       (regroup (byteAt l stateAt ∷ byteAt l selectorAt ∷ []) (part l fuseAt fuseSize) (part l numberAt numberSize)
       (bytesOf sinceSize (numberOf (part l sinceAt (older .sinceWidth)))) (byteAt l (placeAtIn older) ∷ byteAt l (volatileCountAtIn older) ∷ [])
       (part l (framesAtIn older) n) (zeros slotsSize)
@@ -265,7 +247,7 @@ module _ (pages : ℕ) (l : List ℕ) (o : OlderBlock pages l) where
 
   pub parts-written : (t : List ℕ) → length t ≡ blockSize pages
       → splice (splice (splice t 0 (widenedWorking pages l)) (areaAt pages 0) (widenedArea pages 0 l)) (areaAt pages 1) (widenedArea pages 1 l)
-      ≡ encodeBoard (clearedBoard (decodeBoardIn older pages l))
+      ≡ encodeBoard (decodeBoardIn older pages l)
   parts-written t e =
       let w : length (widenedWorking pages l) ≡ areaAt pages 0 = working-length in
       let x : length (widenedArea pages 0 l) ≡ areaSize pages = widened-length 0 (lit< tt) in
@@ -273,7 +255,7 @@ module _ (pages : ℕ) (l : List ℕ) (o : OlderBlock pages l) where
       splice-triple t (widenedWorking pages l) (widenedArea pages 0 l) (widenedArea pages 1 l) (areaAt pages 0) (areaAt pages 1) w (omega arith) (omega arith)
       ∙ block-written
 
-  pub block-wide : length (encodeBoard (clearedBoard (decodeBoardIn older pages l))) ≡ blockSize pages
+  pub block-wide : length (encodeBoard (decodeBoardIn older pages l)) ≡ blockSize pages
   block-wide =
       rw (← block-written)
       (simp (length-append, working-length, widened-length 0 (lit< tt), widened-length 1 (lit< tt)) (omega arith))

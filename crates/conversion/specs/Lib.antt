@@ -1,3 +1,5 @@
 pub mod Rewritten
+pub mod Formed
 pub mod Blocks
 pub mod Banks
+pub mod Cleaning

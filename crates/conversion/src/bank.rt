@@ -12,7 +12,7 @@ ghost use lib.ListN.{length};
 ghost use Rattle.model.specs.Definitions.Parts.{splice};
 ghost use Rattle.model.specs.Definitions.Layout.{blocksAt, bankSize};
 ghost use Rattle.model.specs.Definitions.Codec.{encode};
-ghost use Rattle.model.specs.Definitions.Older.{olderBank, cleared};
+ghost use Rattle.model.specs.Definitions.Older.{olderBank};
 ghost use Rattle.conversion.specs.Banks.{OlderBank, rewrittenBlocks};
 
 // Every board's block, each handed on as its own part.
@@ -34,7 +34,7 @@ fn write_blocks(old: &[u8], new: &mut [u8], boards: usize, pages: usize)
 // "writes the new form into another": every byte of the target is written.
 pub fn write_converted(old: &[u8], new: &mut [u8], boards: usize, pages: usize)
     requires { ⌜ OlderBank boards pages (now old) × (length (now new) ≡ bankSize boards pages) ⌝ }
-    ensures { λ _. ⌜ now (new .exit) ≡ encode (cleared (olderBank (now (old .entry)))) ⌝ }
+    ensures { λ _. ⌜ now (new .exit) ≡ encode (olderBank (now (old .entry))) ⌝ }
 {
     copy(old, 0, new, 0, blocks_at(pages));
     write_blocks(old, new, boards, pages);

@@ -21,13 +21,13 @@ ghost use lib.ListN.{length};
 ghost use Rattle.model.specs.Definitions.Parts.{splice};
 ghost use Rattle.model.specs.Definitions.Layout.{areaSize, areaAt, blockSize};
 ghost use Rattle.model.specs.Definitions.Codec.{encodeArea, decodeAreaIn, encodeBoard, decodeBoardIn};
-ghost use Rattle.model.specs.Definitions.Older.{older, clearedBoard};
-ghost use Rattle.conversion.specs.Blocks.{OlderArea, OlderBlock, clearedArea, widenedWorking, widenedArea};
+ghost use Rattle.model.specs.Definitions.Older.{older};
+ghost use Rattle.conversion.specs.Blocks.{OlderArea, OlderBlock, widenedWorking, widenedArea};
 
 // An area: number, stored count and frames as they are; without a record its slots are zero.
 fn write_area(old: &[u8], new: &mut [u8], pages: usize)
     requires { ⌜ OlderArea pages (now old) × (length (now new) ≡ areaSize pages) ⌝ }
-    ensures { λ _. ⌜ now (new .exit) ≡ encodeArea (clearedArea (decodeAreaIn older pages (now (old .entry)))) ⌝ }
+    ensures { λ _. ⌜ now (new .exit) ≡ encodeArea (decodeAreaIn older pages (now (old .entry))) ⌝ }
 {
     let n = area_slots_at(pages);
     copy(old, 0, new, 0, n);
@@ -65,7 +65,7 @@ fn write_area_at(old: &[u8], new: &mut [u8], pages: usize, area: usize)
 
 pub fn write_block(old: &[u8], new: &mut [u8], pages: usize)
     requires { ⌜ OlderBlock pages (now old) × (length (now new) ≡ blockSize pages) ⌝ }
-    ensures { λ _. ⌜ now (new .exit) ≡ encodeBoard (clearedBoard (decodeBoardIn older pages (now (old .entry)))) ⌝ }
+    ensures { λ _. ⌜ now (new .exit) ≡ encodeBoard (decodeBoardIn older pages (now (old .entry))) ⌝ }
 {
     write_working(old, new, pages);
     write_area_at(old, new, pages, 0);

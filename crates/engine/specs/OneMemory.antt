@@ -1,6 +1,6 @@
--- Demand 3 and F-7's claim of the code: along any list of calls, whatever outcomes and bytes the contracts allow keep the claim. Premise and claim are said
--- of what a caller sees (History/Statement), the outcomes, the bytes left and the second buffers; the definitions' own reply stands only in the contracts.
--- Assumes nothing.
+-- Demand 3, F-7's claim and F-8's of the code: along any list of calls, whatever outcomes and bytes the contracts allow keep the claim. Premise and
+-- claim are said of what a caller sees (History/Statement), the outcomes, the bytes left and the second buffers; the definitions' own reply stands only
+-- in the contracts. Assumes nothing.
 use mathlib.Core.Path.{_≡_, refl, sym, ap, subst, _∙_}
 use Prim.Native.Nat.{ℕ}
 use native.Mathlib.Omega.{arith}
@@ -21,10 +21,12 @@ use Rattle.model.specs.Definitions.Answers.{code}
 use Rattle.model.specs.Definitions.Calls.{Call, Reply, refused, replyOf, call, bufferAfter, make}
 use Rattle.model.specs.Laws.Codes.Ends.{not-done-gives}
 use Rattle.model.specs.Laws.Logic.{cases, byBool}
-use Rattle.model.specs.Laws.Fresh.{sizes-say}
+use Rattle.model.specs.Laws.Fresh.{sizes-say, fresh-bytes}
+use Rattle.model.specs.Laws.Clean.{stays-clean}
 use Rattle.model.specs.History.Statement.{Observed, made, begin, runOf, PremisesSeen, ClaimsSeen, Premises, Claims}
 use Rattle.model.specs.History.OnBytes.{make-begins}
 use Rattle.model.specs.History.LogsStatement.{SparedYieldNoPlace}
+use Rattle.model.specs.History.CleanStatement.{StaysClean}
 use Rattle.history.specs.Theorem.{one-memory}
 use Rattle.history.specs.LogsAgree.{spared-yield-no-place}
 use Rattle.engine.specs.Contracts.{Replied}
@@ -133,3 +135,11 @@ module _ (n p : ℕ) (s₀ s : List ℕ) (o : Outcome) (v : ℕ) (r : Replied (m
   no-place-seen =
       subst (λ ys. SparedYieldNoPlace n s ys) (sym run)
       (subst (λ (t : List ℕ). SparedYieldNoPlace n t (runOf (calls xs) t)) (sym begun) (spared-yield-no-place n p (make-sizes n p s₀ v made-so) (calls xs)))
+
+  -- F-8: every slot at or past a count is zero, and a cleaning changes nothing.
+  pub stays-clean-seen : StaysClean s xs
+  unfolding made
+  stays-clean-seen =
+      let z : SizesOk n p = make-sizes n p s₀ v made-so in
+      let w : wellFormed s ≡ true = rw begun (fresh-bytes n p (z .someBoard) (z .boards) (z .somePage) (z .pages)) in
+      subst (StaysClean s) (sym run) (stays-clean (calls xs) s w)

@@ -11,7 +11,7 @@ use Rattle.types.specs.declared.State.{State}
 use Rattle.types.specs.declared.Answer.{Answer}
 use Rattle.types.specs.declared.Answer.the-variants.{Done, Malformed, OutOfRange, WrongState}
 use Rattle.types.specs.declared.Outcome.{Outcome}
-use Rattle.model.specs.Definitions.Layout.{noFuse, today}
+use Rattle.model.specs.Definitions.Layout.{noFuse}
 use Rattle.model.specs.Definitions.Bank.{Bank, boardAt}
 use Rattle.model.specs.Definitions.Codec.{encode, decode}
 use Rattle.model.specs.Definitions.WellFormed.{isUp, isDown}
@@ -19,8 +19,8 @@ use Rattle.model.specs.Definitions.Check.{wellFormed}
 use Rattle.model.specs.Definitions.Steps.{Run, start, step, fuseBoard, checkpoint, Read, Write, ReadCells}
 use Rattle.model.specs.Definitions.Calls.{Result, firstOf, unless, finished, accessInRange, refusalsWithin, accessWithin, checkpointBank, fuseBank}
 use Rattle.model.specs.Definitions.Calls.{restartBank, compareBank, Call, Accessing, Checkpointing, Fusing, Restarting, Comparing, callBank, Reply, refused}
-use Rattle.model.specs.Definitions.Calls.{replyOf, call}
-use Rattle.model.specs.Laws.CodecBankBack.{encode-decode}
+use Rattle.model.specs.Definitions.Calls.{doneWith, replyOf, call}
+use Rattle.model.specs.Laws.WellFormedTest.{wellFormed-back}
 use Rattle.model.specs.Laws.Codes.Statement.{boardNamed}
 use Rattle.model.specs.Laws.FewStores.{call-few}
 use Rattle.model.specs.Contracts.{mostStores}
@@ -44,13 +44,17 @@ pub refused-replied : {y : Reply} {a : Answer} {o : Outcome} {s : List ℕ} → 
 unfolding refused
 refused-replied e q = ((rw (e, q), rw e), rw q (omega arith))
 
--- a call that ran to its end without a store
+-- a call that ran to its end without a store, and what it left
+pub left-replied : {y : Reply} {s t : List ℕ} → y ≡ doneWith t → s ≡ t → Replied y (record { answer = Done 0; stores = 0 }) s × (0 ≤ mostStores)
+left-replied e q = ((rw e, rw (e, q)), omega arith)
+
+-- the bytes of a bank
 abbrev pub done : Bank → Reply
-done k = record { outcome = record { answer = Done 0; stores = 0 }; bytes = encode k; given = [] }
+done k = doneWith (encode k)
 
 pub done-replied : {y : Reply} {s : List ℕ} (k : Bank) → y ≡ done k → s ≡ encode k
     → Replied y (record { answer = Done 0; stores = 0 }) s × (0 ≤ mostStores)
-done-replied k e q = ((rw e, rw (e, q)), omega arith)
+done-replied k e q = left-replied e q
 
 -- ---- on a bank
 
@@ -101,7 +105,7 @@ module _ (s : List ℕ) (v : wellFormed s ≡ true) where
   -- the bytes as they were
   pub refusal : (a : Answer) → replyOf (record { answer = a; run = start (decode s); given = [] }) ≡ refused a s
   unfolding replyOf refused start
-  refusal a = rw (encode-decode today true s v)
+  refusal a = rw (wellFormed-back s v)
 
   -- a way through a call that ends in a refusal
   pub call-refused : (c : Call) (a : Answer) → callBank c (decode s) ≡ record { answer = a; run = start (decode s); given = [] } → call c s ≡ refused a s

@@ -23,7 +23,7 @@ use Rattle.model.specs.Laws.Keeps.Peers.{loaded-peers, usedUp-peers}
 use Rattle.model.specs.Laws.Runs.{sizes-onBoard}
 use Rattle.model.specs.Laws.BoardFields.{loaded-fields}
 use Rattle.replay.specs.Used.{usedUp-fields}
-use Rattle.exchange.specs.Banks.{Holds, OfBank, holds-decode, holds-of}
+use Rattle.copies.specs.Banks.{Holds, OfBank, holds-decode, holds-of}
 use Rattle.exchange.specs.Progress.{running, lostBy, Came}
 use Rattle.accesses.specs.Results.{endedAs}
 use Rattle.engine.specs.Contracts.{Replied}

@@ -10,7 +10,7 @@ use format::layout::PAGES_AT;
 use format::layout::bank_size;
 use types::Answer;
 use types::Outcome;
-use validity::bank::well_formed_in;
+use validity::bank::formed_in;
 use validity::counts::no_records;
 ghost use Prim.Native.Nat.{_≤_};
 ghost use Rattle.model.specs.Definitions.Older.{convert as converting, adopt as adopting};
@@ -23,7 +23,7 @@ pub fn convert(old: &[u8], new: &mut [u8]) -> Outcome
     ensures reply { λ r. ⌜ Replied (converting (now (old .entry)) (now (new .entry))) r (now (new .exit)) ⌝ }
     ensures few { λ r. ⌜ r .stores ≤ mostStores ⌝ }
 {
-    if !well_formed_in(old, OLDER_SINCE_SIZE, false) {
+    if !formed_in(old, OLDER_SINCE_SIZE, false) {
         return refuse(Answer::Malformed);
     }
     let boards = wide(get(old, BOARDS_AT));
@@ -46,7 +46,7 @@ pub fn adopt(bank: &[u8]) -> Outcome
     ensures reply { λ r. ⌜ Replied (adopting (now (bank .entry))) r (now (bank .entry)) ⌝ }
     ensures few { λ r. ⌜ r .stores ≤ mostStores ⌝ }
 {
-    if !well_formed_in(bank, SINCE_SIZE, false) {
+    if !formed_in(bank, SINCE_SIZE, false) {
         return refuse(Answer::Malformed);
     }
     if !no_records(bank, SINCE_SIZE) {

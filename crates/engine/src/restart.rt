@@ -21,7 +21,7 @@ ghost use Rattle.model.specs.Definitions.Codec.{encodeBoard, decode};
 ghost use Rattle.model.specs.Definitions.Replay.{loaded, usedUp, replayOver};
 ghost use Rattle.model.specs.Definitions.Calls.{call, Restarting};
 ghost use Rattle.steps.specs.Blocks.{IsBlock, boardOf};
-ghost use Rattle.exchange.specs.Banks.{OfBank, Holds};
+ghost use Rattle.copies.specs.Banks.{OfBank, Holds};
 ghost use Rattle.model.specs.Contracts.{mostStores};
 ghost use Rattle.engine.specs.Contracts.{Replied};
 

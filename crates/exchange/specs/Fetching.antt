@@ -27,7 +27,7 @@ use Rattle.model.specs.Laws.Keeps.Clauses.{up-below}
 use Rattle.model.specs.Contracts.{RoomFor, Space, CanFetch}
 use Rattle.model.specs.Laws.Keeps.Rights.{entry-at}
 use Rattle.model.specs.Laws.Keeps.Fetches.{page-there, owner-up, owner-other, room-taker, room-owner, room-got}
-use Rattle.exchange.specs.Banks.{Holds, OfBank, holds-bank, holds-decode, holds-wellFormed}
+use Rattle.copies.specs.Banks.{Holds, OfBank, holds-bank, holds-decode, holds-wellFormed}
 use Rattle.exchange.specs.Progress.{running, Came, CanShow, getOwn}
 use Rattle.model.specs.Laws.Moves.Stores.{show-keeps}
 use Rattle.model.specs.Laws.Moves.Fetches.{taker-other, got-keeps}

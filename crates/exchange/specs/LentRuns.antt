@@ -14,7 +14,7 @@ use Rattle.model.specs.Laws.Boards.{boards-onBoard}
 use Rattle.steps.specs.Blocks.{boardOf}
 use Rattle.steps.specs.BankBlocks.{LentBlock, lent-board}
 use Rattle.stores.specs.Lifted.{lifted, lifted-lost, lifted-going}
-use Rattle.exchange.specs.Banks.{Holds, OfBank, holds-decode, holds-of, lent-holds}
+use Rattle.copies.specs.Banks.{Holds, OfBank, holds-decode, holds-of, lent-holds}
 use Rattle.exchange.specs.Progress.{lostBy, Came}
 
 module _ {s : List ℕ} {pages b a n : ℕ} (o : OfBank pages b s) (l : LentBlock (decode s) s pages b a n) (run : Board → BoardRun)

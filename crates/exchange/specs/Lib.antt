@@ -1,10 +1,4 @@
-pub mod Banks
-pub mod Blocks
-pub mod Directory
-pub mod Drops
-pub mod Exchanges
 pub mod Fetching
 pub mod ReadFetches
-pub mod Walks
 pub mod Progress
 pub mod LentRuns

@@ -1,23 +1,18 @@
 -- A call in progress, as the contracts say it: how a run goes on, and what its bytes, stores and loss are. Assumes nothing.
 use mathlib.Core.Path.{_≡_}
-use Prim.Native.Nat.{ℕ, _+_, _≤_, _<_}
+use Prim.Native.Nat.{ℕ}
 use mathlib.Core.Bool.{Bool, true, false}
 use mathlib.Core.Option.{Option, none, some}
 use mathlib.Core.List.{List}
-use lib.ListN.{length}
-use Rattle.words.specs.Bytes.{Each}
-use Rattle.types.specs.declared.CopyOrOwn.{CopyOrOwn}
 use Rattle.types.specs.declared.CopyOrOwn.the-variants.{GotOwn}
 use Rattle.types.specs.declared.Kind.the-variants.{Got}
 use Rattle.types.specs.declared.State.the-variants.{Up}
 use Rattle.exchange.specs.declared.progress.Loss.{Loss}
 use Rattle.exchange.specs.declared.progress.Loss.the-variants.{Nobody, Board}
-use Rattle.model.specs.Definitions.Parts.{allBelow, member}
-use Rattle.model.specs.Definitions.Layout.{slotCount}
 use Rattle.model.specs.Definitions.Bank.{Bank, boardAt}
 use Rattle.model.specs.Definitions.Codec.{encode}
-use Rattle.model.specs.Definitions.Steps.{Run, step, note, flush, frameOf, giver}
-use Rattle.model.specs.Contracts.{volatileCount, RoomFor}
+use Rattle.model.specs.Definitions.Steps.{Run, step, note, flush, frameOf}
+use Rattle.model.specs.Contracts.{RoomFor}
 
 -- a call that goes on, after n stores
 abbrev pub running : ℕ → Bank → Run
@@ -45,12 +40,3 @@ CanShow o k = (boardAt k o .state ≡ Up) × RoomFor 1 (boardAt k o)
 -- "writer records got own and flushes": the page is the owner's
 abbrev pub getOwn : ℕ → ℕ → ℕ → Run → Run
 getOwn o w p r = flush w (step (λ k. note w (Got GotOwn p) o (frameOf k o p .bytes) k) r)
-
--- the pages of a set, rising
-abbrev pub pagesIn : ℕ → ℕ → List ℕ
-pagesIn pages set = allBelow pages (λ p. member p set)
-
--- pages of which board b can be given copies: boards own and give them, and its volatile log has a slot for each
-pub record CanGive (b : ℕ) (ps : List ℕ) (k : Bank) : Type 0 where
-  pub givers : (g : CopyOrOwn) → Each (λ p. giver g k p < length (k .boards)) ps
-  pub room : volatileCount (boardAt k b) + length ps ≤ slotCount

@@ -1,11 +1,11 @@
-// Fetches: the givers' records are stored first, then the taker's, and only then does a right pass.
-use crate::copies::give_copies;
-use crate::copies::page_frame;
-use crate::copies::pass_ownership;
-use crate::givers::giver;
+// Fetches: the givers' records are stored first, then a writer's got, and only then does a right pass.
 use crate::progress::Loss;
 use crate::progress::Progress;
 use crate::runs::log_through;
+use copies::copies::give_copies;
+use copies::copies::page_frame;
+use copies::copies::pass_ownership;
+use copies::givers::giver;
 use fields::sets::has;
 use stores::spend::Stored;
 use types::CopyOrOwn;
@@ -25,8 +25,9 @@ ghost use Rattle.model.specs.Definitions.WellFormed.{WellFormed};
 ghost use Rattle.model.specs.Definitions.Steps.{giver, show, showAll, readFetch, writeFetch, fetch};
 ghost use Rattle.model.specs.Contracts.{RoomFor, CanFetch};
 ghost use Rattle.steps.specs.Asked.{got};
-ghost use Rattle.exchange.specs.Banks.{OfBank};
-ghost use Rattle.exchange.specs.Progress.{running, lostBy, lossOf, Came, CanShow, pagesIn, getOwn};
+ghost use Rattle.copies.specs.Banks.{OfBank};
+ghost use Rattle.copies.specs.Copies.{pagesIn};
+ghost use Rattle.exchange.specs.Progress.{running, lostBy, lossOf, Came, CanShow, getOwn};
 
 // "That giver records shown and flushes as an owner does." (F-4): the giver's part of every fetch, which names the taker.
 fn show(bank: &mut [u8], pages: usize, giver: usize, board: usize, page: usize) -> Stored

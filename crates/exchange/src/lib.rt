@@ -1,8 +1,4 @@
-// What boards of a bank do to each other: a copy given, a page passed on, copies dropped, and stores after which a board may lose its power.
-pub mod boards;
-pub mod copies;
+// Fetches between boards of a bank, and runs of stores on it: givers store first, then a writer its got, and a board may lose its power after each store.
 pub mod fetch;
-pub mod givers;
 pub mod progress;
 pub mod runs;
-pub mod state;

@@ -17,7 +17,7 @@ ghost use Rattle.model.specs.Definitions.Codec.{decode};
 ghost use Rattle.model.specs.Definitions.WellFormed.{WellFormed};
 ghost use Rattle.model.specs.Definitions.Steps.{step, note, flush, checkpoint};
 ghost use Rattle.model.specs.Contracts.{RoomFor, Recordable};
-ghost use Rattle.exchange.specs.Banks.{OfBank};
+ghost use Rattle.copies.specs.Banks.{OfBank};
 ghost use Rattle.exchange.specs.Progress.{running, lostBy, Came};
 
 // A board notes a record and flushes: every record that another board is to rely on is stored before it goes on.

@@ -106,3 +106,11 @@ pub fn clear(s: &mut [u8])
         i += 1;
     }
 }
+
+// The `n` bytes at a place made zero.
+pub fn clear_at(s: &mut [u8], at: usize, n: usize)
+    requires { ⌜ at + n ≤ length (now s) ⌝ }
+    ensures { λ _. ⌜ now (s .exit) ≡ splice (now (s .entry)) at (zeros n) ⌝ }
+{
+    clear(&mut s[at..at + n]);
+}

@@ -2,10 +2,11 @@
 use mathlib.Core.Path.{_≡_}
 use Prim.Native.Nat.{ℕ, _+_, _≤_}
 use mathlib.Core.Bool.{Bool, true, not}
-use mathlib.Core.List.{List}
+use mathlib.Core.List.{List, [], _∷_, _++_}
 use lib.Dec.{eqb}
-use Rattle.model.specs.Definitions.Parts.{part, splice, byteAt}
-use Rattle.model.specs.Definitions.Layout.{selectorAt, areaAt, areaSize, blockSize}
+use Rattle.words.specs.LittleEndian.{bytesOf}
+use Rattle.model.specs.Definitions.Parts.{part, splice, byteAt, zeros}
+use Rattle.model.specs.Definitions.Layout.{selectorAt, areaAt, areaSize, blockSize, numberSize, slotsSize, areaNumberAt, areaSlotsAt}
 use Rattle.model.specs.Definitions.Codec.{selectorByte}
 use Rattle.model.specs.Laws.BlockStable.{area-in}
 
@@ -29,6 +30,10 @@ withSelected pages f l = withPart (selectedAt pages l) (areaSize pages) f l
 -- "the spare area is written, nothing else in the block"
 abbrev pub withSpare : ℕ → (List ℕ → List ℕ) → List ℕ → List ℕ
 withSpare pages f l = withPart (spareAt pages l) (areaSize pages) f l
+
+-- the bytes of an area after its head is stored: number and count 0, and all slots zero
+abbrev pub headStored : (pages number : ℕ) → List ℕ → List ℕ
+headStored pages n a = splice (splice a areaNumberAt (bytesOf numberSize n ++ (0 ∷ []))) (areaSlotsAt pages) (zeros slotsSize)
 
 -- the place that a test of the selector comes to
 pub area-found : (pages r : ℕ) (t u : Bool) → t ≡ u → r ≡ areaAt pages (selectorByte u)

@@ -3,6 +3,7 @@ use crate::layout::AREA_COUNT_AT;
 use crate::layout::AREA_FRAMES_AT;
 use crate::layout::AREA_NUMBER_AT;
 use crate::layout::area_slots_at;
+use fields::bytes::clear_at;
 use fields::bytes::get;
 use fields::bytes::get_u32;
 use fields::bytes::put;
@@ -13,16 +14,18 @@ use fields::slot::read_record_at;
 use fields::slot::write_record_at;
 use fields::widths::FRAME_SIZE;
 use fields::widths::SLOT_SIZE;
+use fields::widths::SLOTS_SIZE;
 use types::Frame;
 use types::Record;
 ghost use mathlib.Core.Path.{_≡_};
-ghost use mathlib.Core.List.{[], _∷_, _++_};
+ghost use mathlib.Core.List.{[], _∷_};
 ghost use Prim.Native.Nat.{_+_, _*_, _≤_};
 ghost use lib.ListN.{length};
 ghost use Rattle.words.specs.LittleEndian.{bytesOf, numberOf};
 ghost use Rattle.model.specs.Definitions.Parts.{part, splice, byteAt};
-ghost use Rattle.model.specs.Definitions.Layout.{mostPages, numberSize, frameSize, slotSize, areaNumberAt, areaCountAt, areaFramesAt, areaSlotsAt};
+ghost use Rattle.model.specs.Definitions.Layout.{mostPages, numberSize, frameSize, slotSize, slotsSize, areaNumberAt, areaCountAt, areaFramesAt, areaSlotsAt};
 ghost use Rattle.model.specs.Definitions.Codec.{encodeFrame, decodeFrame, encodeRecord, decodeRecord};
+ghost use Rattle.format.specs.Areas.{headStored};
 
 // ---- number, stored count
 
@@ -54,13 +57,14 @@ pub fn write_stored_count(area: &mut [u8], count: u8)
     put(area, AREA_COUNT_AT, count);
 }
 
-// "one area head (number and stored count 0)"
-pub fn store_head(area: &mut [u8], number: u32)
-    requires { ⌜ areaFramesAt ≤ length (now area) ⌝ }
-    ensures { λ _. ⌜ now (area .exit) ≡ splice (now (area .entry)) areaNumberAt (bytesOf numberSize number ++ (0 ∷ [])) ⌝ }
+// "one area head (number and stored count 0)", which "also zeroes its 32 slots" (document 02, F-8): one store
+pub fn store_head(area: &mut [u8], pages: usize, number: u32)
+    requires { ⌜ (pages ≤ mostPages) × (areaSlotsAt pages + slotsSize ≤ length (now area)) ⌝ }
+    ensures { λ _. ⌜ now (area .exit) ≡ headStored pages number (now (area .entry)) ⌝ }
 {
     write_number(area, number);
     write_stored_count(area, 0);
+    clear_at(area, area_slots_at(pages), SLOTS_SIZE);
 }
 
 // ---- the frame of a page

@@ -8,7 +8,7 @@ use crate::layout::SINCE_AT;
 use crate::layout::STATE_AT;
 use crate::layout::VOLATILE_COUNT_AT;
 use crate::layout::slots_at;
-use fields::bytes::clear;
+use fields::bytes::clear_at;
 use fields::bytes::get;
 use fields::bytes::get_u16;
 use fields::bytes::get_u32;
@@ -208,6 +208,5 @@ pub fn clear_volatiles(block: &mut [u8], pages: usize)
     requires { ⌜ (pages ≤ mostPages) × (slotsAt pages + slotsSize ≤ length (now block)) ⌝ }
     ensures { λ _. ⌜ now (block .exit) ≡ splice (now (block .entry)) (slotsAt pages) (zeros slotsSize) ⌝ }
 {
-    let at = slots_at(pages);
-    clear(&mut block[at..at + SLOTS_SIZE]);
+    clear_at(block, slots_at(pages), SLOTS_SIZE);
 }

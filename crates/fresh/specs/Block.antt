@@ -13,12 +13,13 @@ use Rattle.types.specs.declared.Right.the-variants.{Own}
 use Rattle.model.specs.Definitions.Parts.{splice, zeros, encodeAll}
 use Rattle.model.specs.Definitions.Layout.{noFuse, fuseSize, numberSize, rightAt, frameSize, slotsSize, fuseAt, numberAt, framesAt, areaAt, areaFramesAt}
 use Rattle.model.specs.Definitions.Layout.{blockSize}
-use Rattle.model.specs.Definitions.Bank.{emptyLog, freshFrames, freshBoard}
+use Rattle.model.specs.Definitions.Bank.{freshFrames, freshBoard}
 use Rattle.model.specs.Definitions.Codec.{rightByte, stateByte, selectorByte, encodeFrame, encodeFixed, encodeBoard, encodeAreaIn, encodeFixedIn}
 use Rattle.model.specs.Definitions.Codec.{encodeStableIn, encodeBoardIn}
 use Rattle.model.specs.Laws.Parts.{length-splice, splice-amid, splice-at}
-use Rattle.model.specs.Laws.Fresh.{zeros-length}
-use Rattle.model.specs.Laws.BlockWorking.{zeros-append, encode-emptyLog}
+use Rattle.model.specs.Laws.Zeros.{zeros-length}
+use Rattle.model.specs.Laws.CodecAt.{encode-noRecord}
+use Rattle.model.specs.Laws.Zeros.{zeros-append}
 use Rattle.fresh.specs.Rights.{frameWhere, framesWhere, frames-length, frames-same, frames-none, frames-next, ownBelow, own-first, own-waits, own-done}
 use Rattle.fresh.specs.Rights.{own-other, own-last}
 
@@ -92,7 +93,7 @@ owned-with pages p v n h =
 -- ---- from zeros to a fresh board
 
 fixed-bytes : (boards pages b : ℕ) → encodeFixed (freshBoard boards pages b) ≡ fixedBytes
-unfolding encodeFixedIn freshBoard emptyLog stateByte selectorByte bytesOf zeros
+unfolding encodeFixedIn freshBoard stateByte selectorByte bytesOf zeros
 fixed-bytes boards pages b = refl
 
 head-bytes : (l : List ℕ) → bytesOf numberSize 0 ++ 0 ∷ l ≡ zeros areaFramesAt ++ l
@@ -112,9 +113,9 @@ fused pages =
 
 module _ (boards pages b : ℕ) where
   block-bytes : blockWith (framesWhere (λ p. eqb (p % boards) b) pages) ≡ encodeBoard (freshBoard boards pages b)
-  unfolding blockWith frameWhere encodeBoardIn encodeStableIn encodeAreaIn freshBoard freshFrames emptyLog
+  unfolding blockWith frameWhere encodeBoardIn encodeStableIn encodeAreaIn freshBoard freshFrames
   block-bytes =
-      rw (fixed-bytes boards pages b, encode-emptyLog, head-bytes (encodeAll encodeFrame (freshFrames boards pages b) ++ zeros slotsSize))
+      rw (fixed-bytes boards pages b, encode-noRecord, head-bytes (encodeAll encodeFrame (freshFrames boards pages b) ++ zeros slotsSize))
 
   pub block-wide : length (encodeBoard (freshBoard boards pages b)) ≡ blockSize pages
   block-wide =

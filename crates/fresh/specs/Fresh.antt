@@ -12,8 +12,8 @@ use Rattle.model.specs.Definitions.Codec.{encodeEntry, encodeBoard, encode, enc
 use Rattle.model.specs.Laws.Lists.{length-tabulate}
 use Rattle.model.specs.Laws.Parts.{index-in, length-splice, part-at, part-part, part-splice-after, splice-next}
 use Rattle.model.specs.Laws.Codec.{length-encodeEntry}
-use Rattle.model.specs.Laws.Fresh.{zeros-length}
-use Rattle.model.specs.Laws.BlockWorking.{zeros-append}
+use Rattle.model.specs.Laws.Zeros.{zeros-length}
+use Rattle.model.specs.Laws.Zeros.{zeros-append}
 use Rattle.fields.proofs.Lent.{lent-written}
 use Rattle.fields.proofs.Splices.{splice-triple}
 use Rattle.fresh.specs.SideBySide.{all-length, one-more}

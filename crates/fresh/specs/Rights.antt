@@ -21,8 +21,9 @@ use Rattle.model.specs.Laws.Logic.{cases, byBool, byEq}
 use Rattle.model.specs.Laws.Lists.{length-tabulate, getD-tabulate, each-tabulate}
 use Rattle.model.specs.Laws.Parts.{split-part, splice-at, part-encodeAll, encodeAll-set}
 use Rattle.model.specs.Laws.Codec.{length-encodeFrame}
-use Rattle.model.specs.Laws.Fresh.{zeros-length}
-use Rattle.model.specs.Laws.BlockWorking.{zeros-append, encode-emptyFrame}
+use Rattle.model.specs.Laws.Zeros.{zeros-length}
+use Rattle.model.specs.Laws.BlockWorking.{encode-emptyFrame}
+use Rattle.model.specs.Laws.Zeros.{zeros-append}
 use Rattle.fresh.specs.SideBySide.{all-next, all-length}
 
 abbrev ownFrame : Frame

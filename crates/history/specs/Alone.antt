@@ -300,19 +300,18 @@ module _ (b : ℕ) (k j : Bank) (h : SameStart b k j) where
       let g : Fits (j .directory) b y = fits (h .formed .1) b (rw (h .boards) l) in
       let p : Blank x = f .alone .down (h .down .0) in
       let q : Blank y = g .alone .down (h .down .1) in
+      let number : x .working .number ≡ y .working .number = p .number ∙ sym (q .number) in
+      let since : x .working .since ≡ y .working .since = p .since ∙ sym (q .since) in
+      let place : x .working .place ≡ y .working .place = down-place x (h .down .0) (f .place) ∙ sym (down-place y (h .down .1) (g .place)) in
+      let frames : x .working .frames ≡ y .working .frames =
+      empty-same (x .working .frames) (y .working .frames) (p .frames) (q .frames)
+      (f .alone .fields .working .frames .count ∙ sym (h .pages) ∙ sym (g .alone .fields .working .frames .count)) in
+      let log : x .working .log ≡ y .working .log = p .volatile ∙ sym (q .volatile) in
       record {
         state = h .down .0 ∙ sym (h .down .1);
         fuse = p .fuse ∙ sym (q .fuse);
-        number = p .number ∙ sym (q .number);
-        since = p .since ∙ sym (q .since);
-        place = down-place x (h .down .0) (f .place) ∙ sym (down-place y (h .down .1) (g .place));
-        frames =
-            empty-same (x .working .frames) (y .working .frames) (p .frames) (q .frames)
-            (f .alone .fields .working .frames .count ∙ sym (h .pages) ∙ sym (g .alone .fields .working .frames .count));
-        volatile = p .volatile ∙ sym (q .volatile);
-        checkpointNumber = h .area .number;
-        checkpointFrames = h .area .frames;
-        stored = h .area .records;
+        working = λ i. record { number = number i; since = since i; place = place i; frames = frames i; log = log i };
+        selected = h .area;
       })
       (λ l. rw (boardAt-out k b l, boardAt-out j b (rw (h .boards) l)) (same refl))
 

@@ -11,7 +11,7 @@ use borrow.Author.Tests.{ltb-true, not-false}
 use Rattle.types.specs.declared.State.the-variants.{Down}
 use Rattle.types.specs.declared.Answer.{Answer}
 use Rattle.model.specs.Definitions.Layout.{noFuse}
-use Rattle.model.specs.Definitions.Bank.{Board, Bank, boardAt, entryAt, onBoard}
+use Rattle.model.specs.Definitions.Bank.{Area, Working, Board, Bank, boardAt, entryAt, onBoard}
 use Rattle.model.specs.Definitions.WellFormed.{isUp, isDown, isReplaying, WellFormed}
 use Rattle.model.specs.Definitions.Steps.{Run, start, withFuse, fuseBoard, Access}
 use Rattle.model.specs.Definitions.Replay.{loaded, usedUp, tookDue, replayOver, endIfOver, replayed}
@@ -63,7 +63,7 @@ inRange-same b a k j s = rw (s .boards, s .pages)
 refusals-same : (b : ℕ) (a : Access) (k j : Bank) → SameAt b k j → accessRefusals b a k ≡ accessRefusals b a j
 unfolding refusalsWithin countersFull
 refusals-same b a k j s =
-    cc (inRange-same b a k j (s .sizes), differs-same (s .board) a, s .board .state, s .board .since, s .board .number)
+    cc (inRange-same b a k j (s .sizes), differs-same (s .board) a, s .board .state, s .board .working)
 
 -- ---- whether it goes on live, as equations
 
@@ -186,7 +186,7 @@ module _ (b : ℕ) (a : Access) (k j : Bank) (s : SameAt b k j) (w : WellFormed 
         owned-onBoard b (replayed a) (replayed a) (tookIn b k) (tookIn b j)
         (owned-onBoard b tookDue tookDue k j
         (owned (over-idle b a k e t w o u) (over-idle b a j e' also v o' (sym (over-same (m .board)) ∙ u))))) in
-        let fs : boardAt (tookIn b k) b .working .frames ≡ boardAt (tookIn b j) b .working .frames = took .board .frames in
+        let fs : boardAt (tookIn b k) b .working .frames ≡ boardAt (tookIn b j) b .working .frames = ap (λ (w : Working). w .frames) (took .board .working) in
         answered (live-going b a k e o) (live-going b a j e' o')
         (rw (access-repeated b a k e t o, access-repeated b a j e' also o', fs) (finished-same _ _ _ _ r))
 
@@ -249,7 +249,7 @@ module _ (b : ℕ) (k j : Bank) (s : SameAt b k j) where
       let down : boardAt k b .state ≡ Down = isDown-down (boardAt k b .state) (not-false _ (two .here)) in
       let down' : boardAt j b .state ≡ Down = sym (s .board .state) ∙ down in
       let m : SameAt b (restartedIn b k) (restartedIn b j) = onBoard-same b k j l s awake awake (restarted-same (s .board)) in
-      rw (s .board .checkpointNumber)
+      rw (ap (λ (a : Area). a .number) (s .board .selected))
       (finished-same (boardAt j b .stable .selected .number) [] (endIfOver b (start (restartedIn b k))) (endIfOver b (start (restartedIn b j)))
       (endIfOver-same b (restartedIn b k) (restartedIn b j) (rw (boards-onBoard b awake k) l) m
       (restarted-inReplay b k l down w)

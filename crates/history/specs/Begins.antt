@@ -12,7 +12,7 @@ use Rattle.words.specs.Bytes.{each-nil}
 use Rattle.types.specs.declared.Right.the-variants.{Own}
 use Rattle.model.specs.Definitions.Parts.{zeros}
 use Rattle.model.specs.Definitions.Layout.{pageSize}
-use Rattle.model.specs.Definitions.Bank.{Board, emptyFrame, emptyLog, entryAt, frameAt, freshFrames, freshBoard, fresh, entryIn}
+use Rattle.model.specs.Definitions.Bank.{Board, emptyFrame, entryAt, frameAt, freshFrames, freshBoard, fresh, entryIn}
 use Rattle.model.specs.Definitions.WellFormed.{SizesOk}
 use Rattle.model.specs.Laws.Logic.{clash}
 use Rattle.model.specs.Laws.Lists.{getD-tabulate}
@@ -38,7 +38,7 @@ module _ (n p : ℕ) (s : SizesOk n p) where
       ∙ cc (eq-eqb (q % n) b o)
 
   fresh-holds : (b : ℕ) → b < n → BoardInvariant (fresh n p .directory) noHistory none b (freshBoard n p b)
-  unfolding noHistory ofBoard freshBoard emptyLog settledAs checkpointed memoryAfter zeroMemory discard Exclusive unstableWrite
+  unfolding noHistory ofBoard freshBoard settledAs checkpointed memoryAfter zeroMemory discard Exclusive unstableWrite
   fresh-holds b l =
       let x : Board = freshBoard n p b in
       record {

@@ -110,7 +110,7 @@ burnt-view x = record { state = sym (burnt-state x); working = sym (burnt-workin
 -- ==== a board that made all of its entries stable
 
 module _ {d : List Entry} {h : History} {g : Option Rebuilt} {b : ℕ} {x : Board} (q : BoardInvariant d h g b x) (u : x .state ≡ Up)
-    (v : x .working .log .records ≡ []) (z : x .working .since ≡ 0) where
+    (v : x .working .log ≡ []) (z : x .working .since ≡ 0) where
   pub all-stable : recoveryPoint x ≡ length (ofBoard b (h .entries))
   unfolding countSum
   all-stable = omega (arith, explained-up q u .rest, ap countSum v)
@@ -121,8 +121,8 @@ module _ {d : List Entry} {h : History} {g : Option Rebuilt} {b : ℕ} {x : Boar
   all-rebuilt =
       let es : List HistoryEntry = ofBoard b (h .entries) in
       let n : drop (recoveryPoint x) es ≡ [] = drop-of-length-le es {i = recoveryPoint x} (omega (arith, all-stable)) in
-      let t : trace (x .working .log .records) (drop (recoveryPoint x) es) ≡ [] = cc in
-      let f : final (rebuilt x es) (trace (x .working .log .records) (drop (recoveryPoint x) es)) ≡ settledAs g x = explained-up q u .ends in
+      let t : trace (x .working .log) (drop (recoveryPoint x) es) ≡ [] = cc in
+      let f : final (rebuilt x es) (trace (x .working .log) (drop (recoveryPoint x) es)) ≡ settledAs g x = explained-up q u .ends in
       cc
 
 -- no write of it can be taken back

@@ -9,12 +9,11 @@ use lib.ListN.{length}
 use Rattle.words.specs.Bytes.{each-nil}
 use Rattle.types.specs.declared.Frame.{Frame}
 use Rattle.types.specs.declared.State.the-variants.{Up}
-use Rattle.model.specs.Definitions.Bank.{Entry, Area, Working, Stable, Board, Bank, emptyLog, boardAt, frameAt, onBoard, onWorking, onSpare}
+use Rattle.model.specs.Definitions.Bank.{Entry, Area, Working, Stable, Board, Bank, boardAt, frameAt, onBoard, onWorking, onSpare}
 use Rattle.model.specs.Definitions.WellFormed.{WellFormed}
 use Rattle.model.specs.Definitions.Steps.{storedFrame, storedHead, burnt, storedSelector, restedWorking}
 use Rattle.model.specs.Definitions.Replay.{countSum, recoveryPoint}
 use Rattle.model.specs.Laws.Logic.{clash}
-use Rattle.model.specs.Laws.WrittenTests.{log-count}
 use Rattle.model.specs.Laws.Boards.{onBoard-onBoard}
 use Rattle.model.specs.Laws.Runs.Stores.{burnt-state, burnt-working, burnt-stable}
 use Rattle.model.specs.Laws.Keeps.Clauses.{fits, up-below, up-not-replaying, onBoard-keeps}
@@ -44,8 +43,8 @@ module _ {d : List Entry} {h : History} {g : Option Rebuilt} {b : ℕ} {x : Boar
   selected-number : y .stable .selected .number ≡ length es
   selected-number = ap (λ (a : Area). a .number) area ∙ s .number ∙ counts-up q u .1
 
-  selected-records : y .stable .selected .log .records ≡ []
-  selected-records = ap (λ (a : Area). a .log .records) area ∙ s .records
+  selected-records : y .stable .selected .log ≡ []
+  selected-records = ap (λ (a : Area). a .log) area ∙ s .records
 
   selected-frames : y .stable .selected .frames ≡ x .working .frames
   selected-frames = ap (λ (a : Area). a .frames) area ∙ s .frames
@@ -72,7 +71,7 @@ module _ {d : List Entry} {h : History} {g : Option Rebuilt} {b : ℕ} {x : Boar
 
   -- and with the volatile log emptied nothing is ahead any more
   pub selected-holds : y .state ≡ Up → y .working ≡ restedWorking (x .working) → BoardInvariant d h none b y
-  unfolding settledAs checkpointed restedWorking emptyLog
+  unfolding settledAs checkpointed restedWorking
   selected-holds v w =
       record {
         counts = up-counts y es (h .cursor b) v (counts-up q u .0, ap (λ (t : Working). t .number) w ∙ counts-up q u .1);
@@ -81,13 +80,13 @@ module _ {d : List Entry} {h : History} {g : Option Rebuilt} {b : ℕ} {x : Boar
             up-explained none y es v
             (subst (λ (fs : List Frame). VolatileExplains y es (record { frames = fs; pending = [] }))
             (selected-frames ∙ sym (ap (λ (t : Working). t .frames) w))
-            (checkpoint-volatile y es selected-records selected-number (ap (λ (t : Working). t .log .records) w) (ap (λ (t : Working). t .since) w)));
+            (checkpoint-volatile y es selected-records selected-number (ap (λ (t : Working). t .log) w) (ap (λ (t : Working). t .since) w)));
         ahead = λ p t j i e. let z : _≡_ {A = ℕ} 0 1 = cc in absurd (omega arith);
         copies = λ p j m. ap (λ (t : Working). frameAt (t .frames) p .bytes) w ∙ q .copies p j m;
         owned = selected-stable .owned;
         exclusive = selected-stable .exclusive;
         unstable = selected-stable .unstable;
-        volatile = rw (ap (λ (t : Working). t .log .records) w) each-nil;
+        volatile = rw (ap (λ (t : Working). t .log) w) each-nil;
       }
 
 -- ==== the stores before the selector
@@ -125,7 +124,7 @@ module _ {g : ℕ → Option Rebuilt} {h : History} (b : ℕ) (a : OnlyAhead g b
       onBoard-keeps b storedSelector k (q .formed)
       (λ l m.
       storedSelector-fits (k .directory) b (boardAt k b) m (λ e. up-not-replaying u e)
-      (omega (arith, ap length (s .records), log-count (length (k .directory)) (boardAt k b .working .log) (m .alone .fields .working .log))))
+      (omega (arith, ap length (s .records), m .alone .fields .working .log .count)))
       (storedSelector-peers (boardAt k b))
 
   -- the board may lose power right after the store

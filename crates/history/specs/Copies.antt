@@ -66,7 +66,7 @@ module _ {d : List Entry} {h : History} {g : Option Rebuilt} {b : ℕ} {x : Boar
         copies = λ m. rw (frameAt-same (x .working .frames) p f (rw s l)) memory;
         owned = λ o. absurd (other o);
         unstable = λ v. absurd (other (r .unstable p l v .0));
-        volatile = each-imp (withFrame p f y .working .log .records) (λ i e n o. absurd (other o)) (r .volatile);
+        volatile = each-imp (withFrame p f y .working .log) (λ i e n o. absurd (other o)) (r .volatile);
       })
 
 module _ (o b p : ℕ) (k : Bank) where

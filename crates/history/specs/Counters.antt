@@ -17,7 +17,7 @@ use Rattle.types.specs.declared.Frame.{Frame}
 use Rattle.types.specs.declared.Kind.{Kind}
 use Rattle.types.specs.declared.Record.{Record}
 use Rattle.types.specs.declared.State.the-variants.{Up, Down, Replaying}
-use Rattle.model.specs.Definitions.Bank.{Working, Board, emptyFrame, emptyLog, onWorking}
+use Rattle.model.specs.Definitions.Bank.{Working, Board, emptyFrame, onWorking}
 use Rattle.model.specs.Definitions.WellFormed.{isGot}
 use Rattle.model.specs.Definitions.Steps.{poweredOff, appended, recorded, movedRecord, storedRecord, storedSelector, restedWorking, Access, accessed}
 use Rattle.model.specs.Definitions.Replay.{loaded, recordsLeft, used, useUp, usedUp, tookGot, tookDue, replayOver, settled, replayed, countSum}
@@ -35,15 +35,15 @@ use Rattle.model.specs.Laws.Codes.Tests.{byKind}
 
 -- Up: what was made since the recovery point is in the volatile log or counted by since. Replaying: what is left to repeat leads to the recovery point.
 pub record Balanced (x : Board) : Type 0 where
-  pub up : x .state ≡ Up → x .working .number ≡ recoveryPoint x + countSum (x .working .log .records) + x .working .since
+  pub up : x .state ≡ Up → x .working .number ≡ recoveryPoint x + countSum (x .working .log) + x .working .since
   pub replaying : x .state ≡ Replaying → x .working .number + countSum (recordsLeft x) ≡ recoveryPoint x + x .working .since
   -- a replay with no record left, before its end
   pub over : x .state ≡ Replaying → recordsLeft x ≡ [] → x .working .since ≡ 0
   -- a board that is not up has no volatile record
-  pub idle : x .state ≢ Up → x .working .log .records ≡ []
+  pub idle : x .state ≢ Up → x .working .log ≡ []
 
 -- a board that is up
-up-balanced : {x : Board} → x .state ≡ Up → x .working .number ≡ recoveryPoint x + countSum (x .working .log .records) + x .working .since → Balanced x
+up-balanced : {x : Board} → x .state ≡ Up → x .working .number ≡ recoveryPoint x + countSum (x .working .log) + x .working .since → Balanced x
 up-balanced u e =
     record { up = λ i. e; replaying = λ i. up-not-replaying u i; over = λ i. up-not-replaying u i; idle = λ n. absurd (n u) }
 
@@ -102,23 +102,23 @@ usedUp-using x = useUp-using (recordsLeft x) x refl
 recorded-balanced : (kind : Kind) (peer : ℕ) (bytes : List ℕ) (x : Board) → x .state ≡ Up → Balanced x → Balanced (onWorking (recorded kind peer bytes) x)
 unfolding onWorking recorded appended recoveryPoint
 recorded-balanced kind peer bytes x u h =
-    up-balanced u (omega (arith, h .up u, countSum-one (x .working .log .records) (record { count = x .working .since; kind = kind; peer = peer; bytes = bytes })))
+    up-balanced u (omega (arith, h .up u, countSum-one (x .working .log) (record { count = x .working .since; kind = kind; peer = peer; bytes = bytes })))
 
 storedRecord-balanced : (x : Board) → x .state ≡ Up → Balanced x → Balanced (storedRecord x)
 unfolding movedRecord appended recoveryPoint countSum
 storedRecord-balanced x u h =
     storedRecord-cases Balanced x
     (λ e. h)
-    (λ r rs e. up-balanced u (omega (arith, h .up u, ap countSum e, countSum-one (x .stable .selected .log .records) r)))
+    (λ r rs e. up-balanced u (omega (arith, h .up u, ap countSum e, countSum-one (x .stable .selected .log) r)))
 
 -- whatever was counted before
-selected-balanced : (x : Board) → x .state ≡ Up → x .stable .spare .number ≡ x .working .number → x .stable .spare .log .records ≡ []
+selected-balanced : (x : Board) → x .state ≡ Up → x .stable .spare .number ≡ x .working .number → x .stable .spare .log ≡ []
     → Balanced (onWorking restedWorking (storedSelector x))
-unfolding onWorking restedWorking storedSelector emptyLog recoveryPoint countSum
+unfolding onWorking restedWorking storedSelector recoveryPoint countSum
 selected-balanced x u n r = up-balanced u (omega (arith, ap countSum r))
 
 poweredOff-balanced : (x : Board) → Balanced (poweredOff x)
-unfolding poweredOff emptyLog
+unfolding poweredOff
 poweredOff-balanced x =
     record { up = λ i. up-not-down i refl; replaying = λ i. down-not-replaying refl i; over = λ i. down-not-replaying refl i; idle = λ n. refl }
 

@@ -9,9 +9,8 @@ use lib.ListN.{length}
 use lib.Dec.{eqb}
 use borrow.Author.Tests.{eq-eqb}
 use Rattle.types.specs.declared.State.the-variants.{Up, Replaying}
-use Rattle.model.specs.Definitions.Bank.{Log, Board, Bank, boardAt, entryAt, onBoard, entryIn}
+use Rattle.model.specs.Definitions.Bank.{Board, Bank, boardAt, entryAt, onBoard, entryIn}
 use Rattle.model.specs.Definitions.WellFormed.{WellFormed}
-use Rattle.model.specs.Definitions.Steps.{Access}
 use Rattle.model.specs.Definitions.Replay.{recoveryPoint, recordsLeft, tookDue, replayOver, settled, settledFrame, settle}
 use Rattle.model.specs.Laws.Logic.{clash}
 use Rattle.model.specs.Laws.Boards.{frameAt-each, boardAt-same, onBoard-onBoard}
@@ -28,7 +27,7 @@ use Rattle.history.specs.Restarts.{moved, replaying-holds, settled-holds
 
 -- Board b, not up, after a step `f` of its replay that left its stable part and its volatile log.
 module _ (b : ℕ) (f : Board → Board) (k : Bank) {h : History} (q : Invariant nobody k h) (i : b < length (k .boards))
-    (down : boardAt k b .state ≢ Up) (area : f (boardAt k b) .stable ≡ boardAt k b .stable) (quiet : f (boardAt k b) .working .log .records ≡ [])
+    (down : boardAt k b .state ≢ Up) (area : f (boardAt k b) .stable ≡ boardAt k b .stable) (quiet : f (boardAt k b) .working .log ≡ [])
     (all : length (ofBoard b (h .entries)) ≡ recoveryPoint (boardAt k b)) where
   abbrev x : Board
   x = boardAt k b
@@ -101,7 +100,7 @@ pub record ReplayStep (d : ℕ) (h : History) (c : ℕ) (j : Bank) : Type 0 wher
 
 -- the records that were due are used up
 pub used-step : (d : ℕ) (f : Board → Board) (k : Bank) {h : History} → Invariant nobody k h → d < length (k .boards) → boardAt k d .state ≢ Up
-    → f (boardAt k d) .stable ≡ boardAt k d .stable → f (boardAt k d) .working .log .records ≡ []
+    → f (boardAt k d) .stable ≡ boardAt k d .stable → f (boardAt k d) .working .log ≡ []
     → length (ofBoard d (h .entries)) ≡ recoveryPoint (boardAt k d) → f (boardAt k d) .state ≡ Replaying → AllUsed (f (boardAt k d)) (ofBoard d (h .entries))
     → ReplayStep d h (f (boardAt k d) .working .number) (onBoard d f k)
 used-step d f k {h} q i down area quiet all state used =
@@ -113,7 +112,7 @@ used-step d f k {h} q i down area quiet all state used =
 
 -- the last gots were taken: the replay is over
 pub last-step : (d : ℕ) (k : Bank) {h : History} → Invariant nobody k h → d < length (k .boards) → boardAt k d .state ≢ Up
-    → boardAt k d .working .log .records ≡ [] → length (ofBoard d (h .entries)) ≡ recoveryPoint (boardAt k d) → replayOver (tookDue (boardAt k d)) ≡ true
+    → boardAt k d .working .log ≡ [] → length (ofBoard d (h .entries)) ≡ recoveryPoint (boardAt k d) → replayOver (tookDue (boardAt k d)) ≡ true
     → h .cursor d ≡ boardAt k d .working .number → TookLast (boardAt k d) (ofBoard d (h .entries)) → ReplayStep d h (h .cursor d) (onBoard d tookDue k)
 last-step d k {h} q i down quiet all over cursor last =
     let x : Board = boardAt k d in
@@ -122,7 +121,7 @@ last-step d k {h} q i down quiet all over cursor last =
       goes = λ o v. clash (rw now over) o;
       ends = λ o v. (
         rebuilt x (ofBoard d (h .entries)),
-        settled-invariant d tookDue k q i down (took-stable x) (ap (λ (l : Log). l .records) (took-log x) ∙ quiet) all (h .cursor d) v
+        settled-invariant d tookDue k q i down (took-stable x) ((took-log x) ∙ quiet) all (h .cursor d) v
             (last .since) (cursor ∙ last .number) (took-number x ∙ last .number) (ap (λ (t : Rebuilt). t .frames) (last .state)),
       );
     }

@@ -80,7 +80,7 @@ pub record StableExplains (x : Board) (es : List HistoryEntry) : Type 0 where
 pub record VolatileExplains (x : Board) (es : List HistoryEntry) (t : Rebuilt) : Type 0 where
   pub accepted : Accepted (rebuilt x es) (volatileTrace x es)
   pub ends : final (rebuilt x es) (volatileTrace x es) ≡ t
-  pub rest : recoveryPoint x + countSum (x .working .log .records) + x .working .since ≡ length es
+  pub rest : recoveryPoint x + countSum (x .working .log) + x .working .since ≡ length es
 
 -- a replaying board: what is left, from its frames, leads to what the stable memory rebuilds
 unfoldable pub NextWaits : List Record → ℕ → Type 0
@@ -133,7 +133,7 @@ pub record BoardInvariant (d : List Entry) (h : History) (g : Option Rebuilt) (b
   pub unstable : (p : ℕ) → p < length d → unstableWrite b (recoveryPoint x) p (h .entries) ≡ true
       → (entryIn d p .owner ≡ b) × (entryIn d p .copies ≡ 0)
   -- no got or dropped that is not stored yet is on a page that the board owns
-  pub volatile : Each (λ r. entryIn d (pageOf (r .kind)) .owner ≡ b → isShown (r .kind) ≡ true) (x .working .log .records)
+  pub volatile : Each (λ r. entryIn d (pageOf (r .kind)) .owner ≡ b → isShown (r .kind) ≡ true) (x .working .log)
 
 pub record Invariant (g : ℕ → Option Rebuilt) (k : Bank) (h : History) : Type 0 where
   pub formed : WellFormed k

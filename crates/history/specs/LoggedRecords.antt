@@ -58,8 +58,8 @@ up-counts x es c u v = subst (λ (s : State). CountsAgree s x es c) (sym u) v
 module _ {d : List Entry} {h : History} {g : Option Rebuilt} {b : ℕ} {x : Board} (q : BoardInvariant d h g b x) (u : x .state ≡ Up)
     (p : ℕ) (j : p < length d) (s : length (x .stable .selected .frames) ≡ length d) (o : entryIn d p .owner ≡ b) where
   -- no volatile record but a shown is on a page that the board owns
-  shown-only : Each (λ r. pageOf (r .kind) ≡ p → isShown (r .kind) ≡ true) (x .working .log .records)
-  shown-only = each-imp (x .working .log .records) (λ r f e. f (rw e o)) (q .volatile)
+  shown-only : Each (λ r. pageOf (r .kind) ≡ p → isShown (r .kind) ≡ true) (x .working .log)
+  shown-only = each-imp (x .working .log) (λ r f e. f (rw e o)) (q .volatile)
 
   settled-frame : frameAt (settledAs g x .frames) p ≡ frameAt (x .working .frames) p
   unfolding settledAs
@@ -106,7 +106,7 @@ module _ {d : List Entry} {h : History} {g g' : Option Rebuilt} {b : ℕ} {x : B
         owned = λ p j o. rw (same, point) (q .owned p j o);
         exclusive = λ p. rw point (q .exclusive p);
         unstable = λ p j v. q .unstable p j (rw point at v);
-        volatile = each-append (x .working .log .records) (newRecord kind peer bytes (x .working) ∷ []) (q .volatile) (each-cons s each-nil);
+        volatile = each-append (x .working .log) (newRecord kind peer bytes (x .working) ∷ []) (q .volatile) (each-cons s each-nil);
       }
 
 -- a shown is logged where nothing is ahead
@@ -119,7 +119,7 @@ shown-holds p o bytes q u =
 -- ==== the oldest volatile record is stored
 
 module _ {d : List Entry} {h : History} {g : Option Rebuilt} {b : ℕ} {x : Board} (q : BoardInvariant d h g b x) (u : x .state ≡ Up)
-    (s : length (x .stable .selected .frames) ≡ length d) (r : Record) (rs : List Record) (head : x .working .log .records ≡ r ∷ rs) where
+    (s : length (x .stable .selected .frames) ≡ length d) (r : Record) (rs : List Record) (head : x .working .log ≡ r ∷ rs) where
   stored-state : storedRecord x .state ≡ Up
   unfolding movedRecord
   stored-state = rw (stored-moved x r rs head) u
@@ -132,7 +132,7 @@ module _ {d : List Entry} {h : History} {g : Option Rebuilt} {b : ℕ} {x : Boar
   unfolding settledAs
   settled-same = byOption g (λ e. rw (e, stored-working .1)) (λ t e. rw e)
 
-  stored-behind : storedRecord x .working .log .records ≡ rs
+  stored-behind : storedRecord x .working .log ≡ rs
   unfolding movedRecord
   stored-behind = rw (stored-moved x r rs head)
 

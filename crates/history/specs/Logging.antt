@@ -27,7 +27,7 @@ use Rattle.history.specs.Pages.{length-final, Leaves, leaves-stored, fra
 
 pub stableEntries-first : (x : Board) (es : List HistoryEntry) → stableEntries x es ≡ drop (x .stable .selected .number) (take (recoveryPoint x) es)
 unfolding stableEntries recoveryPoint
-stableEntries-first x es = take-drop (countSum (x .stable .selected .log .records)) (x .stable .selected .number) es
+stableEntries-first x es = take-drop (countSum (x .stable .selected .log)) (x .stable .selected .number) es
 
 -- the stable memory explains with the selected area and with the entries up to the recovery point
 module _ (x y : Board) (area : y .stable .selected ≡ x .stable .selected) where
@@ -51,7 +51,7 @@ module _ (x y : Board) (area : y .stable .selected ≡ x .stable .selected) wher
 
 -- the volatile log explains with its records and since besides
 pub volatile-same : (x y : Board) (es : List HistoryEntry) (t : Rebuilt) → y .stable .selected ≡ x .stable .selected
-    → y .working .log .records ≡ x .working .log .records → y .working .since ≡ x .working .since
+    → y .working .log ≡ x .working .log → y .working .since ≡ x .working .since
     → VolatileExplains x es t → VolatileExplains y es t
 unfolding volatileTrace unstableEntries
 volatile-same x y es t area records since v =
@@ -73,12 +73,12 @@ length-rebuilt x es = length-final (checkpointed x) (stableTrace x es)
 unfoldable pub storedItems : Record → List HistoryEntry → List TraceItem
 storedItems r es = map Made (take (r .count) es) ++ (Logged r ∷ [])
 
-module _ (x : Board) (r : Record) (rs : List Record) (head : x .working .log .records ≡ r ∷ rs) where
+module _ (x : Board) (r : Record) (rs : List Record) (head : x .working .log ≡ r ∷ rs) where
   pub stored-moved : storedRecord x ≡ movedRecord r rs x
   unfolding storedRecord
   stored-moved = rw head
 
-  pub stored-records : storedRecord x .working .log .records ≡ rs
+  pub stored-records : storedRecord x .working .log ≡ rs
   unfolding movedRecord
   stored-records = rw stored-moved
 
@@ -94,17 +94,17 @@ module _ (x : Board) (r : Record) (rs : List Record) (head : x .working .log .re
   unfolding movedRecord
   stored-frames = rw stored-moved
 
-  pub stored-log : storedRecord x .stable .selected .log .records ≡ x .stable .selected .log .records ++ (r ∷ [])
+  pub stored-log : storedRecord x .stable .selected .log ≡ x .stable .selected .log ++ (r ∷ [])
   unfolding movedRecord appended
   stored-log = rw stored-moved
 
-  stored-counts : countSum (x .working .log .records) ≡ r .count + countSum rs
+  stored-counts : countSum (x .working .log) ≡ r .count + countSum rs
   unfolding countSum
   stored-counts = ap countSum head
 
   pub stored-point : recoveryPoint (storedRecord x) ≡ recoveryPoint x + r .count
   unfolding recoveryPoint
-  stored-point = rw (stored-number, stored-log, countSum-one (x .stable .selected .log .records) r) (omega arith)
+  stored-point = rw (stored-number, stored-log, countSum-one (x .stable .selected .log) r) (omega arith)
 
   module _ (es : List HistoryEntry) where
     pub stored-unstable : unstableEntries (storedRecord x) es ≡ drop (r .count) (unstableEntries x es)
@@ -123,7 +123,7 @@ module _ (x : Board) (r : Record) (rs : List Record) (head : x .working .log .re
       pub stored-stableTrace : stableTrace (storedRecord x) es ≡ stableTrace x es ++ storedItems r (unstableEntries x es)
       unfolding stableTrace storedItems stableEntries recoveryPoint unstableEntries
       stored-stableTrace =
-          let qs : List Record = x .stable .selected .log .records in
+          let qs : List Record = x .stable .selected .log in
           let ds : List HistoryEntry = drop (x .stable .selected .number) es in
           let n : length ds ≡ length es - x .stable .selected .number = length-drop (x .stable .selected .number) es in
           let l : countSum qs ≤ length ds = omega arith in
@@ -143,7 +143,7 @@ module _ (x : Board) (r : Record) (rs : List Record) (head : x .working .log .re
 
       -- a page that no volatile record but a shown touches: the memory takes the record's entries
       pub stored-page : (m : Memory) (p : ℕ) → p < length (x .stable .selected .frames)
-          → Each (λ q. pageOf (q .kind) ≡ p → isShown (q .kind) ≡ true) (x .working .log .records)
+          → Each (λ q. pageOf (q .kind) ≡ p → isShown (q .kind) ≡ true) (x .working .log)
           → m p ≡ frameAt (rebuilt x es .frames) p .bytes
           → frameAt (rebuilt (storedRecord x) es .frames) p
           ≡ record { right = frameAt (rebuilt x es .frames) p .right; bytes = memoryAfter m (take (r .count) (unstableEntries x es)) p }
@@ -209,24 +209,24 @@ module _ (x : Board) (es : List HistoryEntry) (t : Rebuilt) (v : VolatileExplain
   pub volatile-reached : recoveryPoint x ≤ length es
   volatile-reached = omega (arith, v .rest)
 
-  pub unstable-length : length (unstableEntries x es) ≡ countSum (x .working .log .records) + x .working .since
+  pub unstable-length : length (unstableEntries x es) ≡ countSum (x .working .log) + x .working .since
   unfolding unstableEntries
   unstable-length = rw (length-drop (recoveryPoint x) es) (omega (arith, v .rest))
 
   -- a page that no volatile record but a shown touches
   pub volatile-page : (m : Memory) (p : ℕ) → p < length (x .stable .selected .frames)
-      → Each (λ r. pageOf (r .kind) ≡ p → isShown (r .kind) ≡ true) (x .working .log .records)
+      → Each (λ r. pageOf (r .kind) ≡ p → isShown (r .kind) ≡ true) (x .working .log)
       → m p ≡ frameAt (rebuilt x es .frames) p .bytes
       → frameAt (t .frames) p ≡ record { right = frameAt (rebuilt x es .frames) p .right; bytes = memoryAfter m (unstableEntries x es) p }
   unfolding volatileTrace
   volatile-page m p h l a =
       let k : p < length (rebuilt x es .frames) = rw (length-rebuilt x es) h in
-      rw (← v .ends) (frameAt-trace (rebuilt x es) (x .working .log .records) (unstableEntries x es) m p k l a)
+      rw (← v .ends) (frameAt-trace (rebuilt x es) (x .working .log) (unstableEntries x es) m p k l a)
 
   -- one item more
   volatile-one : (y : Board) (fs : List HistoryEntry) (i : TraceItem) → rebuilt y fs ≡ rebuilt x es
       → volatileTrace y fs ≡ volatileTrace x es ++ (i ∷ [])
-      → recoveryPoint y + countSum (y .working .log .records) + y .working .since ≡ length fs → Accepts t i
+      → recoveryPoint y + countSum (y .working .log) + y .working .since ≡ length fs → Accepts t i
       → VolatileExplains y fs (next i t)
   volatile-one y fs i b m n h =
       let g : Accepts (final (rebuilt x es) (volatileTrace x es)) i = rw (v .ends) h in
@@ -240,7 +240,7 @@ module _ (x : Board) (es : List HistoryEntry) (t : Rebuilt) (v : VolatileExplain
   unfolding volatileTrace unstableEntries onWorking accessed recoveryPoint
   accessed-trace a e =
       rw (drop-append-le (recoveryPoint x) es (e ∷ []) volatile-reached)
-      (trace-entry (x .working .log .records) (unstableEntries x es) e (omega (arith, unstable-length)))
+      (trace-entry (x .working .log) (unstableEntries x es) e (omega (arith, unstable-length)))
 
   pub accessed-volatile : (a : Access) (e : HistoryEntry) → Accepts t (Made e)
       → VolatileExplains (onWorking (accessed a) x) (es ++ (e ∷ [])) (next (Made e) t)
@@ -255,7 +255,7 @@ module _ (x : Board) (es : List HistoryEntry) (t : Rebuilt) (v : VolatileExplain
   module _ (k : Kind) (o : ℕ) (bs : List ℕ) where
     recorded-trace : volatileTrace (onWorking (recorded k o bs) x) es ≡ volatileTrace x es ++ (Logged (newRecord k o bs (x .working)) ∷ [])
     unfolding volatileTrace unstableEntries onWorking recorded appended recoveryPoint
-    recorded-trace = trace-record (x .working .log .records) (newRecord k o bs (x .working)) (unstableEntries x es) (sym unstable-length)
+    recorded-trace = trace-record (x .working .log) (newRecord k o bs (x .working)) (unstableEntries x es) (sym unstable-length)
 
     pub recorded-volatile : Accepts t (Logged (newRecord k o bs (x .working)))
         → VolatileExplains (onWorking (recorded k o bs) x) es (next (Logged (newRecord k o bs (x .working))) t)
@@ -264,22 +264,22 @@ module _ (x : Board) (es : List HistoryEntry) (t : Rebuilt) (v : VolatileExplain
         volatile-one (onWorking (recorded k o bs) x) es (Logged (newRecord k o bs (x .working)))
         (rebuilt-same x (onWorking (recorded k o bs) x) (onWorking-area (recorded k o bs) x) es es refl)
         recorded-trace
-        (omega (arith, v .rest, countSum-one (x .working .log .records) (newRecord k o bs (x .working))))
+        (omega (arith, v .rest, countSum-one (x .working .log) (newRecord k o bs (x .working))))
         h
 
 -- ==== nothing volatile
 
 -- no entry past the recovery point and no volatile record: the log explains what the stable memory rebuilds
-pub nothing-volatile : (x : Board) (es : List HistoryEntry) → recoveryPoint x ≡ length es → x .working .log .records ≡ []
+pub nothing-volatile : (x : Board) (es : List HistoryEntry) → recoveryPoint x ≡ length es → x .working .log ≡ []
     → x .working .since ≡ 0 → VolatileExplains x es (rebuilt x es)
 unfolding Accepted final trace countSum volatileTrace unstableEntries
 nothing-volatile x es all records since =
     let d : drop (recoveryPoint x) es ≡ [] = drop-of-length-le es {i = recoveryPoint x} (omega arith) in
-    let c : countSum (x .working .log .records) ≡ 0 = ap countSum records in
+    let c : countSum (x .working .log) ≡ 0 = ap countSum records in
     record { accepted = rw (d, records) tt; ends = rw (d, records); rest = omega arith }
 
 -- a checkpoint: no stored record either, and the area's number is the number of entries
-module _ (x : Board) (es : List HistoryEntry) (stored : x .stable .selected .log .records ≡ [])
+module _ (x : Board) (es : List HistoryEntry) (stored : x .stable .selected .log ≡ [])
     (all : x .stable .selected .number ≡ length es) where
   pub checkpoint-point : recoveryPoint x ≡ length es
   unfolding recoveryPoint countSum
@@ -297,5 +297,5 @@ module _ (x : Board) (es : List HistoryEntry) (stored : x .stable .selected .log
   unfolding Accepted
   checkpoint-stable = record { reached = omega (arith, checkpoint-point); accepted = rw checkpoint-trace tt }
 
-  pub checkpoint-volatile : x .working .log .records ≡ [] → x .working .since ≡ 0 → VolatileExplains x es (checkpointed x)
+  pub checkpoint-volatile : x .working .log ≡ [] → x .working .since ≡ 0 → VolatileExplains x es (checkpointed x)
   checkpoint-volatile records since = rw (← checkpoint-rebuilt) (nothing-volatile x es checkpoint-point records since)

@@ -13,7 +13,7 @@ use Rattle.types.specs.declared.Record.{Record}
 use Rattle.types.specs.declared.State.{State}
 use Rattle.types.specs.declared.State.the-variants.{Up, Down, Replaying}
 use Rattle.types.specs.declared.Answer.the-variants.{Compared}
-use Rattle.model.specs.Definitions.Bank.{Bank, noBoard, emptyLog, boardAt, fresh, freshBoard}
+use Rattle.model.specs.Definitions.Bank.{Bank, noBoard, boardAt, fresh, freshBoard}
 use Rattle.model.specs.Definitions.Codec.{encode}
 use Rattle.model.specs.Definitions.WellFormed.{isGot, isReplaying, WellFormed, SizesOk}
 use Rattle.model.specs.Definitions.Logs.{isShown, pagesNaming, gotsFrom, shownsTo, storedRecords, unmatchedIn, comparedInOrder, comparedLogs}
@@ -33,9 +33,9 @@ use Rattle.model.specs.Laws.Codes.Ends.{power-lost}
 use Rattle.model.specs.Laws.EveryBoard.{Boards}
 use Rattle.model.specs.Laws.LogsKept.{NoneShown, Stood, call-kept}
 use Rattle.model.specs.Laws.LogPages.{pages-append, unmatched-prefix}
-use Rattle.model.specs.History.Statement.{LostPower, eventOf, Observed, begin, made, runOf}
+use Rattle.model.specs.History.Statement.{bytesLeft, LostPower, eventOf, Observed, begin, made, runOf}
 use Rattle.model.specs.History.OnBytes.{decoded, call-encode}
-use Rattle.model.specs.History.LogsStatement.{Spared, bytesLeft, LogsAgree, YieldNoPlace, SparedYieldNoPlace}
+use Rattle.model.specs.History.LogsStatement.{Spared, LogsAgree, YieldNoPlace, SparedYieldNoPlace}
 use Rattle.history.specs.Bystanders.{up-moves}
 use Rattle.history.specs.LogsTraded.{Traded, call-traded}
 
@@ -138,7 +138,7 @@ paired-after x y n c k sx sy p =
 
 -- a fresh bank has no record
 fresh-paired : (n p x y : ℕ) → SizesOk n p → x < n → y < n → Paired x y (fresh n p)
-unfolding freshBoard noBoard emptyLog recordsOf pagesNaming
+unfolding freshBoard noBoard recordsOf pagesNaming
 fresh-paired n p x y s lx ly =
     record {
       formed = fresh-wellFormed n p (s .someBoard) (s .boards) (s .somePage) (s .pages);
@@ -164,7 +164,7 @@ all-stored : (x y : ℕ) (k : Bank) → Boards (λ b. NoneShown) k → shownsTo 
 unfolding recordsOf
 all-stored x y k quiet =
     let stored : List Record = storedRecords k x in
-    let volatile : List Record = boardAt k x .working .log .records in
+    let volatile : List Record = boardAt k x .working .log in
     pages-append isShown y stored volatile
     ∙ (ap (λ (l : List ℕ). shownsTo y stored ++ l) (none-pages y volatile (quiet x)) ∙ append-nil (shownsTo y stored))
 
@@ -173,7 +173,7 @@ none-unmatched : (x y : ℕ) (k : Bank) → LogsAgree x y k → unmatchedIn x y 
 unfolding unmatchedIn recordsOf
 none-unmatched x y k h =
     let stored : List Record = storedRecords k y in
-    let volatile : List Record = boardAt k y .working .log .records in
+    let volatile : List Record = boardAt k y .working .log in
     let showns : shownsTo y (storedRecords k x) ≡ gotsFrom x stored ++ gotsFrom x volatile = sym h ∙ pages-append isGot x stored volatile in
     rw showns (unmatched-prefix 1 (gotsFrom x stored) (gotsFrom x volatile))
 

@@ -21,7 +21,7 @@ use Rattle.types.specs.declared.Record.{Record}
 use Rattle.types.specs.declared.State.{State}
 use Rattle.types.specs.declared.State.the-variants.{Up, Down, Replaying}
 use Rattle.types.specs.declared.Answer.the-variants.{Done}
-use Rattle.model.specs.Definitions.Bank.{Entry, Log, Working, onSpare, Board, Bank, boardAt, entryAt, onBoard, onWorking, onFrames, entryIn}
+use Rattle.model.specs.Definitions.Bank.{Entry, Working, onSpare, Board, Bank, boardAt, entryAt, onBoard, onWorking, onFrames, entryIn}
 use Rattle.model.specs.Definitions.Codec.{pageOf}
 use Rattle.model.specs.Definitions.WellFormed.{WellFormed}
 use Rattle.model.specs.Definitions.Steps.{Run, start, step, poweredOff, powerOff, burnt, withFuse, store, recorded, note, movedRecord, storedRecord}
@@ -333,7 +333,7 @@ loaded-goes d k {h} q i down =
           };
       step =
           used-step d (λ y. usedUp (loaded y)) k q i (λ u. up-not-down u down) refl
-          (ap (λ (l : Log). l .records) (usedUp-log (loaded x)) ∙ fits (q .formed) d i .alone .down down .volatile) all refl
+          ((usedUp-log (loaded x)) ∙ fits (q .formed) d i .alone .down down .volatile) all refl
           (restarted-allUsed x (ofBoard d (h .entries)) all (q .boards d i .stable));
     }
 
@@ -358,7 +358,7 @@ module _ (d : ℕ) (a : Access) (k : Bank) {h : History} (q : Invariant nobody k
   explains : ReplayExplains x es
   explains = explained-replaying here rep
 
-  quiet : x .working .log .records ≡ []
+  quiet : x .working .log ≡ []
   quiet = fits (q .formed) d (i .board) .alone .replaying rep
 
   not-up : x .state ≢ Up
@@ -408,7 +408,7 @@ module _ (d : ℕ) (a : Access) (k : Bank) {h : History} (q : Invariant nobody k
           step =
               rw (onBoard-onBoard d tookDue (replayed a) k)
               (used-step d (λ y. replayed a (tookDue y)) k q (i .board) not-up (replayed-stable x a)
-              (ap (λ (l : Log). l .records) (replayed-log x a) ∙ quiet) (counts .1)
+              ((replayed-log x a) ∙ quiet) (counts .1)
               (replayed-state a (tookDue x) ∙ tookDue-state x ∙ rep) (again (next .0) (next .1) .after));
         }
 

@@ -70,7 +70,7 @@ module _ {d : List Entry} {h : History} {t : Rebuilt} {b : ℕ} {x : Board} (q :
       → bytes ≡ memoryAfter zeroMemory (h .entries) p
       → frameAt (t .frames) p ≡ record { right = Own; bytes = bytes }
       → frameAt (rebuilt x (ofBoard b (h .entries)) .frames) p ≡ record { right = Own; bytes = bytes }
-      → Each (λ r. pageOf (r .kind) ≡ p → isShown (r .kind) ≡ true) (x .working .log .records)
+      → Each (λ r. pageOf (r .kind) ≡ p → isShown (r .kind) ≡ true) (x .working .log)
       → BoardInvariant (update p (ownedBy b) d) h (some t) b (tookOwn p bytes x)
   unfolding tookOwn ownedBy withFrame onWorking onFrames
   taker-holds l s other memory explained stable shown =
@@ -88,7 +88,7 @@ module _ {d : List Entry} {h : History} {t : Rebuilt} {b : ℕ} {x : Board} (q :
         copies = λ m. clash m (member-none b);
         owned = λ o. cc (memoryAfter-discard b (recoveryPoint x) p (h .entries) zeroMemory quiet);
         unstable = λ v. clash (rw point at v) quiet;
-        volatile = each-imp (x .working .log .records) (λ i e n o. e n) shown;
+        volatile = each-imp (x .working .log) (λ i e n o. e n) shown;
       })
 
 module _ (o w p : ℕ) (k : Bank) where
@@ -111,7 +111,7 @@ module _ (o w p : ℕ) (k : Bank) where
   pub passOwnership-invariant : (t : Rebuilt) {h : History} → Invariant (onlyOf w t) k h → p < length (k .directory) → entryAt k p .owner ≡ o → o ≢ w
       → boardAt k o .state ≡ Up → boardAt k w .state ≡ Up
       → unstableWrite o (recoveryPoint (boardAt k o)) p (h .entries) ≡ false
-      → boardAt k w .working .log .records ≡ []
+      → boardAt k w .working .log ≡ []
       → recoveryPoint (boardAt k w) ≡ length (ofBoard w (h .entries))
       → frameAt (t .frames) p ≡ record { right = Own; bytes = frameOf k o p .bytes }
       → WellFormed (passOwnership o w p k)

@@ -12,7 +12,7 @@ use lib.Seq.{take-take}
 use Rattle.words.specs.Bytes.{Each, each-nil}
 use Rattle.types.specs.declared.Right.the-variants.{Own}
 use Rattle.model.specs.Definitions.Parts.{member, withoutMember}
-use Rattle.model.specs.Definitions.Bank.{Entry, Board, Bank, emptyLog, boardAt, frameAt, onBoard, entryIn}
+use Rattle.model.specs.Definitions.Bank.{Entry, Board, Bank, boardAt, frameAt, onBoard, entryIn}
 use Rattle.model.specs.Definitions.Codec.{pageOf}
 use Rattle.model.specs.Definitions.WellFormed.{WellFormed}
 use Rattle.model.specs.Definitions.Steps.{poweredOff, forgotten, powerOff}
@@ -70,7 +70,7 @@ stableEntries-lost : (x : Board) (es : List HistoryEntry) → stableEntries (pow
 unfolding stableEntries poweredOff recoveryPoint
 stableEntries-lost x es =
     let n : ℕ = x .stable .selected .number in
-    let c : ℕ = countSum (x .stable .selected .log .records) in
+    let c : ℕ = countSum (x .stable .selected .log) in
     rw (← take-drop c n es) (take-take c c (drop n es) (omega arith))
 
 rebuilt-lost : (x : Board) (es : List HistoryEntry) → rebuilt (poweredOff x) (take (recoveryPoint x) es) ≡ rebuilt x es
@@ -94,7 +94,7 @@ module _ (b : ℕ) (d : List Entry) (h : History) (x : Board) (q : StableHolds d
   kept = ofBoard-discard-same b (recoveryPoint x) (h .entries)
 
   this-holds : BoardInvariant (map (forgotten b) d) (lostAt b (recoveryPoint x) h) none b (poweredOff x)
-  unfolding lostAt poweredOff CountsAgree Explains emptyLog
+  unfolding lostAt poweredOff CountsAgree Explains
   this-holds =
       record {
         counts = rw (kept, length-take, recovery-lost x) (let r : recoveryPoint x ≤ length (ofBoard b (h .entries)) = q .stable .reached in omega arith);
@@ -160,7 +160,7 @@ module _ (b : ℕ) (d : List Entry) (h : History) (x : Board) (q : StableHolds d
               r .unstable p i (sym (unstableWrite-discard-other b c (recoveryPoint y) (recoveryPoint x) p (h .entries) n) ∙ u) in
               (owner-forgotten b d p ∙ a .0, copies-forgotten b d p i ∙ (ap (withoutMember b) (a .1) ∙ without-zero b));
           volatile =
-              each-imp (y .working .log .records) (λ s f o. f (rw (owner-forgotten b d (pageOf (s .kind))) at o)) (r .volatile);
+              each-imp (y .working .log) (λ s f o. f (rw (owner-forgotten b d (pageOf (s .kind))) at o)) (r .volatile);
         }
 
 -- the directory after a power loss, as it stands in a goal

@@ -10,7 +10,7 @@ use lib.ListN.{length}
 use Rattle.types.specs.declared.Kind.{Kind}
 use Rattle.types.specs.declared.Record.{Record}
 use Rattle.types.specs.declared.State.the-variants.{Up, Replaying}
-use Rattle.model.specs.Definitions.Bank.{Board, Bank, emptyLog, boardAt, onWorking, freshBoard, fresh}
+use Rattle.model.specs.Definitions.Bank.{Board, Bank, boardAt, onWorking, freshBoard, fresh}
 use Rattle.model.specs.Definitions.WellFormed.{SizesOk, WellFormed}
 use Rattle.model.specs.Definitions.Steps.{poweredOff, appended, recorded, movedRecord, storedRecord, storedSelector, restedWorking, accessed}
 use Rattle.model.specs.Definitions.Replay.{loaded, recordsLeft, usedUp, replayOver, settled, replayed, countSum, recoveryPoint}
@@ -42,7 +42,7 @@ abbrev pub Counted : Bank → Type 0
 Counted k = (b : ℕ) → b < length (k .boards) → CountedBoard (boardAt k b)
 
 freshBoard-counted : (n p b : ℕ) → CountedBoard (freshBoard n p b)
-unfolding freshBoard emptyLog recoveryPoint countSum recordsOf Spaced
+unfolding freshBoard recoveryPoint countSum recordsOf Spaced
 freshBoard-counted n p b =
     record {
       balanced =
@@ -80,10 +80,10 @@ unfolding movedRecord appended recoveryPoint
 stored-rises x =
     storedRecord-cases (λ y. recoveryPoint x ≤ recoveryPoint y) x
     (λ e. omega arith)
-    (λ r rs e. omega (arith, countSum-one (x .stable .selected .log .records) r))
+    (λ r rs e. omega (arith, countSum-one (x .stable .selected .log) r))
 
 -- a checkpoint is of the board's own number
-selected-point : (x : Board) → x .stable .spare .number ≡ x .working .number → x .stable .spare .log .records ≡ []
+selected-point : (x : Board) → x .stable .spare .number ≡ x .working .number → x .stable .spare .log ≡ []
     → recoveryPoint (onWorking restedWorking (storedSelector x)) ≡ x .working .number
 unfolding onWorking storedSelector recoveryPoint countSum
 selected-point x n r = omega (arith, ap countSum r)
@@ -132,10 +132,10 @@ numbered-one n (q ∷ rs) (i ∷ is) r m h e = (h .0, numbered-one i rs is r m (
 
 record Met (x : Board) (d : Demand) : Type 0 where
   point : d .point ≡ recoveryPoint x
-  made : Numbered (recoveryPoint x) (x .working .log .records) (d .made)
+  made : Numbered (recoveryPoint x) (x .working .log) (d .made)
 
 -- neither the stable area nor the volatile records change
-same-met : {x y : Board} {d : Demand} → y .stable .selected ≡ x .stable .selected → y .working .log .records ≡ x .working .log .records → Met x d → Met y d
+same-met : {x y : Board} {d : Demand} → y .stable .selected ≡ x .stable .selected → y .working .log ≡ x .working .log → Met x d → Met y d
 same-met {x} {y} s v h =
     let e : recoveryPoint y ≡ recoveryPoint x = recoveryPoint-same x y s in
     record { point = h .point ∙ sym e; made = rw (e, v) (h .made) }
@@ -156,7 +156,7 @@ moved-met : (x : Board) (r : Record) (rs : List Record) (m : ℕ) (ns : List ℕ
     → Met (movedRecord r rs x) (record { made = ns; point = m })
 unfolding movedRecord appended recoveryPoint
 moved-met x r rs m ns e h =
-    let p : m ≡ recoveryPoint (movedRecord r rs x) = omega (arith, countSum-one (x .stable .selected .log .records) r) in
+    let p : m ≡ recoveryPoint (movedRecord r rs x) = omega (arith, countSum-one (x .stable .selected .log) r) in
     record { point = p; made = rw p at h }
 
 stored-met : (x : Board) (d : Demand) → Met x d → Met (storedRecord x) (firstStored d)
@@ -182,16 +182,16 @@ made-met kind peer bytes x d u b h =
     let e : recoveryPoint y ≡ recoveryPoint x = recoveryPoint-same x y refl in
     record {
       point = h .point ∙ sym e;
-      made = rw e (numbered-one (recoveryPoint x) (x .working .log .records) (d .made) r (x .working .number) (h .made) (b .up u));
+      made = rw e (numbered-one (recoveryPoint x) (x .working .log) (d .made) r (x .working .number) (h .made) (b .up u));
     }
 
-selected-met : (x : Board) → x .stable .spare .number ≡ x .working .number → x .stable .spare .log .records ≡ []
+selected-met : (x : Board) → x .stable .spare .number ≡ x .working .number → x .stable .spare .log ≡ []
     → Met (onWorking restedWorking (storedSelector x)) (record { made = []; point = x .working .number })
-unfolding onWorking restedWorking emptyLog Numbered
+unfolding onWorking restedWorking Numbered
 selected-met x n r = record { point = sym (selected-point x n r); made = tt }
 
 lost-met : (x : Board) (d : Demand) → Met x d → Met (poweredOff x) (record { made = []; point = d .point })
-unfolding poweredOff emptyLog Numbered
+unfolding poweredOff Numbered
 lost-met x d h = record { point = h .point ∙ sym (recoveryPoint-same x (poweredOff x) refl); made = tt }
 
 change-met : {x y : Board} (c : Change x y) (d : Demand) → Balanced x → Met x d → Met y (demandAfter c d)
@@ -213,7 +213,7 @@ changes-met unchanged b h = h
 changes-met (next t c) b h = change-met c (demanded t) (changes-balanced t b) (changes-met t b h)
 
 freshBoard-met : (n p b : ℕ) → Met (freshBoard n p b) noDemand
-unfolding freshBoard emptyLog noDemand recoveryPoint countSum Numbered
+unfolding freshBoard noDemand recoveryPoint countSum Numbered
 freshBoard-met n p b = record { point = refl; made = tt }
 
 -- Whatever changes a board went through from its fresh state on, its recovery point is the one that they demand.

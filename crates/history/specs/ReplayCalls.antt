@@ -178,7 +178,7 @@ module _ (b : ℕ) (a : Access) (k : Bank) (w : WellFormed k) (h : Counted k) (r
     entered-after : replayOver (boardAt (tookIn b k) b) ≡ true → After b c k
     unfolding callBank accessOf
     entered-after o =
-        let place : x .working .place < length (x .stable .selected .log .records) =
+        let place : x .working .place < length (x .stable .selected .log) =
         replaying-place (x .state) x rep (fits w b below .place) in
         let d : LastDue a x =
         last-due a x place (fails (replay-other a x) (fittingAt b a k e replays w)) .0 (rw took-board at o) in

@@ -46,7 +46,7 @@ last-drop (suc n) (p ∷ q ∷ rs) r qs e = last-rest p q rs ∙ last-drop n (q 
 module _ (x : Board) (r : Record) (rs : List Record) (left : recordsLeft x ≡ r ∷ rs) where
   left-ends : endsInGot x ≡ lastIsGot (r ∷ rs)
   unfolding endsInGot recordsLeft
-  left-ends = last-drop (x .working .place) (x .stable .selected .log .records) r rs left
+  left-ends = last-drop (x .working .place) (x .stable .selected .log) r rs left
 
 -- ==== while it goes on
 
@@ -120,7 +120,7 @@ unfolding lastIsGot useUp isGot onWorking recordsLeft
 useUp-last [] x left e = refl
 useUp-last (r ∷ rs) x left e =
     let w : Working = x .working in
-    let left-with : Working → List Record = λ v. drop (v .place) (x .stable .selected .log .records) in
+    let left-with : Working → List Record = λ v. drop (v .place) (x .stable .selected .log) in
     let next : (fs : List Frame) → useUp (r ∷ rs) w ≡ useUp rs (used fs w) → isGot (r .kind) ≡ false → lastIsGot (r ∷ rs) ≡ false =
     λ fs u g. last-cons r rs g (useUp-last rs (onWorking (used fs) x) (used-left x r rs left fs) (ap left-with (sym u) ∙ e)) in
     let stays : useUp (r ∷ rs) w ≡ w → lastIsGot (r ∷ rs) ≡ false =
@@ -159,7 +159,7 @@ module _ (a : Access) (x : Board) (h : CountedBoard x) (u : x .state ≡ Replayi
   over-ends =
       let g : (r : Record) × (rs : List Record) × (recordsLeft y ≡ r ∷ rs) = going-left y going in
       let l : lastIsGot (recordsLeft y) ≡ false = usedUp-last (onWorking (accessed a) y) over in
-      ap (λ (t : Stable). lastIsGot (t .selected .log .records)) (sym (took-stable x))
+      ap (λ (t : Stable). lastIsGot (t .selected .log)) (sym (took-stable x))
       ∙ left-ends y (g .0) (g .1) (g .2) ∙ ap lastIsGot (sym (g .2)) ∙ l
 
 -- ---- after a restart that uses up all records

@@ -150,7 +150,7 @@ module _ (b : ℕ) (t : System) (s : Stands t) (v : ℕ) (done : answerIn (Resta
 
     ends-now : endsInGot y ≡ endsInGot x
     unfolding endsInGot
-    ends-now = ap (λ (a : Area). lastIsGot (a .log .records)) selected-now
+    ends-now = ap (λ (a : Area). lastIsGot (a .log)) selected-now
 
     counted-now : CountedBoard y
     counted-now = stands-now .counted b (replaying-below (decode (now .bytes)) b (place .state))
@@ -222,7 +222,7 @@ module _ (b : ℕ) (t : System) (s : Stands t) (v : ℕ) (done : answerIn (Resta
             let z : boardAt next b .working .number ≡ recoveryPoint (boardAt next b) =
             omega (arith, g .number, number-now, point-now, next-point g, ap (doneBy b c) answer-now, next-standing g .below) in
             clash
-            (sym (ap (λ (a : Area). lastIsGot (a .log .records)) (g .selected ∙ selected-now)) ∙ next-standing g .last z)
+            (sym (ap (λ (a : Area). lastIsGot (a .log)) (g .selected ∙ selected-now)) ∙ next-standing g .last z)
             plain),
       )
 

@@ -104,7 +104,7 @@ module _ (x : Board) (r : Record) (rs : List Record) (head : recordsLeft x ≡ r
   pub used-left : (fs : List Frame) → recordsLeft (onWorking (used fs) x) ≡ rs
   unfolding recordsLeft onWorking used
   used-left fs =
-      let qs : List Record = x .stable .selected .log .records in
+      let qs : List Record = x .stable .selected .log in
       sym (drop-drop 1 (x .working .place) qs) ∙ ap (λ (ls : List Record). drop 1 ls) head
 
   accessed-left : (a : Access) → recordsLeft (onWorking (accessed a) x) ≡ r ∷ rs
@@ -268,7 +268,7 @@ usedUp-allUsed x es v = useUp-allUsed (recordsLeft x) x es refl v
 loaded-trace : (x : Board) (es : List HistoryEntry) → length es ≡ recoveryPoint x → traceLeft (loaded x) es ≡ stableTrace x es
 unfolding loaded traceLeft recordsLeft stableTrace stableEntries recoveryPoint
 loaded-trace x es all =
-    let rs : List Record = x .stable .selected .log .records in
+    let rs : List Record = x .stable .selected .log in
     let ds : List HistoryEntry = drop (x .stable .selected .number) es in
     let t : take (countSum rs) ds ≡ ds = take-all (countSum rs) ds (omega (arith, length-drop (x .stable .selected .number) es)) in
     rw t (traceSince-zero rs ds)
@@ -297,21 +297,21 @@ restarted-allUsed x es all s = usedUp-allUsed (loaded x) es (loaded-replays x es
 pub over-left : (x : Board) → replayOver x ≡ true → recordsLeft x ≡ []
 unfolding replayOver recordsLeft
 over-left x h =
-    let rs : List Record = x .stable .selected .log .records in
+    let rs : List Record = x .stable .selected .log in
     drop-of-length-le rs {i = x .working .place} (leb-true (length rs) (x .working .place) h)
 
 -- some record is left
 pub going-left : (x : Board) → replayOver x ≡ false → (r : Record) × (rs : List Record) × (recordsLeft x ≡ r ∷ rs)
 unfolding replayOver recordsLeft
 going-left x h =
-    let rs : List Record = x .stable .selected .log .records in
+    let rs : List Record = x .stable .selected .log in
     let n : (r : Record) × (getElem? rs (x .working .place) ≡ some r) = next-exists rs (x .working .place) (leb-false (length rs) (x .working .place) h) in
     (n .0, drop (suc (x .working .place)) rs, drop-next rs (x .working .place) (n .0) (n .1))
 
 pub left-over : (x : Board) → recordsLeft x ≡ [] → replayOver x ≡ true
 unfolding replayOver recordsLeft
 left-over x h =
-    let rs : List Record = x .stable .selected .log .records in
+    let rs : List Record = x .stable .selected .log in
     let e : length (drop (x .working .place) rs) ≡ 0 = ap length h in
     le-leb (length rs) (x .working .place) (omega (arith, length-drop (x .working .place) rs))
 

@@ -1,7 +1,7 @@
 -- What a board's memory rebuilds: the entries that it made and the records that it logged, in the order in which they came, run again from its checkpoint.
 -- Definitions for the invariant. Assumes nothing.
 use mathlib.Core.Path.{_≡_}
-use Prim.Native.Nat.{ℕ, _+_, _-_, _<_}
+use Prim.Native.Nat.{ℕ, _-_, _<_}
 use mathlib.Core.Bool.{true, false}
 use mathlib.Core.List.{List, [], _∷_, _++_, map}
 use lib.ListN.{set, take, drop}
@@ -98,20 +98,20 @@ checkpointed x = record { frames = x .stable .selected .frames; pending = [] }
 
 -- the entries between the checkpoint and the recovery point, and those past it
 unfoldable pub stableEntries : Board → List HistoryEntry → List HistoryEntry
-stableEntries x es = take (countSum (x .stable .selected .log .records)) (drop (x .stable .selected .number) es)
+stableEntries x es = take (countSum (x .stable .selected .log)) (drop (x .stable .selected .number) es)
 
 unfoldable pub unstableEntries : Board → List HistoryEntry → List HistoryEntry
 unstableEntries x es = drop (recoveryPoint x) es
 
 unfoldable pub stableTrace : Board → List HistoryEntry → List TraceItem
-stableTrace x es = trace (x .stable .selected .log .records) (stableEntries x es)
+stableTrace x es = trace (x .stable .selected .log) (stableEntries x es)
 
 -- what the stable memory alone will rebuild
 unfoldable pub rebuilt : Board → List HistoryEntry → Rebuilt
 rebuilt x es = final (checkpointed x) (stableTrace x es)
 
 unfoldable pub volatileTrace : Board → List HistoryEntry → List TraceItem
-volatileTrace x es = trace (x .working .log .records) (unstableEntries x es)
+volatileTrace x es = trace (x .working .log) (unstableEntries x es)
 
 -- what a replaying board has yet to do
 unfoldable pub traceLeft : Board → List HistoryEntry → List TraceItem

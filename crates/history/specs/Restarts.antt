@@ -2,7 +2,7 @@
 -- At the end its frames are what its stable memory rebuilds, and the pages of others go. Assumes nothing.
 use mathlib.Core.Path.{_≡_, refl, sym, subst, _∙_}
 use mathlib.Core.Logic.{_≢_, _⊎_, ⊎-elim}
-use Prim.Native.Nat.{ℕ, _-_, _<_}
+use Prim.Native.Nat.{ℕ, _<_}
 use native.Mathlib.Omega.{arith}
 use mathlib.Core.Option.{Option, none, some}
 use mathlib.Core.List.{List, []}
@@ -64,7 +64,7 @@ module _ {d : List Entry} {h : History} {g : Option Rebuilt} {b : ℕ} {x : Boar
   same-stable = stable-same x y same-area (ofBoard b (h .entries)) (ofBoard b (h .entries)) refl (q .stable .reached) (q .stable)
 
   -- it goes on replaying
-  pub replaying-holds : (c : ℕ) → y .state ≡ Replaying → y .working .log .records ≡ []
+  pub replaying-holds : (c : ℕ) → y .state ≡ Replaying → y .working .log ≡ []
       → c ≡ y .working .number → length (ofBoard b (h .entries)) ≡ recoveryPoint x
       → ReplayExplains y (ofBoard b (h .entries))
       → BoardInvariant d (moved b c h) none b y
@@ -84,7 +84,7 @@ module _ {d : List Entry} {h : History} {g : Option Rebuilt} {b : ℕ} {x : Boar
       }
 
   -- it is up again, with the frames of its replay but for the pages of others; what is ahead of these is what its stable memory rebuilds
-  pub settled-holds : (c : ℕ) → y .state ≡ Up → y .working .log .records ≡ [] → y .working .since ≡ 0
+  pub settled-holds : (c : ℕ) → y .state ≡ Up → y .working .log ≡ [] → y .working .since ≡ 0
       → c ≡ length (ofBoard b (h .entries)) → y .working .number ≡ length (ofBoard b (h .entries))
       → length (ofBoard b (h .entries)) ≡ recoveryPoint x
       → ((p : ℕ) → p < length d → entryIn d p .owner ≡ b

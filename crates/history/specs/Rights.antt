@@ -45,7 +45,7 @@ pub record HoldsOn (e : Entry) (h : History) (g : Option Rebuilt) (b : ℕ) (x :
       → frameAt (rebuilt x (ofBoard b (h .entries)) .frames) p
       ≡ record { right = Own; bytes = memoryAfter zeroMemory (discard b (recoveryPoint x) (h .entries)) p }
   pub unstable : unstableWrite b (recoveryPoint x) p (h .entries) ≡ true → (e .owner ≡ b) × (e .copies ≡ 0)
-  pub volatile : Each (λ r. pageOf (r .kind) ≡ p → e .owner ≡ b → isShown (r .kind) ≡ true) (x .working .log .records)
+  pub volatile : Each (λ r. pageOf (r .kind) ≡ p → e .owner ≡ b → isShown (r .kind) ≡ true) (x .working .log)
 
 -- what holds of each element twice
 each-both : {A : Type 0} {P Q R : A → Type 0} (xs : List A) → ((x : A) → P x → Q x → R x) → Each P xs → Each Q xs → Each R xs
@@ -64,7 +64,7 @@ module _ {d : List Entry} {h : History} {g : Option Rebuilt} {b : ℕ} {x : Boar
         copies = λ m. q .copies p l (copies m);
         owned = λ o. q .owned p l (owner o);
         unstable = λ u. unstable u (q .unstable p l u .0) (q .unstable p l u .1);
-        volatile = each-imp (x .working .log .records) (λ r f i o. f (rw i (owner o))) (q .volatile);
+        volatile = each-imp (x .working .log) (λ r f i o. f (rw i (owner o))) (q .volatile);
       }
 
   module _ (f : Entry → Entry) where
@@ -96,7 +96,7 @@ module _ {d : List Entry} {h : History} {g : Option Rebuilt} {b : ℕ} {x : Boar
               (λ i. rw (i, entryIn-same d p f l) (on .unstable))
               (λ n. rw (entryIn-other d p f c n) (q .unstable c (in-range c j)));
           volatile =
-              each-both (x .working .log .records)
+              each-both (x .working .log)
               (λ r s t.
               byEq (pageOf (r .kind)) p
               (λ i. rw (i, entryIn-same d p f l) (t i))

@@ -2,6 +2,7 @@
 use mathlib.Core.Path.{_≡_, sym, ap, subst, _∙_}
 use Prim.Native.Nat.{ℕ, _≤_, _<_}
 use native.Mathlib.Omega.{arith}
+use mathlib.Core.Bool.{true}
 use mathlib.Core.Option.{some}
 use mathlib.Core.List.{List, [], _∷_}
 use lib.ListN.{length}
@@ -13,7 +14,7 @@ use Rattle.model.specs.Definitions.Replay.{recoveryPoint}
 use Rattle.model.specs.Definitions.Calls.{Call, Accessing, Checkpointing, Fusing, Restarting, Comparing, callBank, replyOf}
 use Rattle.model.specs.History.Statement.{HistoryEntry, History, noHistory, zeroMemory, OneMemory, begin, accessOf, doneEvent, eventOf, bytesSeen, nextEntry}
 use Rattle.model.specs.History.Statement.{after, Premise, RepeatAgrees, GrantsStand, Claim, Premises, Claims, afterSeen, PremiseSeen, RepeatSeen, PremisesSeen}
-use Rattle.model.specs.History.Statement.{ClaimsSeen, runOf}
+use Rattle.model.specs.History.Statement.{ClaimsSeen, runOf, made}
 use Rattle.history.specs.Invariant.{Invariant, nobody}
 use Rattle.history.specs.Moves.{Agrees, PremiseOn, call-invariant, call-repeats}
 use Rattle.history.specs.Begins.{fresh-invariant}
@@ -22,6 +23,10 @@ use Rattle.history.specs.Grants.{call-grants}
 use Rattle.model.specs.History.Banks.{systemOf, historyAfter, grantsAfter}
 use Rattle.model.specs.History.OnBytes.{decoded, call-encode, after-system, begin-system}
 use Rattle.model.specs.Laws.Moves.Calls.{call-keeps}
+use Rattle.model.specs.Definitions.Check.{wellFormed}
+use Rattle.model.specs.Laws.Fresh.{fresh-bytes}
+use Rattle.model.specs.Laws.Clean.{callsAmong, seen-among}
+use Rattle.model.specs.History.CleanStatement.{seenAmong, OneMemoryAmong}
 
 -- ---- one call, on the bank
 
@@ -109,3 +114,11 @@ one-memory n p s cs premises =
     (claims cs (fresh n p) noHistory (λ b. 0)
     (record { invariant = fresh-invariant n p s; counted = fresh-counted n p; grants = λ b l. omega arith })
     (subst (Premises cs) (begin-system n p) premises))
+
+-- The same with cleanings anywhere among the calls (document 02, F-8): they change nothing in a bank that began fresh.
+pub one-memory-among : (n p : ℕ) → SizesOk n p → OneMemoryAmong n p
+unfolding Premises Claims made
+one-memory-among n p s rs premises =
+    let v : wellFormed (begin n p .bytes) ≡ true = fresh-bytes n p (s .someBoard) (s .boards) (s .somePage) (s .pages) in
+    let e : seenAmong rs (begin n p .bytes) ≡ runOf (callsAmong rs) (begin n p .bytes) = seen-among rs (begin n p .bytes) v in
+    subst (λ xs. ClaimsSeen xs (begin n p)) (sym e) (one-memory n p s (callsAmong rs) (subst (λ xs. PremisesSeen xs (begin n p)) e premises))

@@ -28,14 +28,14 @@ use Rattle.model.specs.Definitions.Check.{areaCount}
 
 -- all records of a board: the stored ones of the selected area, then the volatile ones
 unfoldable pub recordsOf : Board → List Record
-recordsOf x = x .stable .selected .log .records ++ x .working .log .records
+recordsOf x = x .stable .selected .log ++ x .working .log
 
 -- how many the selected area has, and how many the volatile log
 abbrev pub storedCount : Board → ℕ
-storedCount x = length (x .stable .selected .log .records)
+storedCount x = length (x .stable .selected .log)
 
 abbrev pub volatileCount : Board → ℕ
-volatileCount x = length (x .working .log .records)
+volatileCount x = length (x .working .log)
 
 -- a slot is left for one volatile record more
 abbrev pub Space : Board → Type 0
@@ -102,7 +102,7 @@ pub record Fits (d : List Entry) (b : ℕ) (x : Board) : Type 0 where
 pub record InReplay (d : List Entry) (b : ℕ) (x : Board) : Type 0 where
   pub alone : Alone (length d) x
   pub state : x .state ≡ Replaying
-  pub place : x .working .place ≤ length (x .stable .selected .log .records)
+  pub place : x .working .place ≤ length (x .stable .selected .log)
   pub agreed : Agreed d b x
 
 -- a well-formed bank but for board b, of which `Kept` holds instead of what fits; whom records name is asked of every board

@@ -3,6 +3,7 @@ pub mod Logic
 pub mod Lists
 pub mod Sets
 pub mod Parts
+pub mod Zeros
 pub mod Codec
 pub mod CodecBank
 pub mod CodecBack
@@ -12,6 +13,7 @@ pub mod BoardTests
 pub mod ReadTests
 pub mod PeerTests
 pub mod WrittenTests
+pub mod Cleaned
 pub mod CodecBankBack
 pub mod WellFormedTest
 pub mod Fresh
@@ -46,4 +48,5 @@ pub mod BankSteps
 pub mod BankLoops
 pub mod Likeness
 pub mod Counts
+pub mod Clean
 pub mod Conversion

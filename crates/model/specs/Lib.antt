@@ -3,5 +3,4 @@ pub mod Contracts
 pub mod Moves
 pub mod Likeness
 pub mod Laws
-pub mod Cases
 pub mod History

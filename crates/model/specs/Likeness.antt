@@ -1,9 +1,8 @@
--- When two banks are alike but for page bytes, names of boards in records, and slots that no call reads: one is the other with a function on every page byte
--- and names that are related, and in the slots at or past a count stand any bytes, as many as one likes. Laws/Likeness proves that every move keeps banks
--- alike, and every call if the function keeps bytes bytes (code 2 tests a written value) and, for document 02's F-7, a name stands for itself alone: page
--- bytes are copied, zeroed, set and returned, names are copied and by that call compared, and nothing else is decided by them. No law stands here. Assumes
--- nothing.
-use mathlib.Core.Path.{_≡_, refl}
+-- When two banks are alike but for page bytes and names of boards in records: one is the other with a function on every page byte and names that are related.
+-- Laws/Likeness proves that every move keeps banks alike, and every call if the function keeps bytes bytes (code 2 tests a written value) and, for document
+-- 02's F-7, a name stands for itself alone: page bytes are copied, zeroed, set and returned, names are copied and by that call compared, and nothing else is
+-- decided by them. No law stands here. Assumes nothing.
+use mathlib.Core.Path.{_≡_}
 use Prim.Native.Nat.{ℕ}
 use mathlib.Core.Bool.{Bool, true, false}
 use mathlib.Core.List.{List, [], _∷_, map}
@@ -12,8 +11,7 @@ use Rattle.types.specs.declared.Answer.the-variants.{Done, Malformed, OutOfRang
 use Rattle.types.specs.declared.Answer.the-variants.{WrongCells, HasRecords, Compared, SameBoard}
 use Rattle.types.specs.declared.Frame.{Frame}
 use Rattle.types.specs.declared.Record.{Record}
-use Rattle.model.specs.Definitions.Parts.{each}
-use Rattle.model.specs.Definitions.Bank.{Log, Area, Working, Stable, Board, Bank, boardOver}
+use Rattle.model.specs.Definitions.Bank.{Area, Working, Stable, Board, Bank}
 use Rattle.model.specs.Definitions.Steps.{Run, Access, Read, Write, ReadCells}
 use Rattle.model.specs.Definitions.Calls.{Result, Call, Accessing, Checkpointing, Fusing, Restarting, Comparing}
 use Rattle.model.specs.Moves.{Move, NoteShown, NoteGot, StoreRecord, StoreFrame, StoreHead, StoreSelector, GiveCopy, PassOwnership, DropCopies, Perform}
@@ -49,9 +47,9 @@ module _ (f : Change) where
   abbrev pub FramesAlike : List Frame → List Frame → Type 0
   FramesAlike = EachPair FrameAlike
 
-  -- records alike, as many of them; the slots behind them are not compared
-  pub record LogAlike (x y : Log) : Type 0 where
-    pub records : EachPair RecordAlike (x .records) (y .records)
+  -- records alike, as many of them
+  abbrev pub LogAlike : List Record → List Record → Type 0
+  LogAlike = EachPair RecordAlike
 
   -- the same access number, frames and log alike
   pub record AreaAlike (x y : Area) : Type 0 where
@@ -170,29 +168,20 @@ pub record ResultAlike (f : Change) (g : ℕ → ℕ) (x y : Result) : Type 0 wh
   pub run : RunAlike f (x .run) (y .run)
   pub given : y .given ≡ map (f .bytes) (x .given)
 
--- ---- banks that differ in slots that are never read, or in names too
+-- ---- banks that differ in names alone
 
--- the same page bytes, and names related in this way
-abbrev pub samePages : (Peers : ℕ → ℕ → Type 0) → ((b : ℕ) → Peers b b) → Change
-samePages Peers same = record { bytes = λ v. v; Peers = Peers; same = same }
+-- the same page bytes, and any name for any other
+abbrev pub anyNames : Change
+anyNames = record { bytes = λ v. v; Peers = λ x y. Unit; same = λ b. tt }
 
--- two banks that differ in no more than slots at or past a count
-abbrev pub SameBelowCounts : Bank → Bank → Type 0
-SameBelowCounts = Alike (samePages (λ x y. y ≡ x) (λ b. refl))
-
--- two banks that differ in no more than that, and in the boards that records name
+-- two banks that differ in no more than the boards that records name
 abbrev pub SameButNames : Bank → Bank → Type 0
-SameButNames = Alike (samePages (λ x y. Unit) (λ b. tt))
+SameButNames = Alike anyNames
 
--- the same answer, bytes given, stores and board lost, and banks that differ in no more than these may
-pub record SameAnswer (Same : Bank → Bank → Type 0) (x y : Result) : Type 0 where
+-- the same answer, bytes given, stores and board lost, and banks that differ in no more than the boards that records name
+pub record SameAnswer (x y : Result) : Type 0 where
   pub answer : y .answer ≡ x .answer
   pub given : y .given ≡ x .given
   pub stores : y .run .stores ≡ x .run .stores
   pub lost : y .run .lost ≡ x .run .lost
-  pub bank : Same (x .run .bank) (y .run .bank)
-
--- a bank with these bytes in the slots past the counts of each board
-unfoldable pub slotsOver : (volatile selected spare : ℕ → List ℕ) → Bank → Bank
-slotsOver volatile selected spare k =
-    record { directory = k .directory; boards = each (λ b x. boardOver (volatile b) (selected b) (spare b) x) (k .boards) }
+  pub bank : SameButNames (x .run .bank) (y .run .bank)

@@ -110,13 +110,13 @@ pub data MayPerform (a : Access) : List ℕ → Phase → Type 0 where
 pub record Saved (x : Board) : Type 0 where
   pub number : x .stable .spare .number ≡ x .working .number
   pub frames : x .stable .spare .frames ≡ x .working .frames
-  pub records : x .stable .spare .log .records ≡ []
+  pub records : x .stable .spare .log ≡ []
 
 -- an up board has stored all that it counted
 pub record Secure (x : Board) : Type 0 where
   pub up : x .state ≡ Up
   pub since : x .working .since ≡ 0
-  pub volatile : x .working .log .records ≡ []
+  pub volatile : x .working .log ≡ []
 
 -- board o has a right to page p, which another board takes, and has stored all that it counted
 pub record Gives (o d p : ℕ) (k : Bank) : Type 0 where

@@ -98,7 +98,7 @@ module _ {pages : ℕ} {a : Access} {x : Board} where
 
   module _ {s i since n : ℕ} (w : Walk pages a x s i since n) where
     abbrev records : List Record
-    records = x .stable .selected .log .records
+    records = x .stable .selected .log
 
     walk-due : gotsDue (drop i records) since ≡ due (w .board)
     unfolding due recordsLeft
@@ -110,7 +110,7 @@ module _ {pages : ℕ} {a : Access} {x : Board} where
     walk-place = rw (w .stable, w .at)
 
     -- no record is left: whatever is lacking is fetched live
-    pub walk-over : length (x .stable .selected .log .records) ≤ i → false ≡ differs a x
+    pub walk-over : length (x .stable .selected .log) ≤ i → false ≡ differs a x
     unfolding first
     walk-over l =
         let d : first (due (w .board)) ≡ none = rw (← walk-due, due-unready (drop i records) since (ready-past records i since l)) in
@@ -118,7 +118,7 @@ module _ {pages : ℕ} {a : Access} {x : Board} where
         sym (w .same ∙ differs-none a (x .working .frames) n (w .board) d ∙ rw o)
 
     -- no got is due: none may be lacking
-    pub walk-none : i < length (x .stable .selected .log .records) → first (gotsDue (drop i (x .stable .selected .log .records)) since) ≡ none
+    pub walk-none : i < length (x .stable .selected .log) → first (gotsDue (drop i (x .stable .selected .log)) since) ≡ none
         → (m : ℕ) → s < 2 ^ m → ((p : ℕ) → names a p ≡ true → p < pages) → not (eqb s 0) ≡ differs a x
     walk-none l h m k below =
         let d : first (due (w .board)) ≡ none = rw walk-due at h in
@@ -127,7 +127,7 @@ module _ {pages : ℕ} {a : Access} {x : Board} where
         lacking-test a (w .board .working .frames) m s k (λ p e. rw (w .frames) (below p e)) (w .set) in
         sym (w .same ∙ differs-none a (x .working .frames) n (w .board) d ∙ rw o (sym t))
 
-    module _ (r : Record) (h : first (gotsDue (drop i (x .stable .selected .log .records)) since) ≡ some r) where
+    module _ (r : Record) (h : first (gotsDue (drop i (x .stable .selected .log)) since) ≡ some r) where
       here : first (due (w .board)) ≡ some r
       here = rw walk-due at h
 

@@ -88,7 +88,7 @@ module _ (x : Board) (r : Record) (h : first (due x) ≡ some r) where
   pub due-next : due x ≡ r ∷ due (onWorking (tookGot r) x)
   unfolding due recordsLeft onWorking tookGot used
   due-next =
-      let rs : List Record = x .stable .selected .log .records in
+      let rs : List Record = x .stable .selected .log in
       let f : First (drop (x .working .place) rs) (x .working .since) r = first-some (drop (x .working .place) rs) (x .working .since) r h in
       let d : drop 1 (drop (x .working .place) rs) ≡ drop (x .working .place + 1) rs = drop-drop 1 (x .working .place) rs in
       f .all ∙ ap (λ (l : List Record). r ∷ gotsDue l 0) d

@@ -61,13 +61,13 @@ module _ {pages : ℕ} {l : List ℕ} (b : IsBlock pages l) where
   -- the record that is read at a place: its count equals since, or doesn't
   module _ (p s : ℕ) (r : Record) (h : p < storedCount (boardOf pages l))
       (g : r ≡ decodeRecord (part (selectedPart pages l) (areaSlotsAt pages + p * slotSize) slotSize)) where
-    read-at : readyIn (drop p (boardOf pages l .stable .selected .log .records)) s ≡ elim (eqb (r .count) s) [ true ↦ some r | false ↦ none ]
-    read-at = ready-here (boardOf pages l .stable .selected .log .records) p s r h (g ∙ stored-record b p r h)
+    read-at : readyIn (drop p (boardOf pages l .stable .selected .log)) s ≡ elim (eqb (r .count) s) [ true ↦ some r | false ↦ none ]
+    read-at = ready-here (boardOf pages l .stable .selected .log) p s r h (g ∙ stored-record b p r h)
 
-    pub ready-read : r .count ≡ s → readyIn (drop p (boardOf pages l .stable .selected .log .records)) s ≡ some r
+    pub ready-read : r .count ≡ s → readyIn (drop p (boardOf pages l .stable .selected .log)) s ≡ some r
     ready-read t = rw (eq-eqb (r .count) s t) at read-at
 
-    pub unready-read : (r .count ≡ s → ⊥) → readyIn (drop p (boardOf pages l .stable .selected .log .records)) s ≡ none
+    pub unready-read : (r .count ≡ s → ⊥) → readyIn (drop p (boardOf pages l .stable .selected .log)) s ≡ none
     unready-read t = rw (ne-eqb (r .count) s t) at read-at
 
 -- the place and the since that are read
@@ -101,6 +101,6 @@ valid-at l p since r ok h =
     (omega (arith, length-drop p l), each-head (rw (s .first) at (each-drop p l ok)))
 
 pub ready-valid : {pages : ℕ} (x : Board) (r : Record) → FieldsOk pages x → ready x ≡ some r
-    → (x .working .place < length (x .stable .selected .log .records)) × RecordOk pages r
+    → (x .working .place < length (x .stable .selected .log)) × RecordOk pages r
 unfolding ready recordsLeft
-ready-valid x r ok h = valid-at (x .stable .selected .log .records) (x .working .place) (x .working .since) r (ok .selected .log .records) h
+ready-valid x r ok h = valid-at (x .stable .selected .log) (x .working .place) (x .working .since) r (ok .selected .log .records) h

@@ -109,7 +109,7 @@ first-used : {pages : ℕ} (x : Board) (r : Record) → FieldsOk pages x → Rea
 unfolding usedUp recordsLeft used onWorking
 first-used x r ok s g =
     let w : Working = x .working in
-    let rs : List Record = x .stable .selected .log .records in
+    let rs : List Record = x .stable .selected .log in
     let fs : List Frame = framesAfter (r .kind) (w .frames) in
     let d : drop 1 (drop (w .place) rs) ≡ drop (w .place + 1) rs = drop-drop 1 (w .place) rs in
     let n : length (drop (w .place) rs) ≡ suc (length (drop 1 (drop (w .place) rs))) = ap length (s .first) in

@@ -40,7 +40,7 @@ fn is_got(kind: Kind) -> bool
 // The got at a place, if it is due there: "A got record is due when it is next and its count equals since."
 fn due_at(block: &[u8], pages: usize, place: usize, since: u32) -> NextRecord
     requires { ⌜ IsBlock pages (now block) ⌝ }
-    ensures { λ r. ⌜ r ≡ stood (first (gotsDue (drop place (boardOf pages (now (block .entry)) .stable .selected .log .records)) since)) ⌝ }
+    ensures { λ r. ⌜ r ≡ stood (first (gotsDue (drop place (boardOf pages (now (block .entry)) .stable .selected .log)) since)) ⌝ }
 {
     let next = ready_at(block, pages, place, since);
     if !next.found {

@@ -45,7 +45,7 @@ pub fn no_record() -> NextRecord
 // The stored record at a place, if there is one and its count equals since.
 pub fn ready_at(block: &[u8], pages: usize, place: usize, since: u32) -> NextRecord
     requires { ⌜ IsBlock pages (now block) ⌝ }
-    ensures { λ r. ⌜ r ≡ stood (readyIn (drop place (boardOf pages (now (block .entry)) .stable .selected .log .records)) since) ⌝ }
+    ensures { λ r. ⌜ r ≡ stood (readyIn (drop place (boardOf pages (now (block .entry)) .stable .selected .log)) since) ⌝ }
 {
     if selected::read_stored_count(block, pages) as usize <= place {
         return no_record();

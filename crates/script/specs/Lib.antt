@@ -1,6 +1,5 @@
--- The line runner: definitions, what they compute on document 01's cases.
+-- The line runner: definitions and laws.
 pub mod Definitions
 pub mod Feeding
 pub mod Contracts
 pub mod Laws
-pub mod Cases

@@ -1,11 +1,10 @@
 -- Words of the steps' contracts: a block, the board that it stands for, and what a flush does to a board. No law stands here.
 -- Assumes nothing.
 use mathlib.Core.Path.{_≡_}
-use Prim.Native.Nat.{ℕ, _*_, _≤_}
-use mathlib.Core.List.{List, [], _++_}
+use Prim.Native.Nat.{ℕ, _≤_}
+use mathlib.Core.List.{List, []}
 use Rattle.types.specs.declared.Record.{Record}
-use Rattle.model.specs.Definitions.Parts.{zeros}
-use Rattle.model.specs.Definitions.Layout.{mostPages, slotSize}
+use Rattle.model.specs.Definitions.Layout.{mostPages}
 use Rattle.model.specs.Definitions.Bank.{Board, withLog, onWorking, onSelected}
 use Rattle.model.specs.Definitions.Codec.{encodeBoard, decodeBoard}
 use Rattle.model.specs.Definitions.WellFormed.{FieldsOk}
@@ -25,6 +24,6 @@ pub record IsBlock (pages : ℕ) (l : List ℕ) : Type 0 where
 abbrev pub withStored : Record → Board → Board
 withStored r x = onSelected (withRecord r) x
 
--- the end of a flush of n records: none is volatile any more, their slots are zero, the other slots as they were
-unfoldable pub flushEnded : ℕ → Board → Board
-flushEnded n x = onWorking (withLog (record { records = []; rest = zeros (n * slotSize) ++ x .working .log .rest })) x
+-- the end of a flush: no record is volatile any more
+unfoldable pub flushEnded : Board → Board
+flushEnded x = onWorking (withLog []) x

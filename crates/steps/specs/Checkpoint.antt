@@ -3,14 +3,13 @@ use mathlib.Core.Path.{_≡_, _∙_}
 use Prim.Native.Nat.{ℕ, _+_, _*_, _≤_, _<_}
 use native.Mathlib.Omega.{arith}
 use mathlib.Core.Bool.{Bool, true, not}
-use mathlib.Core.List.{List, [], _∷_, _++_}
-use lib.ListN.{length, length-append}
+use mathlib.Core.List.{List, [], _∷_}
+use lib.ListN.{length}
 use lib.Dec.{eqb}
 use Rattle.words.specs.LittleEndian.{bytesOf, numberOf}
-use Rattle.words.specs.LittleEndianLaws.{length-bytesOf}
 use Rattle.types.specs.declared.Frame.{Frame}
 use Rattle.model.specs.Definitions.Parts.{part, splice, byteAt, zeros}
-use Rattle.model.specs.Definitions.Layout.{numberSize, sinceSize, frameSize, slotsSize, areaNumberAt, areaFramesAt, areaSize, areaAt, selectorAt, numberAt}
+use Rattle.model.specs.Definitions.Layout.{numberSize, sinceSize, frameSize, slotsSize, areaFramesAt, areaSize, areaAt, selectorAt, numberAt}
 use Rattle.model.specs.Definitions.Layout.{sinceAt, volatileCountAt, framesAt, slotsAt}
 use Rattle.model.specs.Definitions.Bank.{Board, frameAt, onWorking}
 use Rattle.model.specs.Definitions.Codec.{encodeFrame, decodeFrame, selectorByte, encodeBoard}
@@ -23,7 +22,7 @@ use Rattle.model.specs.Laws.BlockFields.{read-frame, read-number}
 use Rattle.model.specs.Laws.BlockStable.{area-in, selector-read, storedFrame-bytes, storedHead-bytes, storedSelector-bytes}
 use Rattle.model.specs.Laws.BlockWorking.{rested-bytes}
 use Rattle.model.specs.Laws.Valid.{frameOk-at}
-use Rattle.format.specs.Areas.{spareAt, withPart, withSpare}
+use Rattle.format.specs.Areas.{spareAt, withPart, withSpare, headStored}
 
 module _ (pages : ℕ) (l : List ℕ) (x : Board) (ok : FieldsOk pages x) (e : encodeBoard x ≡ l) where
   -- a splice in the spare area, lent as its own part
@@ -46,12 +45,11 @@ module _ (pages : ℕ) (l : List ℕ) (x : Board) (ok : FieldsOk pages x) (e : e
       rw s (spare-splice (areaFramesAt + p * frameSize) (encodeFrame g) (omega arith) ∙ storedFrame-bytes pages x ok p h)
 
   pub store-head-bytes : (n : ℕ) → n ≡ numberOf (part l numberAt numberSize)
-      → withSpare pages (λ a. splice a areaNumberAt (bytesOf numberSize n ++ (0 ∷ []))) l ≡ encodeBoard (storedHead x)
+      → withSpare pages (headStored pages n) l ≡ encodeBoard (storedHead x)
+  unfolding withPart spareAt
   store-head-bytes n q =
       let s : n ≡ x .working .number = q ∙ rw (← e) (read-number pages x ok) in
-      let v : List ℕ = bytesOf numberSize (x .working .number) ++ (0 ∷ []) in
-      let w : length v ≡ numberSize + 1 = simp (length-append, length-bytesOf) in
-      rw s (spare-splice areaNumberAt v (omega arith) ∙ storedHead-bytes pages x ok)
+      rw (s, ← e, selector-read pages x ok) (storedHead-bytes pages x ok)
 
   pub store-selector-bytes : (s : Bool) → s ≡ eqb (byteAt l selectorAt) (selectorByte true)
       → splice l selectorAt (selectorByte (not s) ∷ []) ≡ encodeBoard (storedSelector x)

@@ -1,21 +1,20 @@
 -- A flush as a loop over the block makes it: in each turn a record is appended and the fuse lowered, and behind the last the volatile log is emptied.
 -- It comes to what Definitions say store by store, at the end and wherever power is lost. Assumes nothing.
 use mathlib.Core.Path.{_≡_, refl, sym, ap, _∙_}
-use Prim.Native.Nat.{ℕ, suc, _+_, _*_, _≤_, _<_}
+use Prim.Native.Nat.{ℕ, suc, _+_, _≤_, _<_}
 use native.Mathlib.Omega.{arith}
-use mathlib.Core.List.{List, [], _++_}
+use mathlib.Core.List.{List, []}
 use lib.ListN.{drop, getD}
 use lib.Seq.{drop-length}
 use lib.Dec.{eqb}
 use Rattle.types.specs.declared.Record.{Record}
-use Rattle.model.specs.Definitions.Parts.{zeros}
-use Rattle.model.specs.Definitions.Layout.{slotSize, noFuse}
-use Rattle.model.specs.Definitions.Bank.{Log, Board, withLog, onWorking, onSelected}
+use Rattle.model.specs.Definitions.Layout.{noFuse}
+use Rattle.model.specs.Definitions.Bank.{Board, withLog, onWorking, onSelected}
 use Rattle.model.specs.Definitions.WellFormed.{FieldsOk, RoomOk}
 use Rattle.model.specs.Definitions.Steps.{poweredOff, withFuse, burnt, movedRecord, storedRecord}
 use Rattle.model.specs.Contracts.{storedCount, volatileCount}
 use Rattle.model.specs.Laws.Logic.{byBool, byEq}
-use Rattle.model.specs.Laws.BlockWorking.{flushedLog, next-record, poweredOff-log}
+use Rattle.model.specs.Laws.BlockWorking.{next-record, poweredOff-log}
 use Rattle.model.specs.Laws.BlockFlush.{flushing, flushing-count, flushing-fields, working-storedRecords, fuseAfter, fuseAfter-none, fuseAfter-set, storedBurnt}
 use Rattle.model.specs.Laws.BlockFlush.{storedBurnt-parts, storedBurnt-log}
 use Rattle.model.specs.Laws.BoardFields.{withFuse-fields}
@@ -38,33 +37,30 @@ pub flushTurns-fuse : (j : ℕ) (x : Board) → flushTurns j x .fuse ≡ storedB
 unfolding flushTurns onWorking
 flushTurns-fuse j x = refl
 
-burnt-log : (g : Log) (x : Board) → onWorking (withLog g) (burnt x) ≡ burnt (onWorking (withLog g) x)
+burnt-log : (g : List Record) (x : Board) → onWorking (withLog g) (burnt x) ≡ burnt (onWorking (withLog g) x)
 unfolding burnt onWorking withFuse
 burnt-log g x = byBool (eqb (x .fuse) noFuse) (λ t. cc) (λ t. cc)
 
 module _ (x : Board) (low : x .fuse ≤ noFuse) where
-  log-after : (j : ℕ) → j ≤ volatileCount x → storedBurnt j x .working .log ≡ flushedLog j (x .working .log)
+  log-after : (j : ℕ) → j ≤ volatileCount x → storedBurnt j x .working .log ≡ drop j (x .working .log)
   unfolding withFuse
   log-after j h = ap (λ (y : Board). y .working .log) (storedBurnt-parts j x low) ∙ ap (λ w. w .log) (working-storedRecords j x h)
 
   -- one turn
   pub flushTurns-next : (j : ℕ) (d : Record) → j < volatileCount x
-      → burnt (withStored (getD (x .working .log .records) j d) (flushTurns j x)) ≡ flushTurns (suc j) x
+      → burnt (withStored (getD (x .working .log) j d) (flushTurns j x)) ≡ flushTurns (suc j) x
   unfolding flushTurns storedBurnt onSelected onWorking movedRecord
   flushTurns-next j d h =
-      let g : Log = x .working .log in
+      let g : List Record = x .working .log in
       let y : Board = storedBurnt j x in
       ap (λ (z : Board). burnt (onWorking (withLog g) z)) (sym (next-record g j d y (log-after j (omega arith)) h)) ∙ sym (burnt-log g (storedRecord y))
 
   -- the end: n stores, the fuse lowered after each
-  pub flushTurns-ended : (n : ℕ) → n ≡ volatileCount x → flushEnded n (flushTurns n x) ≡ storedBurnt n x
-  unfolding flushEnded flushTurns onWorking flushedLog
+  pub flushTurns-ended : (n : ℕ) → n ≡ volatileCount x → flushEnded (flushTurns n x) ≡ storedBurnt n x
+  unfolding flushEnded flushTurns onWorking
   flushTurns-ended n e =
-      let g : Log = x .working .log in
-      let none : drop n (g .records) ≡ [] = rw e (drop-length (g .records)) in
-      let q : record { records = []; rest = zeros (n * slotSize) ++ g .rest } ≡ storedBurnt n x .working .log
-      = ap (λ (rs : List Record). record { records = rs; rest = zeros (n * slotSize) ++ g .rest }) (sym none) ∙ sym (log-after n (omega arith)) in
-      ap (λ (l : Log). onWorking (withLog l) (storedBurnt n x)) q
+      let none : drop n (x .working .log) ≡ [] = rw e (drop-length (x .working .log)) in
+      ap (λ (l : List Record). onWorking (withLog l) (storedBurnt n x)) (sym none ∙ sym (log-after n (omega arith)))
 
   -- what a turn reads: the volatile records as at first, the stored count j more
   module _ (j : ℕ) (h : j ≤ volatileCount x) where

@@ -6,7 +6,6 @@ use native.Mathlib.Omega.{arith}
 use mathlib.Core.Bool.{true}
 use mathlib.Core.List.{List, [], _∷_}
 use lib.ListN.{length}
-use lib.Seq.{drop-length}
 use lib.Dec.{eqb, leb}
 use borrow.Author.Tests.{le-leb, lt-leb, leb-true, leb-false}
 use Rattle.words.specs.LittleEndian.{bytesOf, numberOf}
@@ -20,12 +19,12 @@ use Rattle.model.specs.Definitions.Codec.{encodeRecord, decodeRecord, selectorB
 use Rattle.model.specs.Definitions.Steps.{recorded}
 use Rattle.model.specs.Definitions.WellFormed.{RecordOk, FieldsOk}
 use Rattle.model.specs.Laws.Logic.{byBool}
-use Rattle.model.specs.Laws.Parts.{length-splice, splice-within, splice-apart, byteAt-splice-before, index-in, length-decodeAll}
+use Rattle.model.specs.Laws.Parts.{length-splice, splice-within, byteAt-splice-left, index-in, length-decodeAll}
 use Rattle.model.specs.Laws.Codec.{length-encodeRecord}
 use Rattle.model.specs.Contracts.{storedCount, volatileCount, Recordable}
 use Rattle.model.specs.Laws.BlockFields.{read-since}
 use Rattle.model.specs.Laws.BlockStable.{area-in, withRecord-bytes}
-use Rattle.model.specs.Laws.BlockWorking.{recorded-bytes, flushedLog, flushed-bytes}
+use Rattle.model.specs.Laws.BlockWorking.{recorded-bytes, flushed-bytes}
 use Rattle.format.specs.Areas.{selectedAt, withPart, withSelected}
 use Rattle.steps.specs.Blocks.{IsBlock, boardOf, withStored, flushEnded}
 use Rattle.steps.specs.BlockLaws.{block-length}
@@ -65,7 +64,7 @@ module _ (pages : ℕ) (l : List ℕ) (n : length l ≡ blockSize pages) (b : �
   unfolding selectedAt
   selected-stays =
       let m : selectedAt pages l + areaSize pages ≤ blockSize pages = selected-in pages l in
-      rw (byteAt-splice-before l (selectedAt pages l + b) v selectorAt (omega arith) (omega arith))
+      rw (byteAt-splice-left l (selectedAt pages l + b) v selectorAt (omega arith) (omega arith))
 
 module _ {pages : ℕ} {l : List ℕ} (block : IsBlock pages l) where
   abbrev x : Board
@@ -107,8 +106,7 @@ module _ {pages : ℕ} {l : List ℕ} (block : IsBlock pages l) where
 
   -- a flush ended: the count, the slots of its records
   pub end-bytes : (n : ℕ) → n ≡ volatileCount (boardOf pages l)
-      → splice (splice l volatileCountAt (0 ∷ [])) (slotsAt pages) (zeros (n * slotSize)) ≡ encodeBoard (flushEnded n (boardOf pages l))
-  unfolding flushEnded flushedLog
+      → splice (splice l volatileCountAt (0 ∷ [])) (slotsAt pages) (zeros (n * slotSize)) ≡ encodeBoard (flushEnded (boardOf pages l))
+  unfolding flushEnded
   end-bytes n q =
-      splice-apart l volatileCountAt (slotsAt pages) (0 ∷ []) (zeros (n * slotSize)) (omega arith) (omega (arith, block-length block))
-      ∙ rw q (rw (block .back, drop-length (x .working .log .records)) at (flushed-bytes pages x (ok .working .frames) (ok .working .log)))
+      rw q (rw (block .back) at (flushed-bytes pages x (ok .working .frames) (ok .working .log)))

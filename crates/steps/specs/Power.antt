@@ -16,7 +16,8 @@ use Rattle.model.specs.Definitions.Codec.{encodeEntry, decodeEntry, stateByte, 
 use Rattle.model.specs.Definitions.Steps.{forgotten, withFuse, poweredOff}
 use Rattle.model.specs.Definitions.WellFormed.{FieldsOk}
 use Rattle.model.specs.Laws.BlockFields.{write-state, write-fuse, fixed-inside}
-use Rattle.model.specs.Laws.BlockWorking.{poweredOff-bytes, zeros-next}
+use Rattle.model.specs.Laws.BlockWorking.{poweredOff-bytes}
+use Rattle.model.specs.Laws.Zeros.{zeros-next}
 use Rattle.model.specs.Laws.BankSteps.{isBank-length, entry-of}
 use Rattle.model.specs.Contracts.{Fields, IsBank}
 use Rattle.model.specs.Laws.BankLoops.{forgottenFirst-all, forgetFirst, pages-forgetFirst, forgetFirst-waits, encode-forgetFirst}

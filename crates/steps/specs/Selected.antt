@@ -13,7 +13,6 @@ use Rattle.model.specs.Definitions.Bank.{frameAt}
 use Rattle.model.specs.Definitions.Codec.{decodeFrame, decodeRecord, encodeArea, selectorByte}
 use Rattle.model.specs.Contracts.{storedCount}
 use Rattle.model.specs.Laws.Codec.{area-count}
-use Rattle.model.specs.Laws.WrittenTests.{log-count}
 use Rattle.model.specs.Laws.BlockAreas.{area-number-read, area-frame-read, area-record-read}
 use Rattle.model.specs.Laws.BlockStable.{selector-read, selected-part}
 use Rattle.format.specs.Areas.{selectedAt, selectedPart}
@@ -37,12 +36,12 @@ module _ {pages : ℕ} {l : List ℕ} (b : IsBlock pages l) where
   stored-count = rw selected-bytes (area-count pages (boardOf pages l .stable .selected) (b .fields .selected))
 
   pub stored-most : storedCount (boardOf pages l) ≤ slotCount
-  stored-most = log-count pages (boardOf pages l .stable .selected .log) (b .fields .selected .log)
+  stored-most = b .fields .selected .log .count
 
   pub stored-frame : (p : ℕ) → p < pages
       → decodeFrame (part (selectedPart pages l) (areaFramesAt + p * frameSize) frameSize) ≡ frameAt (boardOf pages l .stable .selected .frames) p
   stored-frame p h = rw selected-bytes (area-frame-read pages (boardOf pages l .stable .selected) (b .fields .selected) p h)
 
   pub stored-record : (i : ℕ) (d : Record) → i < storedCount (boardOf pages l)
-      → decodeRecord (part (selectedPart pages l) (areaSlotsAt pages + i * slotSize) slotSize) ≡ getD (boardOf pages l .stable .selected .log .records) i d
+      → decodeRecord (part (selectedPart pages l) (areaSlotsAt pages + i * slotSize) slotSize) ≡ getD (boardOf pages l .stable .selected .log) i d
   stored-record i d h = rw selected-bytes (area-record-read pages (boardOf pages l .stable .selected) (b .fields .selected) i d h)

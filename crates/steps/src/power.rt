@@ -1,5 +1,5 @@
 // A power loss: the board's bits out of the directory, its block emptied but for its stable areas.
-use fields::bytes::clear;
+use fields::bytes::clear_at;
 use fields::copies::without_holder;
 use format::block::write_fuse;
 use format::block::write_state;
@@ -30,8 +30,7 @@ pub fn wipe(block: &mut [u8], pages: usize)
 {
     write_state(block, State::Down);
     write_fuse(block, NO_FUSE);
-    let size = area_at(pages, 0) - NUMBER_AT;
-    clear(&mut block[NUMBER_AT..NUMBER_AT + size]);
+    clear_at(block, NUMBER_AT, area_at(pages, 0) - NUMBER_AT);
 }
 
 // A page's copy-set without the board's bit.

@@ -1,5 +1,5 @@
 // Records of a board on its block: counted, noted in the volatile log, appended to the selected area; and the end of a flush.
-use fields::bytes::clear;
+use fields::bytes::clear_at;
 use fields::widths::SLOT_COUNT;
 use fields::widths::SLOT_SIZE;
 use format::block::read_since;
@@ -87,10 +87,8 @@ pub fn append_stored(block: &mut [u8], pages: usize, r: Record)
 // "zeroing their slots": those of the records that were stored, all `n` of them.
 pub fn end_flush(block: &mut [u8], pages: usize, n: usize)
     requires { ⌜ IsBlock pages (now block) × (n ≡ volatileCount (boardOf pages (now block))) ⌝ }
-    ensures { λ _. ⌜ now (block .exit) ≡ encodeBoard (flushEnded n (boardOf pages (now (block .entry)))) ⌝ }
+    ensures { λ _. ⌜ now (block .exit) ≡ encodeBoard (flushEnded (boardOf pages (now (block .entry)))) ⌝ }
 {
     write_volatile_count(block, 0);
-    let at = slots_at(pages);
-    let size = n * SLOT_SIZE;
-    clear(&mut block[at..at + size]);
+    clear_at(block, slots_at(pages), n * SLOT_SIZE);
 }

@@ -79,7 +79,7 @@ module _ {pages : ℕ} {x : Board} {p : ℕ} {l : List ℕ} (v : Saving pages x 
 -- head and selector keep every field in range
 module _ {pages : ℕ} {r : BoardRun} {l : List ℕ} {n : ℕ} (a : At pages r l n) where
   pub head-ok : FieldsOk pages (storedHead (boardOf pages l))
-  head-ok = storedHead-fields pages (boardOf pages l) (a .block .fields) (a .block .few)
+  head-ok = storedHead-fields pages (boardOf pages l) (a .block .fields)
 
   pub selector-ok : FieldsOk pages (storedSelector (boardOf pages l))
   selector-ok = storedSelector-fields pages (boardOf pages l) (a .block .fields)

@@ -79,15 +79,15 @@ module _ {pages : ℕ} {l : List ℕ} {n j : ℕ} {m : List ℕ} (v : Flushing p
   volatile = ap (λ (y : Board). y .working) board ∙ flushTurns-working x (b .fields .fuse) j few
 
   pub flushing-count : n ≡ volatileCount (boardOf pages m)
-  flushing-count = v .count ∙ ap (λ (y : Working). length (y .log .records)) (sym volatile)
+  flushing-count = v .count ∙ ap (λ (y : Working). length (y .log)) (sym volatile)
 
-  pub flushing-all : n ≤ j → {o : List ℕ} → o ≡ encodeBoard (flushEnded n (boardOf pages m)) → Ran (flushOn (boardOf pages l)) o n false
+  pub flushing-all : n ≤ j → {o : List ℕ} → o ≡ encodeBoard (flushEnded (boardOf pages m)) → Ran (flushOn (boardOf pages l)) o n false
   unfolding storeAllOn
   flushing-all h {o} w =
       let e : j ≡ n = omega (arith, v .below) in
       let z : n - j ≡ 0 = omega arith in
       let r : flushOn x ≡ going (storedBurnt j x) j = rw z at (v .run) in
-      rw r (w ∙ ap encodeBoard (ap (flushEnded n) board ∙ rw e (flushTurns-ended x (b .fields .fuse) n (v .count))), sym e, refl)
+      rw r (w ∙ ap encodeBoard (ap flushEnded board ∙ rw e (flushTurns-ended x (b .fields .fuse) n (v .count))), sym e, refl)
 
   module _ (h : j < n) where
     -- the slot of the next record lies in the block
@@ -99,16 +99,16 @@ module _ {pages : ℕ} {l : List ℕ} {n j : ℕ} {m : List ℕ} (v : Flushing p
     flushing-room = rw board (omega (arith, v .room, v .count, flushTurns-stored x (b .fields .fuse) j few))
 
     module _ {r : Record} (read : r ≡ decodeRecord (part m (slotsAt pages + j * slotSize) slotSize)) where
-      next-read : r ≡ getD (x .working .log .records) j r
+      next-read : r ≡ getD (x .working .log) j r
       next-read =
           let i : j < volatileCount (boardOf pages m) = omega (arith, flushing-count) in
           read
           ∙ ap (λ (y : List ℕ). decodeRecord (part y (slotsAt pages + j * slotSize) slotSize)) (sym (flushing-block .back))
           ∙ read-record pages (boardOf pages m) (flushing-block .fields) j r i
-          ∙ ap (λ (y : Working). getD (y .log .records) j r) volatile
+          ∙ ap (λ (y : Working). getD (y .log) j r) volatile
 
       pub flushing-ok : RecordOk pages r
-      flushing-ok = rw next-read (each-getD (x .working .log .records) j r (b .fields .working .log .records) (omega (arith, v .count)))
+      flushing-ok = rw next-read (each-getD (x .working .log) j r (b .fields .working .log .records) (omega (arith, v .count)))
 
       module _ {a : List ℕ} (w : a ≡ encodeBoard (withStored r (boardOf pages m))) where
         appended-ok : FieldsOk pages (withStored r (boardOf pages m))
@@ -120,7 +120,7 @@ module _ {pages : ℕ} {l : List ℕ} {n j : ℕ} {m : List ℕ} (v : Flushing p
         -- the fuse lowered, the turn is done
         turned : burnt (boardOf pages a) ≡ flushTurns (suc j) x
         turned =
-            let e : withStored r (boardOf pages m) ≡ withStored (getD (x .working .log .records) j r) (flushTurns j x)
+            let e : withStored r (boardOf pages m) ≡ withStored (getD (x .working .log) j r) (flushTurns j x)
             = ap (λ (y : Board). withStored r y) board ∙ ap (λ (q : Record). withStored q (flushTurns j x)) next-read in
             ap burnt (board-written (withStored r (boardOf pages m)) (b .few) appended-ok w ∙ e)
             ∙ flushTurns-next x (b .fields .fuse) j r (omega (arith, v .count))

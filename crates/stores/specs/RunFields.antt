@@ -8,7 +8,7 @@ use lib.Dec.{eqb}
 use Rattle.types.specs.declared.Kind.{Kind}
 use Rattle.types.specs.declared.Record.{Record}
 use Rattle.model.specs.Definitions.Layout.{mostPages}
-use Rattle.model.specs.Definitions.Bank.{Board, emptyLog, onWorking}
+use Rattle.model.specs.Definitions.Bank.{Board, onWorking}
 use Rattle.model.specs.Definitions.Steps.{poweredOff, burnt, appended, recorded, storedRecord, recordStores, storedFrame, storedHead, storedSelector}
 use Rattle.model.specs.Definitions.Steps.{checkpointStores, restedWorking}
 use Rattle.model.specs.Definitions.BoardRuns.{BoardRun, startOn, spent, storeOn, storeAllOn, flushOn, loggedOn, checkpointOn}
@@ -17,7 +17,6 @@ use Rattle.model.specs.Laws.Logic.{byBool, cases}
 use Rattle.model.specs.Laws.Lists.{foldl-keeps}
 use Rattle.model.specs.Laws.Boards.{storedRecord-cases}
 use Rattle.model.specs.Laws.Runs.{each-recordStores, each-checkpointStores}
-use Rattle.model.specs.Laws.WrittenTests.{log-count}
 use Rattle.model.specs.Laws.Runs.Stores.{burnt-working, burnt-stable, flushed-storedRecord}
 use Rattle.model.specs.Laws.BlockFlush.{storedRecords, storedRecords-fields}
 use Rattle.model.specs.Laws.BoardFields.{recorded-fields, burnt-fields, poweredOff-fields, storedFrame-fields, storedHead-fields, storedSelector-fields}
@@ -44,7 +43,7 @@ module _ {pages : ℕ} where
       foldl-keeps (λ s. FieldsOk pages (s .board)) _ (checkpointStores n)
       (each-checkpointStores
       (λ p. storeOn-fields (storedFrame p) (λ y o. storedFrame-fields pages y o p))
-      (storeOn-fields storedHead (λ y o. storedHead-fields pages y o few))
+      (storeOn-fields storedHead (λ y o. storedHead-fields pages y o))
       (storeOn-fields storedSelector (storedSelector-fields pages))
       n)
       (startOn x) ok in
@@ -57,7 +56,7 @@ pub recorded-room : (kind : Kind) (peer : ℕ) (bytes : List ℕ) (x : Board) �
 unfolding onWorking recorded appended
 recorded-room kind peer bytes x h =
     let r : Record = record { count = x .working .since; kind = kind; peer = peer; bytes = bytes } in
-    rw (length-append (x .working .log .records) (r ∷ [])) (omega arith)
+    rw (length-append (x .working .log) (r ∷ [])) (omega arith)
 
 -- stored and volatile together stay as many
 room-storedRecord : (x : Board) → RoomOk x → RoomOk (storedRecord x)
@@ -67,16 +66,16 @@ room-storedRecord x h =
     omega (
       arith,
       ap length e,
-      length-append (storedRecord x .stable .selected .log .records) (storedRecord x .working .log .records),
-      length-append (x .stable .selected .log .records) (x .working .log .records),
+      length-append (storedRecord x .stable .selected .log) (storedRecord x .working .log),
+      length-append (x .stable .selected .log) (x .working .log),
     )
 
 module _ {pages : ℕ} where
   room-spent : (x : Board) → FieldsOk pages x → RoomOk x → RoomOk (spent x)
-  unfolding spent poweredOff emptyLog
+  unfolding spent poweredOff
   room-spent x ok h =
       cases RoomOk (eqb (burnt x .fuse) 0)
-      (λ t. rw (burnt-stable x) (omega (arith, log-count pages (x .stable .selected .log) (ok .selected .log))))
+      (λ t. rw (burnt-stable x) (omega (arith, ok .selected .log .count)))
       (λ t. rw (burnt-working x, burnt-stable x) h)
 
   storedRecord-fields : (x : Board) → FieldsOk pages x → RoomOk x → FieldsOk pages (storedRecord x)

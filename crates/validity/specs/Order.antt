@@ -19,15 +19,16 @@ use Rattle.model.specs.Definitions.Layout.{bankSizeIn, Form}
 use Rattle.model.specs.Definitions.Parts.{part, byteAt, every, everyFrom, everyBelow, member}
 use Rattle.model.specs.Definitions.Codec.{rightByte, decodeEntry, decodeFrame, stateByte, stateOf, selectorByte}
 use Rattle.model.specs.Definitions.Check.{isZero, frameValid, framesValid, pageAgrees, headValid, directoryValid, countsValid, allFramesValid, fieldsValid}
-use Rattle.model.specs.Definitions.Check.{selectedCount, isBlank, stateValid, boardValid, pageAgreesAt, pagesAgree, blockFits, slotValid, slotPeerValid, recordsPass, directoryOf}
-use Rattle.model.specs.Definitions.Check.{blockOfIn, blocksFit, logsValid, peersValid, wellFormedIn}
+use Rattle.model.specs.Definitions.Check.{selectedCount, isBlank, stateValid, boardValid, pageAgreesAt, pagesAgree, blockFits, slotValid, slotPeerValid}
+use Rattle.model.specs.Definitions.Check.{recordsPass, directoryOf}
+use Rattle.model.specs.Definitions.Check.{blockOfIn, blocksFit, logsValid, peersValid, formedIn}
 use Rattle.words.specs.LittleEndian.{numberOf}
 use Rattle.model.specs.Laws.Logic.{byBool, and-left, and-right}
 use Rattle.model.specs.Laws.Lists.{each-of-getD, each-every, everyBelow-all}
 use Rattle.model.specs.Laws.Parts.{part-join, part-part, byteAt-first}
 use Rattle.model.specs.Laws.Tests.{zero-append}
 use Rattle.model.specs.Laws.CodecBank.{stateOf-stateByte}
-use Rattle.model.specs.Laws.CodecBankBack.{head-ok}
+use Rattle.model.specs.Laws.CodecBankBack.{BytesOk, head-ok}
 use Rattle.validity.specs.Pieces.{holdsNone, Holders, frameAgrees, storedFramesValid, storedPageValid, fixedFieldsValid, blankFields, ownFramesValid}
 use Rattle.validity.specs.Pieces.{ownPageAgrees, ownPageZero, stateFieldsValid, boardFieldsValid, framesAgree, downFramesValid, framesFit, recordValid}
 use Rattle.validity.specs.Search.{below-more, below-both, records-both}
@@ -50,20 +51,26 @@ module _ (form : Form) where
   pub no-head : (s : List ℕ) → length s < headSize → false ≡ headValid form s
   no-head s h = byBool (headValid form s) (λ t. absurd (omega (arith, head-ok s t .size))) (λ t. sym t)
 
-  pub not-well-formed : (named : Bool) (s : List ℕ) → headValid form s ≡ false → wellFormedIn form named s ≡ false
-  unfolding wellFormedIn
-  not-well-formed named s head = rw (head, wellFormedIn)
+  pub not-well-formed : (named : Bool) (s : List ℕ) → headValid form s ≡ false → formedIn form named s ≡ false
+  unfolding formedIn
+  not-well-formed named s head = rw (head, formedIn)
 
   -- with the numbers of boards and pages as the check read them; every element of a slice is a byte
   pub well-formed-left : (named : Bool) (s : List ℕ) {boards pages : ℕ} → boards ≡ byteAt s boardsAt → pages ≡ byteAt s pagesAt
       → ((i : ℕ) → i < length s → getD s i 0 < byteValues)
       → headValid form s ≡ true
-      → wellFormedIn form named s ≡ (directoryValid boards pages (directoryOf pages s)
+      → formedIn form named s ≡ (directoryValid boards pages (directoryOf pages s)
       && (blocksFit form boards pages s && (logsValid form boards pages s && peersValid form named boards pages s)))
-  unfolding wellFormedIn
+  unfolding formedIn
   well-formed-left named s p q bytes head =
       let all = each-every (λ b. ltb b byteValues) s (λ b h. lt-ltb b byteValues h) (each-of-getD s 0 bytes) in
-      rw (head, wellFormedIn, all, ← p, ← q)
+      rw (head, formedIn, all, ← p, ← q)
+
+-- a bank that passed, with these numbers as the check read them: the counts of a block
+pub counts-passed : {form : Form} {named : Bool} (s : List ℕ) {boards pages : ℕ} → boards ≡ byteAt s boardsAt → pages ≡ byteAt s pagesAt
+    → BytesOk form named s → (b : ℕ) → b < boards → countsValid form pages (blockOfIn form pages s b) ≡ true
+unfolding blockFits fieldsValid
+counts-passed s p q ok b h = let fits = ok .fits b (rw p at h) in rw q (search (and-left, and-right))
 
 -- ---- a block, in the order in which the code tests it
 

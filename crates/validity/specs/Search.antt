@@ -116,11 +116,11 @@ module _ (form : Form) (pages : ℕ) (l : List ℕ) where
       (λ n. omega (arith, area-at log n, area-inside form pages log (omega arith)))
 
   module _ (counts : countsValid form pages l ≡ true) where
-    few-volatile : byteAt l (volatileCountAtIn form) ≤ slotCount
+    pub few-volatile : byteAt l (volatileCountAtIn form) ≤ slotCount
     unfolding countsValid
     few-volatile = leb-true (byteAt l (volatileCountAtIn form)) slotCount (and-left _ _ counts)
 
-    few-stored : (area : ℕ) → area < 2 → areaCount form pages area l ≤ slotCount
+    pub few-stored : (area : ℕ) → area < 2 → areaCount form pages area l ≤ slotCount
     unfolding countsValid
     few-stored zero h = leb-true (areaCount form pages 0 l) slotCount (search (and-left, and-right))
     few-stored (suc zero) h = leb-true (areaCount form pages 1 l) slotCount (search (and-left, and-right))
@@ -134,7 +134,7 @@ module _ (form : Form) (pages : ℕ) (l : List ℕ) where
         (λ n. omega (arith, area-count log n, few-stored log (omega arith)))
 
 module _ (form : Form) (test : List ℕ → Bool) (pages : ℕ) (l : List ℕ) where
-  -- the records of a log are those below its count; past it every slot may hold anything
+  -- the records of a log are those below its count; of a slot past it nothing is asked here
   records-below : (a count : ℕ) → count ≤ slotCount
       → everyBelow slotCount (recordPasses form test a count l) ≡ everyBelow count
       (λ i. test (part l (a + i * slotSizeIn form) (slotSizeIn form)))

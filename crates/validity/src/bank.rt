@@ -1,10 +1,11 @@
-// Whether bytes are a well-formed bank: head, directory, every block, and the search for a malformed slot.
+// Whether bytes are a well-formed bank: head, directory, every block, the search for a malformed slot, and in today's form the slots behind the records.
 use crate::block::area_count;
 use crate::block::block_fits;
 use crate::block::volatile_count;
 use crate::parts::all_holders;
 use crate::parts::directory_valid;
 use crate::parts::record_valid;
+use crate::slots::slots_clean;
 use fields::bytes::wide;
 use fields::widths::SINCE_SIZE;
 use format::layout::BOARDS_AT;
@@ -29,7 +30,7 @@ ghost use mathlib.Core.Bool.{_&&_};
 ghost use Prim.Native.Nat.{_≤_, _<_};
 ghost use lib.Dec.{ltb, leb};
 ghost use Rattle.model.specs.Definitions.Layout.{mostPages, formOf, sinceSize};
-ghost use Rattle.model.specs.Definitions.Check.{headValid, blocksFit, logsValid, peersValid, wellFormedIn, wellFormed};
+ghost use Rattle.model.specs.Definitions.Check.{headValid, blocksFit, logsValid, peersValid, formedIn, wellFormed};
 ghost use Rattle.validity.specs.Sizes.{BlockSized, BankSized};
 ghost use Rattle.validity.specs.Pieces.{logs, logCount, logSlotsAt};
 
@@ -145,10 +146,11 @@ fn boards_valid(bank: &[u8], since: usize, named: bool, boards: usize, pages: us
 
 // ---- the whole
 
-// "Well formed means: ..", of any slice in a form, in which records name a board or don't: the answer is the definition's.
-pub fn well_formed_in(bank: &[u8], since: usize, named: bool) -> bool
+// "Well formed means: ..", of any slice in a form, in which records name a board or don't: the answer is the definition's. A slot at or past a count may hold
+// anything here, as it did before F-8.
+pub fn formed_in(bank: &[u8], since: usize, named: bool) -> bool
     requires { ⌜ since ≤ sinceSize ⌝ }
-    ensures { λ r. ⌜ r ≡ wellFormedIn (formOf since) named (now (bank .entry)) ⌝ }
+    ensures { λ r. ⌜ r ≡ formedIn (formOf since) named (now (bank .entry)) ⌝ }
 {
     if !head_valid(bank, since) {
         return false;
@@ -162,9 +164,12 @@ pub fn well_formed_in(bank: &[u8], since: usize, named: bool) -> bool
     boards_valid(bank, since, named, boards, pages)
 }
 
-// The same in today's form, in which they do.
+// The same in today's form, in which they do, and in which the slots at or past a count are zero.
 pub fn well_formed(bank: &[u8]) -> bool
     ensures { λ r. ⌜ r ≡ wellFormed (now (bank .entry)) ⌝ }
 {
-    well_formed_in(bank, SINCE_SIZE, true)
+    if !formed_in(bank, SINCE_SIZE, true) {
+        return false;
+    }
+    slots_clean(bank)
 }

@@ -3,3 +3,4 @@ pub mod bank;
 mod block;
 pub mod counts;
 mod parts;
+mod slots;

@@ -34,7 +34,7 @@ ghost use Rattle.model.specs.Definitions.Codec.{decodeEntry};
 ghost use Rattle.model.specs.Definitions.Check.{isZero, frameValid, framesValid, gotMark, bareMark, slotValid, peerAllowed, entryValid, directoryValid};
 ghost use Rattle.validity.specs.Pieces.{wordSize, pageBits, Holders, recordValid};
 
-// The `n` bytes at a place are all zero: no bit is set in any, which takes no branch for each byte. For since, whose width is the form's.
+// The `n` bytes at a place are all zero: no bit is set in any, which takes no branch for each byte. For since, whose width is the form's, and for slots.
 pub fn zero_run(s: &[u8], at: usize, n: usize) -> bool
     requires { ⌜ at + n ≤ length (now s) ⌝ }
     ensures { λ r. ⌜ r ≡ isZero (part (now (s .entry)) at n) ⌝ }

@@ -1,9 +1,10 @@
-//! Both engines on the same bytes: the archive by its ten C names, the second engine in place.
+//! Both engines on the same bytes: the archive by its eleven C names, the second engine in place.
 //! An answer is the number that C gets: code + 2^8 who + 2^16 stores + 2^32 value.
 
 use second::adopt;
 use second::calls::{self, Answer, Call};
 use second::check::passes;
+use second::clean::clean;
 use second::convert;
 use second::fault::Fault;
 use second::layout::{Form, NEWEST, OLDER};
@@ -33,6 +34,7 @@ extern "C" {
     fn bank_convert(old: *const u8, old_len: usize, new: *mut u8, new_len: usize) -> u64;
     fn bank_adopt(bank: *mut u8, len: usize) -> u64;
     fn bank_compare_logs(bank: *mut u8, len: usize, board: u32, other: u32) -> u64;
+    fn bank_clean(bank: *mut u8, len: usize) -> u64;
 }
 
 /// A call of the archive that is lent the bank alone, as all are that the runner has a line for.
@@ -48,6 +50,7 @@ fn archive_lent(bank: &mut [u8], line: &Line, cells: &mut [u8], out: &mut [u8]) 
     unsafe {
         match *line {
             Line::Make { boards, pages } => bank_make(at, len, boards, pages),
+            Line::Clean => bank_clean(at, len),
             Line::Call(Call::Read {
                 board,
                 page,
@@ -188,12 +191,9 @@ impl Pair {
     }
 
     fn take_second(&mut self, line: &Line, out: &mut [u8]) -> u64 {
-        if let Line::Make { boards, pages } = line {
-            let answer = calls::make(&mut self.second, *boards, *pages);
-            self.watch = watch_of(&self.second, self.fault);
-            return packed(&answer);
-        }
-        let call = call_for(line, self.fault).expect("every line but a making asks for a call");
+        let Some(call) = call_for(line, self.fault) else {
+            return self.take_whole(line);
+        };
         packed(&calls::call(
             &mut self.second,
             &call,
@@ -201,6 +201,16 @@ impl Pair {
             self.fault,
             &mut self.watch,
         ))
+    }
+
+    /// A making or a cleaning: the bytes may be no bank before it, so there are no notes to go on with.
+    fn take_whole(&mut self, line: &Line) -> u64 {
+        let answer = match line {
+            Line::Make { boards, pages } => calls::make(&mut self.second, *boards, *pages),
+            _ => clean(&mut self.second, self.fault),
+        };
+        self.watch = watch_of(&self.second, self.fault);
+        packed(&answer)
     }
 }
 

@@ -1,9 +1,11 @@
 //! Compares the archive of the proved engine with the second engine, call by call: the answer and all bytes of every
 //! buffer. It ends at the first difference, with status 1.
 
+mod cleaned;
 // Some of it is for show and the bench alone.
 #[allow(dead_code)]
 mod engines;
+mod littered;
 mod met;
 mod place;
 
@@ -17,6 +19,7 @@ use second::fault::{self, Fault, FAULTS};
 use second::fetches::Fetch;
 use second::gen::{Generator, LONG_SCRIPT};
 use second::layout::{Layout, EARLIER, NEWEST, OLDER};
+use second::leftovers;
 use second::line::Line;
 use second::made;
 use second::random::Random;
@@ -59,13 +62,15 @@ impl Comparing {
         while self.left() > 0 {
             match self.random.below(100) {
                 0..=4 => self.script()?,
-                5..=46 => self.made()?,
-                47..=52 => self.compared()?,
-                53..=64 => self.conversions()?,
-                65..=74 => self.adoptions()?,
+                5..=43 => self.made()?,
+                44..=49 => self.compared()?,
+                50..=59 => self.conversions()?,
+                60..=68 => self.adoptions()?,
                 _ if self.fault.trusts_its_bank() => self.made()?,
-                75..=85 => self.damaged()?,
-                86..=92 => self.misnamed()?,
+                69..=77 => self.damaged()?,
+                78..=84 => self.misnamed()?,
+                85..=88 => self.littered()?,
+                89..=92 => self.cleanings()?,
                 93 | 94 => self.wrong_length()?,
                 95 => self.old_form()?,
                 96 => self.unnamed()?,
@@ -85,8 +90,18 @@ impl Comparing {
     }
 
     fn take(&mut self, source: Source, pair: &mut Pair, line: &Line) -> Found {
+        self.answered(source, pair, line).map(drop)
+    }
+
+    /// The same, with the packed answer; none if there are calls enough.
+    fn answered(
+        &mut self,
+        source: Source,
+        pair: &mut Pair,
+        line: &Line,
+    ) -> Result<Option<u64>, Box<Difference>> {
         if self.left() == 0 {
-            return Ok(());
+            return Ok(None);
         }
         // Which case it is can be told of well-formed banks.
         let (shelf, fetch, comparison) = match (source, line) {
@@ -108,7 +123,7 @@ impl Comparing {
         if let Some(comparison) = comparison {
             self.met.comparison(source, &comparison, answer);
         }
-        Ok(())
+        Ok(Some(answer))
     }
 
     fn convert(&mut self, source: Source, old: &[u8], target: &[u8]) -> Found {
@@ -289,10 +304,13 @@ impl Comparing {
         Ok(())
     }
 
-    /// A bank of the earlier form that wasn't adopted: one with records may look well formed, since a zero byte names
-    /// board 0.
+    /// A bank of the earlier form that wasn't adopted, mostly without leftovers: one with records may look well formed,
+    /// since a zero byte names board 0.
     fn unnamed(&mut self) -> Found {
-        let bank = self.earlier_bank_with_records();
+        let mut bank = self.earlier_bank_with_records();
+        if self.random.permille(700) {
+            bank = leftovers::cleaned::<EARLIER>(&bank);
+        }
         let mut pair = self.pair(Source::Unnamed, &bank);
         for _ in 0..4 {
             let line = asked::any(&mut self.random, Layout::of(&bank), 970);

@@ -1,6 +1,7 @@
 //! What a run met: calls by kind and code, calls and banks by source.
 
 use crate::engines::unpacked;
+use crate::littered::Littered;
 use second::calls::Call;
 use second::cases::Cases;
 use second::comparisons::{self, Comparison};
@@ -18,6 +19,7 @@ pub enum Source {
     Length,
     OldForm,
     Unnamed,
+    Littered,
     Compared,
     Making,
     Converted,
@@ -30,9 +32,15 @@ pub enum Source {
     AdoptedNamed,
     AdoptedDamaged,
     AdoptedLength,
+    Cleaned,
+    CleanedClean,
+    CleanedDamaged,
+    CleanedEarlier,
+    CleanedLength,
+    CleanedAny,
 }
 
-const SOURCES: [&str; 19] = [
+const SOURCES: [&str; 26] = [
     "random scripts from a fresh bank",
     "well-formed banks made by hand",
     "banks with damaged bytes",
@@ -40,6 +48,7 @@ const SOURCES: [&str; 19] = [
     "banks of a wrong length",
     "old banks, not converted",
     "earlier banks, not adopted",
+    "banks with one byte in a slot past a count",
     "banks whose logs are compared, one record after another changed",
     "makings in any buffer",
     "conversions of old banks without records",
@@ -52,6 +61,12 @@ const SOURCES: [&str; 19] = [
     "adoptions of banks of the newest form",
     "adoptions of damaged earlier banks",
     "adoptions of banks of another length",
+    "cleanings of banks with leftovers",
+    "cleanings of clean banks",
+    "cleanings of damaged banks with leftovers",
+    "cleanings of earlier banks",
+    "cleanings of banks of another length",
+    "cleanings of any bank",
 ];
 
 /// The logs in which one record names another board, and what that is.
@@ -63,7 +78,7 @@ const NAMED: [&str; 3] = [
 ];
 
 /// The scripts' letters, a fuse of 0 apart from the others, and which codes each call can answer.
-const KINDS: [(&str, &[usize]); 11] = [
+const KINDS: [(&str, &[usize]); 12] = [
     ("N", &[0, 1, 2]),
     ("R", &[0, 1, 2, 3, 4, 5, 6, 7, 8]),
     ("W", &[0, 1, 2, 3, 4, 5, 6, 7, 8]),
@@ -73,13 +88,14 @@ const KINDS: [(&str, &[usize]); 11] = [
     ("F", &[0, 1, 2, 3]),
     ("S", &[0, 1, 2, 3]),
     ("T", &[0, 1, 2, 12]),
+    ("Z", &[0, 1]),
     ("convert", &[0, 1, 11]),
     ("adopt", &[0, 1, 11]),
 ];
 const CODES: [usize; 12] = [0, 1, 2, 3, 4, 5, 6, 7, 8, 10, 11, 12];
 const MOST_CODE: usize = 12;
-const CONVERT: usize = 9;
-const ADOPT: usize = 10;
+const CONVERT: usize = 10;
+const ADOPT: usize = 11;
 
 /// The two kinds of banks whose fetches and comparisons are looked at.
 const LOOKED_AT: [&str; 2] = ["random scripts", "made by hand"];
@@ -95,10 +111,14 @@ pub struct Met {
     comparisons: [Cases<Comparison>; 2],
     /// Banks in which one record names another board, by its log and that board.
     misnamed: [[u64; NAMED.len()]; LOGS.len()],
+    littered: Littered,
+    /// Calls of each kind on banks that had leftovers and were cleaned, but for those with code 1.
+    behind: [u64; KINDS.len()],
 }
 
 fn kind_of(line: &Line) -> usize {
     match line.call() {
+        None if *line == Line::Clean => 9,
         None => 0,
         Some(Call::Read { .. }) => 1,
         Some(Call::Write { .. }) => 2,
@@ -121,7 +141,34 @@ impl Met {
             fetches: [fetches::cases(), fetches::cases()],
             comparisons: [comparisons::cases(), comparisons::cases()],
             misnamed: Default::default(),
+            littered: Littered::default(),
+            behind: Default::default(),
         }
+    }
+
+    /// A bank that differs from a clean one in one byte of a slot past a count.
+    pub fn littered(&mut self, clean: &[u8], bank: &[u8]) {
+        self.littered.count(clean, bank);
+    }
+
+    /// A call behind a cleaning that zeroed something.
+    pub fn behind(&mut self, line: &Line, answer: u64) {
+        self.behind_cleaning(kind_of(line), answer);
+    }
+
+    pub fn adoption_behind(&mut self, answer: u64) {
+        self.behind_cleaning(ADOPT, answer);
+    }
+
+    fn behind_cleaning(&mut self, kind: usize, answer: u64) {
+        self.behind[kind] += (unpacked(answer).code != 1) as u64;
+    }
+
+    /// The kinds of calls that can come behind a cleaning: a conversion is of another bank.
+    fn behind_rows(&self) -> impl Iterator<Item = (&'static str, u64)> + '_ {
+        let rows = KINDS.iter().zip(&self.behind).enumerate();
+        rows.filter(|(kind, _)| *kind != CONVERT)
+            .map(|(_, ((name, _), count))| (*name, *count))
     }
 
     /// The record in whose byte 3 two banks differ: which log it is in, and whom it names now.
@@ -208,6 +255,10 @@ impl Met {
         println!("one record names another board:");
         self.misnamed_rows()
             .for_each(|(name, count)| println!("  {name}: {count}"));
+        self.littered.print();
+        println!("calls that a cleaned bank takes:");
+        self.behind_rows()
+            .for_each(|(name, count)| println!("  {name}: {count}"));
         self.shelves.print();
         for (at, source) in LOOKED_AT.iter().enumerate() {
             print!("{source}: ");
@@ -218,8 +269,8 @@ impl Met {
         println!("never met: {}", self.never_met());
     }
 
-    /// Calls with a code that they can answer and didn't, and cases of names, shelf calls, fetches and comparisons that
-    /// didn't come.
+    /// Calls with a code that they can answer and didn't, and cases of names, slots, calls behind a cleaning, shelf calls,
+    /// fetches and comparisons that didn't come.
     fn never_met(&self) -> String {
         let mut missing: Vec<String> = KINDS
             .iter()
@@ -233,6 +284,9 @@ impl Met {
             .collect();
         let misnamed = self.misnamed_rows().filter(|(_, count)| *count == 0);
         missing.extend(misnamed.map(|(name, _)| name));
+        missing.extend(self.littered.missing());
+        let behind = self.behind_rows().filter(|(_, count)| *count == 0);
+        missing.extend(behind.map(|(name, _)| format!("{name} on a cleaned bank")));
         missing.extend(self.shelves.missing().map(String::from));
         for (at, source) in LOOKED_AT.iter().enumerate() {
             let fetches = self.fetches[at].missing();

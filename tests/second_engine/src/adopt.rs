@@ -1,24 +1,23 @@
 //! The adoption: takes over a bank of the earlier form, whose records name no board. It passes as it is if it has none.
 
 use crate::calls::Answer;
-use crate::check::{self, has_records_in, Counts};
+use crate::check::{self, has_records_in, Logs};
 use crate::fault::Fault;
 use crate::layout::*;
 
 /// Code 1 for a bank that isn't well formed by the earlier rule, then code 11 for one that has a record in a volatile log
-/// or in either area; else code 0. No byte is written.
+/// or in either area; else code 0. No byte is written: what has leftovers has to be cleaned before another call takes it.
 pub fn adopt(bank: &mut [u8], fault: Fault) -> Answer {
     let answer = answer(bank, fault);
     if fault == Fault::AdoptWrites && answer.code == 0 {
-        let runs = Layout::of(bank).past_counts(bank);
-        runs.into_iter().for_each(|run| bank[run].fill(0));
+        Layout::of(bank).clear_past_counts(bank);
     }
     answer
 }
 
 fn answer(bank: &[u8], fault: Fault) -> Answer {
     let has_head = check::head_fits::<EARLIER>(bank);
-    let has_records = has_head && has_records_in::<EARLIER>(bank, counts(fault));
+    let has_records = has_head && has_records_in::<EARLIER>(bank, looked_at(fault));
     match fault {
         Fault::AdoptElevenFirst if has_records => Answer::refused(11),
         _ if !accepted(bank, fault) => Answer::refused(1),
@@ -35,16 +34,17 @@ fn accepted(bank: &[u8], fault: Fault) -> bool {
     match fault {
         Fault::AdoptUnchecked => check::head_fits::<EARLIER>(bank),
         Fault::AdoptTodaysRule => check::well_formed(bank),
+        Fault::AdoptCleanSlots => check::fits::<EARLIER>(bank) && Layout::of(bank).is_clean(bank),
         _ => check::fits::<EARLIER>(bank),
     }
 }
 
-fn counts(fault: Fault) -> Counts {
+fn looked_at(fault: Fault) -> Logs {
     match fault {
-        Fault::AdoptSelectedOnly => Counts::Selected,
-        Fault::AdoptStoredOnly => Counts::Stored,
-        Fault::AdoptVolatileOnly => Counts::Volatile,
-        _ => Counts::All,
+        Fault::AdoptSelectedOnly => Logs::Selected,
+        Fault::AdoptStoredOnly => Logs::Stored,
+        Fault::AdoptVolatileOnly => Logs::Volatile,
+        _ => Logs::All,
     }
 }
 

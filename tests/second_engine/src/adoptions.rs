@@ -1,81 +1,63 @@
 //! Random banks that are given to adoption: of the earlier form, with and without records, damaged, and others.
-//! It leaves every byte of each, and what it takes over is a bank for the other calls.
+//! It leaves every byte of each, and what it takes over is a bank for the other calls, once it is clean.
 
 use crate::adopt::adopt;
 use crate::asked;
 use crate::calls::{call, Answer};
 use crate::check::{fits, has_records};
+use crate::clean::clean;
 use crate::damage;
 use crate::fault::Fault;
 use crate::layout::*;
+use crate::leftovers;
 use crate::made;
 use crate::random::Random;
+use crate::search::{first_failure, told, Failure};
+use crate::sources::{Source, SourceCounters};
 use crate::watch::Watch;
 
-/// Where a bank comes from.
-#[derive(Clone, Copy)]
-enum Source {
-    WithoutRecords,
-    Settled,
-    OneLog,
-    Made,
-    Reached,
-    Named,
-    Damaged,
-    WrongByte,
-    Length,
-    OldForm,
+static SOURCES: [Source; 11] = [
+    (
+        "made by hand, without records",
+        &[0],
+        made::without_records::<EARLIER>,
+    ),
+    ("reached by a script and settled", &[0], made::settled),
+    ("the same with leftovers", &[0], settled_with_leftovers),
+    (
+        "made by hand, with records in one log",
+        &[11],
+        made::with_one_log::<EARLIER>,
+    ),
+    ("made by hand, any records", &[0, 11], made::bank::<EARLIER>),
+    (
+        "reached by a script, without names",
+        &[0, 11],
+        reached_without_names,
+    ),
+    ("of the newest form, with names", &[0, 1, 11], named),
+    ("damaged bytes", &[0, 1, 11], damaged),
+    ("a record whose byte 3 isn't zero", &[1], wrong_byte),
+    ("a wrong length", &[1], wrong_length),
+    ("of the older form", &[1], made::bank::<OLDER>),
+];
+
+fn settled_with_leftovers(random: &mut Random) -> Vec<u8> {
+    let mut bank = made::settled(random);
+    leftovers::put::<EARLIER>(random, &mut bank);
+    bank
 }
 
-const SOURCES: [Source; 10] = [
-    Source::WithoutRecords,
-    Source::Settled,
-    Source::OneLog,
-    Source::Made,
-    Source::Reached,
-    Source::Named,
-    Source::Damaged,
-    Source::WrongByte,
-    Source::Length,
-    Source::OldForm,
-];
-
-/// What each source is called, and which codes can come.
-const NAMES: [(&str, &[u8]); SOURCES.len()] = [
-    ("made by hand, without records", &[0]),
-    ("reached by a script and settled", &[0]),
-    ("made by hand, with records in one log", &[11]),
-    ("made by hand, any records", &[0, 11]),
-    ("reached by a script, without names", &[0, 11]),
-    ("of the newest form, with names", &[0, 1, 11]),
-    ("damaged bytes", &[0, 1, 11]),
-    ("a record whose byte 3 isn't zero", &[1]),
-    ("a wrong length", &[1]),
-    ("of the older form", &[1]),
-];
-
-impl Source {
-    fn bank(self, random: &mut Random) -> Vec<u8> {
-        match self {
-            Source::WithoutRecords => made::without_records::<EARLIER>(random),
-            Source::Settled => made::settled(random),
-            Source::OneLog => made::with_one_log::<EARLIER>(random),
-            Source::Made => made::bank::<EARLIER>(random),
-            Source::Reached => made::unnamed(&made::reached(random)),
-            Source::Named => named(random),
-            Source::Damaged => damaged(random),
-            Source::WrongByte => wrong_byte(random),
-            Source::Length => wrong_length(random),
-            Source::OldForm => made::bank::<OLDER>(random),
-        }
-    }
+fn reached_without_names(random: &mut Random) -> Vec<u8> {
+    made::unnamed(&made::reached(random))
 }
 
 /// With few boards all records may name board 0.
 fn named(random: &mut Random) -> Vec<u8> {
-    match random.below(3) {
+    match random.below(4) {
         0 => made::reached(random),
         1 => made::with_one_log::<NEWEST>(random),
+        2 => made::bank::<UNCLEANED>(random),
         _ => made::bank::<NEWEST>(random),
     }
 }
@@ -107,40 +89,33 @@ fn wrong_length(random: &mut Random) -> Vec<u8> {
     bank
 }
 
-/// A bank that wasn't answered as it must be, and how.
-pub struct Failure {
-    pub seed: u64,
-    pub why: String,
-}
-
-/// How often each code came, by source.
-#[derive(Default)]
+/// How often each code came, by source, and what became of the banks that passed.
 pub struct AdoptionCounters {
-    codes: [[u64; 12]; SOURCES.len()],
+    sources: SourceCounters,
+    /// Banks that passed with leftovers, and clean.
+    passed: [u64; 2],
     calls: u64,
 }
 
 impl AdoptionCounters {
-    fn rows(&self) -> impl Iterator<Item = (&'static str, u8, u64)> + '_ {
-        let of_source = move |source: usize| {
-            let (name, codes) = NAMES[source];
-            let count = move |code: &u8| (name, *code, self.codes[source][*code as usize]);
-            codes.iter().map(count)
-        };
-        (0..SOURCES.len()).flat_map(of_source)
+    pub fn new() -> AdoptionCounters {
+        AdoptionCounters {
+            sources: SourceCounters::new(&SOURCES),
+            passed: [0; 2],
+            calls: 0,
+        }
     }
 
     fn print(&self) {
-        let adoptions: u64 = self.codes.as_flattened().iter().sum();
-        println!(
-            "adoptions {adoptions}, calls on banks that passed {}",
-            self.calls
-        );
-        for (name, code, count) in self.rows() {
-            println!("  {name}, code {code}: {count}");
-        }
-        let missing = self.rows().filter(|(_, _, count)| *count == 0);
-        println!("never met: {}", missing.count());
+        let AdoptionCounters { sources, calls, .. } = self;
+        let banks = sources.banks();
+        println!("adoptions {banks}, calls on banks that passed {calls}");
+        sources.print();
+        let [littered, clean] = self.passed;
+        println!("  passed with leftovers, and then cleaned: {littered}");
+        println!("  passed clean: {clean}");
+        let passed = self.passed.iter().filter(|count| **count == 0);
+        println!("never met: {}", sources.never_met() + passed.count());
     }
 }
 
@@ -153,36 +128,32 @@ fn wanted(bank: &[u8]) -> u8 {
     }
 }
 
-/// One bank of a source: the answer, and that no byte changes.
-fn try_source(
-    source: Source,
-    random: &mut Random,
-    fault: Fault,
-    counters: &mut AdoptionCounters,
-) -> Result<(), String> {
-    let (name, codes) = NAMES[source as usize];
-    let mut bank = source.bank(random);
-    let (before, wanted) = (bank.clone(), wanted(&bank));
-    let answer = adopt(&mut bank, fault);
-    if answer != Answer::refused(wanted) || !codes.contains(&wanted) {
-        return Err(format!("{name}: {answer:?}, code {wanted} is right"));
+/// One bank: the answer, and that no byte changes. Gives the code that is right.
+fn try_bank(bank: &mut [u8], fault: Fault) -> Result<u8, String> {
+    let (before, wanted) = (bank.to_vec(), wanted(bank));
+    let answer = adopt(bank, fault);
+    if answer != Answer::refused(wanted) {
+        return Err(format!("{answer:?}, code {wanted} is right"));
     }
-    if bank != before {
-        return Err(format!("{name}: written to, with code {wanted}"));
-    }
-    counters.codes[source as usize][wanted as usize] += 1;
-    match wanted {
-        0 => taken_over(bank, random, counters).map_err(|why| format!("{name}: {why}")),
-        _ => Ok(()),
+    match *bank == before {
+        true => Ok(wanted),
+        false => Err(format!("written to, with code {wanted}")),
     }
 }
 
-/// The right engine takes what was adopted: no call finds it malformed.
+/// The right engine takes what was adopted: no call finds it malformed, once it is clean.
 fn taken_over(
     mut bank: Vec<u8>,
     random: &mut Random,
-    counters: &mut AdoptionCounters,
+    passed: &mut [u64; 2],
+    calls: &mut u64,
 ) -> Result<(), String> {
+    let clean_already = Layout::of(&bank).is_clean(&bank);
+    passed[clean_already as usize] += 1;
+    if !clean_already {
+        leftovers::refused_by_all(&bank, Fault::None)?;
+        clean(&mut bank, Fault::None);
+    }
     let mut watch = Watch::of::<NEWEST>(&bank);
     for _ in 0..random.pick(&[1, 5, 40]) {
         let Some(asked) = asked::fitting(random, &bank).call() else {
@@ -190,7 +161,7 @@ fn taken_over(
         };
         let mut out = asked.second_buffer();
         let answer = call(&mut bank, &asked, &mut out, Fault::None, &mut watch);
-        counters.calls += 1;
+        *calls += 1;
         if answer.code == 1 {
             return Err(format!("passed, and {asked} has code 1"));
         }
@@ -205,23 +176,27 @@ pub fn search(
     fault: Fault,
     counters: &mut AdoptionCounters,
 ) -> Option<Failure> {
-    (seed..seed.saturating_add(count)).find_map(|seed| {
+    let AdoptionCounters {
+        sources,
+        passed,
+        calls,
+    } = counters;
+    first_failure(seed, count, |seed| {
         let mut random = Random::new(seed);
-        let mut sources = SOURCES.iter();
-        let result =
-            sources.try_for_each(|source| try_source(*source, &mut random, fault, counters));
-        result.err().map(|why| Failure { seed, why })
+        sources.try_all(&mut random, |mut bank, random| {
+            let code = try_bank(&mut bank, fault)?;
+            if code == 0 {
+                taken_over(bank, random, passed, calls)?;
+            }
+            Ok(code)
+        })
     })
 }
 
 /// The whole command; false if an adoption went wrong.
 pub fn adoptions(seed: u64, count: u64, fault: Fault) -> bool {
-    let mut counters = AdoptionCounters::default();
+    let mut counters = AdoptionCounters::new();
     let failure = search(seed, count, fault, &mut counters);
     counters.print();
-    match &failure {
-        None => println!("adoptions are right"),
-        Some(Failure { seed, why }) => println!("adoption wrong, seed {seed}: {why}"),
-    }
-    failure.is_none()
+    told(failure, "adoptions are right", "adoption wrong")
 }

@@ -238,7 +238,8 @@ pub fn call(
 }
 
 /// The same in a form. With the older places, narrow, it is what an old bank would answer, were it not converted: the
-/// rules of the day on its own bytes, with its own largest since.
+/// rules of the day on its own bytes, with its own largest since. In the uncleaned form it is the engine of the day before,
+/// which lets leftovers be.
 pub fn call_in<const FORM: Form>(
     bank: &mut [u8],
     call: &Call,
@@ -350,8 +351,7 @@ fn perform<const FORM: Form>(engine: &mut Engine<FORM>, call: &Call, out: &mut [
 fn compare_logs<const FORM: Form>(engine: &mut Engine<FORM>, board: usize, other: usize) -> Done {
     engine.stores += (engine.fault == Fault::CompareStores) as u32;
     if engine.fault == Fault::CompareWrites {
-        let runs = engine.layout.past_counts(engine.bank);
-        runs.into_iter().for_each(|run| engine.bank[run].fill(0));
+        engine.clear_since(board);
     }
     let found = logs::compare::<FORM>(engine.bank, board, other, engine.fault);
     found.map_or(Done::default(), |found| Done {

@@ -1,5 +1,5 @@
 //! Whether a buffer is a well-formed bank.
-//! Slots at or past a count may hold anything, so only records below one are looked at.
+//! Slots at or past a count are zero, in a form that asks it; in the others only records below one are looked at.
 
 use crate::fault::Fault;
 use crate::layout::*;
@@ -28,33 +28,43 @@ pub fn passes<const FORM: Form>(bank: &[u8], fault: Fault) -> bool {
     check.all()
 }
 
-/// Which counts code 11 looks at: all, but in a wrong engine.
+/// Which logs a rule or a step looks at: all, but in a wrong engine.
 #[derive(Clone, Copy)]
-pub enum Counts {
+pub enum Logs {
     All,
     Selected,
     Stored,
     Volatile,
+    /// Those of up boards.
+    Up,
     None,
+}
+
+impl Logs {
+    /// Whether a log of a bank is among them.
+    pub fn have<const FORM: Form>(self, bank: &[u8], log: Log) -> bool {
+        let layout = Layout::<FORM>::named_by(bank);
+        let selected = bank[layout.selector(log.board)] as usize;
+        match self {
+            Logs::All => true,
+            Logs::Selected => log.area.is_none_or(|area| area == selected),
+            Logs::Stored => log.area.is_some(),
+            Logs::Volatile => log.area.is_none(),
+            Logs::Up => bank[layout.state(log.board)] == UP,
+            Logs::None => false,
+        }
+    }
 }
 
 /// Whether some count isn't zero: of a volatile log or of either area, of any board. The bank has its form's length.
 pub fn has_records<const FORM: Form>(bank: &[u8]) -> bool {
-    has_records_in::<FORM>(bank, Counts::All)
+    has_records_in::<FORM>(bank, Logs::All)
 }
 
-/// The same, of the counts that are looked at.
-pub fn has_records_in<const FORM: Form>(bank: &[u8], counts: Counts) -> bool {
-    let layout = Layout::<FORM>::named_by(bank);
-    let selected = |log: &Log| bank[layout.selector(log.board)] as usize;
-    let looked_at = |log: &Log| match counts {
-        Counts::All => true,
-        Counts::Selected => log.area.is_none_or(|area| area == selected(log)),
-        Counts::Stored => log.area.is_some(),
-        Counts::Volatile => log.area.is_none(),
-        Counts::None => false,
-    };
-    let mut logs = layout.logs().filter(looked_at);
+/// The same, of the logs that are looked at.
+pub fn has_records_in<const FORM: Form>(bank: &[u8], looked_at: Logs) -> bool {
+    let logs = Layout::<FORM>::named_by(bank).logs();
+    let mut logs = logs.filter(|log| looked_at.have::<FORM>(bank, *log));
     logs.any(|log| bank[log.count] != 0)
 }
 
@@ -92,7 +102,7 @@ impl<const FORM: Form> Check<'_, FORM> {
         let layout = self.layout;
         self.fields_fit(board)
             && self.frames_fit(layout.frame(board, 0))
-            && self.records_fit(layout.log(board, None))
+            && self.log_fits(layout.log(board, None))
             && (0..2).all(|which| self.area_fits(board, which))
             && match self.bank[layout.state(board)] {
                 UP => self.up_fits(board),
@@ -120,7 +130,7 @@ impl<const FORM: Form> Check<'_, FORM> {
         let area = self.layout.area(board, which);
         self.bank[self.layout.stored(area)] as usize <= SLOTS
             && self.frames_fit(self.layout.area_frame(area, 0))
-            && self.records_fit(self.layout.log(board, Some(which)))
+            && self.log_fits(self.layout.log(board, Some(which)))
     }
 
     fn frames_fit(&self, first: usize) -> bool {
@@ -134,9 +144,36 @@ impl<const FORM: Form> Check<'_, FORM> {
         }
     }
 
-    fn records_fit(&self, log: Log) -> bool {
+    fn log_fits(&self, log: Log) -> bool {
         let mut records = self.layout.records(self.bank, log);
         records.all(|slot| self.record_fits(slot) && self.byte_3_fits(log, slot))
+            && (!Layout::<FORM>::CLEAN_SLOTS || self.past_count_fits(log))
+    }
+
+    /// Every slot at or past the count is zero. A wrong check leaves some bytes of them open.
+    fn past_count_fits(&self, log: Log) -> bool {
+        let past = &self.bank[self.layout.past_count(self.bank, log)];
+        let slot = Layout::<FORM>::SLOT;
+        let mut slots = past.chunks(slot);
+        match self.fault {
+            Fault::CheckFirstByte => slots.all(|slot| slot[0] == 0),
+            Fault::CheckLastByte => slots.all(|bytes| all_zero(&bytes[..slot - 1])),
+            Fault::CheckFirstSlot => slots.next().is_none_or(all_zero),
+            Fault::CheckLastSlot => all_zero(&past[..past.len().saturating_sub(slot)]),
+            _ => all_zero(past) || !self.slots_looked_at().have::<FORM>(self.bank, log),
+        }
+    }
+
+    /// The logs whose slots at or past a count are looked at.
+    fn slots_looked_at(&self) -> Logs {
+        match self.fault {
+            Fault::CheckSlotsFree => Logs::None,
+            Fault::CheckSlotsSelected => Logs::Selected,
+            Fault::CheckSlotsStored => Logs::Stored,
+            Fault::CheckSlotsVolatile => Logs::Volatile,
+            Fault::CheckSlotsUp => Logs::Up,
+            _ => Logs::All,
+        }
     }
 
     fn record_fits(&self, slot: usize) -> bool {
@@ -157,17 +194,16 @@ impl<const FORM: Form> Check<'_, FORM> {
         }
         let is_board = named < self.layout.boards || self.fault == Fault::CheckAnyBoard;
         let is_other = named != log.board || self.fault == Fault::CheckOwnBoard;
-        is_board && is_other || self.passed_over(log)
+        is_board && is_other || !self.names_looked_at().have::<FORM>(self.bank, log)
     }
 
-    /// A wrong check leaves the names of some logs open.
-    fn passed_over(&self, log: Log) -> bool {
-        let selected = self.bank[self.layout.selector(log.board)] as usize;
-        match (self.fault, log.area) {
-            (Fault::CheckStoredOnly, area) => area.is_none(),
-            (Fault::CheckVolatileOnly, area) => area.is_some(),
-            (Fault::CheckSelectedOnly, Some(area)) => area != selected,
-            _ => false,
+    /// The logs whose names are looked at.
+    fn names_looked_at(&self) -> Logs {
+        match self.fault {
+            Fault::CheckStoredOnly => Logs::Stored,
+            Fault::CheckVolatileOnly => Logs::Volatile,
+            Fault::CheckSelectedOnly => Logs::Selected,
+            _ => Logs::All,
         }
     }
 
@@ -229,6 +265,9 @@ mod tests {
             }
             mod narrow {
                 $(#[test] fn $test() { super::$test::<{ super::NARROW }>() })*
+            }
+            mod uncleaned {
+                $(#[test] fn $test() { super::$test::<{ super::UNCLEANED }>() })*
             }
         };
     }
@@ -323,8 +362,9 @@ mod tests {
             for pages in 1..=MAX_PAGES {
                 let bank = fresh::<FORM>(boards, pages);
                 assert!(fits::<FORM>(&bank));
-                let wide = matches!(FORM, NEWEST | EARLIER);
+                let wide = matches!(FORM, NEWEST | UNCLEANED | EARLIER);
                 assert_eq!([fits::<NEWEST>(&bank), fits::<EARLIER>(&bank)], [wide; 2]);
+                assert_eq!(fits::<UNCLEANED>(&bank), wide);
                 assert_eq!([fits::<OLDER>(&bank), fits::<NARROW>(&bank)], [!wide; 2]);
                 assert!(!has_records::<FORM>(&bank));
             }
@@ -464,21 +504,59 @@ mod tests {
         assert!(!changed::<FORM>(|bank, l| bank[l.stored(l.area(0, 1))] = 1));
     }
 
+    /// A bank with three records in one log of board 1, and one byte of one slot changed.
+    fn with_byte<const FORM: Form>(area: Option<usize>, slot: usize, at: usize) -> bool {
+        changed::<FORM>(|bank, l| {
+            let log = l.log(1, area);
+            bank[log.count] = 3;
+            (0..3).for_each(|s| put_record(bank, l, log, s, GOT_COPY));
+            bank[log.first + Layout::<FORM>::SLOT * slot + at] = 1;
+        })
+    }
+
+    /// One byte is enough, in any slot at or past the count and in any log; below the count a got has any bytes.
     fn slots_past_the_counts<const FORM: Form>() {
-        assert!(changed::<FORM>(|bank, l| {
-            let runs = l.past_counts(bank);
-            runs.into_iter().for_each(|run| bank[run].fill(7));
-        }));
-        assert!(changed_replaying::<FORM>(|bank, l| {
-            bank[l.area_slot(l.area(1, 0), 1)] = 1;
-        }));
+        let free = !Layout::<FORM>::CLEAN_SLOTS;
+        let filled = |byte: u8| {
+            changed::<FORM>(|bank, l| {
+                let runs = l.past_counts(bank);
+                runs.into_iter().for_each(|run| bank[run].fill(byte));
+            })
+        };
+        assert_eq!([filled(0), filled(7)], [true, free]);
+        for area in [None, Some(0), Some(1)] {
+            for at in 0..Layout::<FORM>::SLOT {
+                (3..SLOTS).for_each(|slot| assert_eq!(with_byte::<FORM>(area, slot, at), free));
+            }
+            let bytes = Layout::<FORM>::SLOT_BYTES..Layout::<FORM>::SLOT;
+            bytes.for_each(|at| assert!(with_byte::<FORM>(area, 2, at)));
+        }
+        assert_eq!(
+            changed_replaying::<FORM>(|bank, l| bank[l.area_slot(l.area(1, 0), 1)] = 1),
+            free
+        );
+        assert_eq!(
+            changed_down::<FORM>(|bank, l| bank[l.volatile_slot(1, 0)] = 1),
+            free
+        );
+    }
+
+    /// A log that is full has no slot past its count.
+    #[test]
+    fn a_full_log() {
+        let full = |byte: u8| {
+            changed::<NEWEST>(|bank, l| {
+                let log = l.log(0, Some(0));
+                bank[log.count] = SLOTS as u8;
+                (0..SLOTS).for_each(|slot| put_record(bank, l, log, slot, GOT_OWN));
+                bank[log.first + SLOT * SLOTS - 1] = byte;
+            })
+        };
+        assert!(full(0) && full(1));
     }
 
     fn boards_that_are_down<const FORM: Form>() {
         assert!(changed_down::<FORM>(|_, _| ()));
-        assert!(changed_down::<FORM>(|bank, l| bank
-            [l.volatile_slot(1, 0)] =
-            1));
         assert!(!changed_down::<FORM>(|bank, l| bank[l.frame(1, 0)] = COPY));
         assert!(!changed_down::<FORM>(|bank, l| put32(bank, l.number(1), 1)));
         assert!(!changed_down::<FORM>(|bank, l| bank[l.since(1)] = 1));

@@ -2,7 +2,7 @@
 //! Fields that the old form hasn't are zero, and so are all slots at or past a count.
 
 use crate::calls::Answer;
-use crate::check::{self, has_records_in, Counts};
+use crate::check::{self, has_records_in, Logs};
 use crate::fault::Fault;
 use crate::layout::*;
 use crate::older;
@@ -27,7 +27,7 @@ fn refusal(old: &[u8], length: usize, fault: Fault) -> Option<u8> {
         return Some(1);
     }
     let misfit = length != Layout::of(old).length();
-    let has_records = has_records_in::<OLDER>(old, counts(fault));
+    let has_records = has_records_in::<OLDER>(old, looked_at(fault));
     match fault {
         Fault::ConvertElevenFirst if has_records => Some(11),
         _ if misfit => Some(1),
@@ -39,16 +39,19 @@ fn accepted(old: &[u8], fault: Fault) -> bool {
     match fault {
         Fault::ConvertUnchecked => check::head_fits::<OLDER>(old),
         Fault::ConvertTodaysRule => check::fits::<NARROW>(old),
+        Fault::ConvertCleanSlots => {
+            older::well_formed(old) && older::Layout::named_by(old).is_clean(old)
+        }
         _ => older::well_formed(old),
     }
 }
 
-fn counts(fault: Fault) -> Counts {
+fn looked_at(fault: Fault) -> Logs {
     match fault {
-        Fault::ConvertAnyCounts => Counts::None,
-        Fault::ConvertSelectedOnly => Counts::Selected,
-        Fault::ConvertStoredOnly => Counts::Stored,
-        _ => Counts::All,
+        Fault::ConvertAnyCounts => Logs::None,
+        Fault::ConvertSelectedOnly => Logs::Selected,
+        Fault::ConvertStoredOnly => Logs::Stored,
+        _ => Logs::All,
     }
 }
 
@@ -170,6 +173,7 @@ mod tests {
     use super::*;
     use crate::calls::{call, call_in, make, make_in, Call};
     use crate::check::well_formed;
+    use crate::leftovers::cleaned;
     use crate::watch::Watch;
 
     fn fresh<const FORM: Form>(boards: usize, pages: usize) -> Vec<u8> {
@@ -316,7 +320,9 @@ mod tests {
                 (2_385 + 1_589, &[255, 255, 255, 255, 0, 1]),
             ],
         );
-        assert!(check::fits::<NARROW>(&old) && well_formed(&new));
+        let clean = cleaned::<OLDER>(&old);
+        assert!(!check::fits::<NARROW>(&old) && check::fits::<NARROW>(&clean));
+        assert!(well_formed(&new));
         let mut carried = vec![7; new.len()];
         assert!(carry::<NARROW, NEWEST>(&old, &mut carried, Fault::None) && carried == new);
         // The names go where the older form has none; then the counts are left to refuse it.

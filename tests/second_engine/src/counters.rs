@@ -1,6 +1,7 @@
 //! What a fuzz run has met, so that a phase it never reached shows as 0.
 //! Printed at the end of a run.
 
+use crate::blown::Blown;
 use crate::calls::{Answer, Call};
 use crate::cases::Cases;
 use crate::claim::Last;
@@ -14,8 +15,8 @@ use crate::line::Line;
 use crate::named::{LOGS, RECORDS};
 use crate::passages::Passages;
 use crate::shelves::{self, Shelf};
+use crate::slots::Slots;
 use crate::trial::Trial;
-use crate::watch::{phase_name, phases, PHASES};
 
 /// The codes that a line of a script can get: no script is long enough for code 4.
 const CODES: [usize; 11] = [0, 1, 2, 3, 5, 6, 7, 8, 9, 10, 12];
@@ -118,7 +119,7 @@ pub struct Counters {
     pub premises_broken: u64,
     calls: u64,
     codes: [u64; 13],
-    phases: [u64; PHASES],
+    blown: Blown,
     replays_begun: [u64; 5],
     replays_ended: [u64; 5],
     /// Answers, by code, of accesses that ended a replay by its last got.
@@ -138,6 +139,7 @@ pub struct Counters {
     comparisons: Cases<Comparison>,
     compared: Compared,
     passages: Passages,
+    slots: Slots,
 }
 
 fn last_index(last: Last) -> usize {
@@ -157,7 +159,7 @@ impl Counters {
             premises_broken: 0,
             calls: 0,
             codes: [0; 13],
-            phases: [0; PHASES],
+            blown: Blown::new(),
             replays_begun: [0; 5],
             replays_ended: [0; 5],
             gone_live: [0; 9],
@@ -172,6 +174,7 @@ impl Counters {
             comparisons: comparisons::cases(),
             compared: Compared::default(),
             passages: Passages::default(),
+            slots: Slots::default(),
         }
     }
 
@@ -184,8 +187,9 @@ impl Counters {
     pub fn count(&mut self, trial: &Trial, asked: Asked, answer: &Answer) {
         self.calls += 1;
         self.codes[answer.code as usize] += 1;
-        if let (Some(phase), 8) = (trial.session.watch.blown, answer.code) {
-            self.phases[phase] += 1;
+        // Another line than a call leaves what is noted of the call before.
+        if asked.call.is_some() {
+            self.blown.count(&trial.session.watch);
         }
         if let Some(last) = trial.judge.began {
             self.replays_begun[last_index(last)] += 1;
@@ -224,6 +228,7 @@ impl Counters {
         add(&mut self.logs, &trial.names.logs);
         self.compared.add(&trial.compared);
         self.passages.add(&trial.passages);
+        self.slots.add(&trial.slots);
     }
 
     fn count_zero_fuse(&mut self, zero_fuse: &ZeroFuse, code: u8) {
@@ -235,7 +240,6 @@ impl Counters {
 
     /// What was never met and can be.
     fn never_met(&self) -> usize {
-        let phases = phases().filter(|phase| self.phases[*phase] == 0);
         let live = [0, 6, 7, 8]
             .iter()
             .filter(|code| self.gone_live[**code] == 0);
@@ -245,7 +249,7 @@ impl Counters {
             .chain(&self.replays_ended)
             .filter(|count| **count == 0);
         let zero_fuses = self.zero_fuses.as_flattened();
-        phases.count()
+        self.blown.never_met()
             + live.count()
             + replays.count()
             + CODES.iter().filter(|code| self.codes[**code] == 0).count()
@@ -264,6 +268,7 @@ impl Counters {
             + self.comparisons.missing().count()
             + self.compared.never_met()
             + self.passages.never_met()
+            + self.slots.never_met()
     }
 
     pub fn print(&self) {
@@ -275,10 +280,7 @@ impl Counters {
         for code in CODES {
             println!("  {code}: {}", self.codes[code]);
         }
-        println!("fuses blown in:");
-        for phase in phases() {
-            println!("  {}: {}", phase_name(phase), self.phases[phase]);
-        }
+        self.blown.print();
         println!("replays by last record, begun and ended:");
         for (last, name) in LAST_RECORDS.iter().enumerate() {
             println!(
@@ -310,6 +312,7 @@ impl Counters {
         self.comparisons.print();
         self.compared.print();
         self.passages.print();
+        self.slots.print();
         println!("never met: {}", self.never_met());
     }
 }

@@ -1,9 +1,10 @@
 //! Banks that are damaged: bytes changed, most of them where a rule looks, or a wrong length. Or not quite: one record
-//! changed, and still well formed.
+//! changed, and still well formed; or a slot past a count, which is well formed where the form lets it hold anything.
 
 use crate::layout::*;
 use crate::made::fill;
 use crate::random::Random;
+use std::ops::Range;
 
 /// A place that some rule of a well-formed bank speaks of.
 fn ruled_place<const FORM: Form>(random: &mut Random, layout: Layout<FORM>) -> usize {
@@ -82,10 +83,29 @@ pub fn name<const FORM: Form>(random: &mut Random, bank: &mut [u8]) -> bool {
     true
 }
 
-/// Changes one byte or a few of a bank that has a form's length; sometimes just the board that one record names.
+/// Changes one byte of one slot at or past a count, in any of the logs: often the first or the last such slot of its log,
+/// and the slot's first or last byte.
+pub fn slot<const FORM: Form>(random: &mut Random, bank: &mut [u8]) {
+    let runs = Layout::<FORM>::named_by(bank).past_counts(bank);
+    let runs: Vec<Range<usize>> = runs.into_iter().filter(|run| !run.is_empty()).collect();
+    let run = runs[random.below(runs.len() as u32) as usize].clone();
+    let last = run.len() / Layout::<FORM>::SLOT - 1;
+    let end = Layout::<FORM>::SLOT - 1;
+    let [any_slot, any_byte] = [last, end].map(|most| random.between(0, most as u32) as usize);
+    let slot = random.pick(&[0, last, any_slot]);
+    let byte = random.pick(&[0, end, SLOT_BOARD, any_byte]);
+    let at = run.start + Layout::<FORM>::SLOT * slot + byte;
+    bank[at] = bank[at].wrapping_add(random.pick(&[1, 1, 128, 255]));
+}
+
+/// Changes one byte or a few of a bank that has a form's length; sometimes just the board that one record names, or a byte
+/// of a slot past a count.
 pub fn bytes<const FORM: Form>(random: &mut Random, bank: &mut [u8]) {
     if random.permille(120) && name::<FORM>(random, bank) {
         return;
+    }
+    if random.permille(100) {
+        return slot::<FORM>(random, bank);
     }
     let layout = Layout::<FORM>::named_by(bank);
     let times = random.pick(&[1, 1, 1, 2, 3, 8]);
@@ -119,5 +139,35 @@ pub fn length<const FORM: Form>(random: &mut Random, bank: &mut Vec<u8>) {
     bank.resize(new, 0);
     if new > old && random.permille(500) {
         fill(random, &mut bank[old..]);
+    }
+}
+
+#[cfg(test)]
+mod tests {
+    use super::*;
+    use crate::check::fits;
+    use crate::made;
+
+    /// One byte past a count, on every kind of slot and byte; only where these may hold anything is the bank as good as
+    /// before.
+    #[test]
+    fn slots() {
+        let mut random = Random::new(1);
+        let (mut slots, mut bytes) = ([0; SLOTS], [0; SLOT]);
+        for _ in 0..5_000 {
+            let bank = made::bank::<NEWEST>(&mut random);
+            let mut damaged = bank.clone();
+            slot::<NEWEST>(&mut random, &mut damaged);
+            let changed: Vec<usize> = (0..bank.len())
+                .filter(|at| bank[*at] != damaged[*at])
+                .collect();
+            assert_eq!(changed.len(), 1);
+            let inside = |log: &Log| (log.first..log.first + SLOT * SLOTS).contains(&changed[0]);
+            let log = Layout::of(&bank).logs().find(inside).unwrap();
+            slots[(changed[0] - log.first) / SLOT] += 1;
+            bytes[(changed[0] - log.first) % SLOT] += 1;
+            assert!(!fits::<NEWEST>(&damaged) && fits::<UNCLEANED>(&damaged));
+        }
+        assert!(slots.iter().chain(&bytes).all(|count| *count > 10));
     }
 }

@@ -5,6 +5,7 @@ use crate::fault::Fault;
 use crate::layout::*;
 use crate::older;
 use crate::watch::{During, Flush, Phase, Watch};
+use std::ops::Range;
 
 /// Why a call stops: a code other than 0 and the board it speaks of.
 #[derive(Clone, Copy, Debug)]
@@ -159,7 +160,9 @@ impl<'a, const FORM: Form> Engine<'a, FORM> {
             self.store_made(board)?;
         }
         let slots = self.layout.volatile_slot(board, 0)..self.layout.volatile_slot(board, count);
-        self.bank[slots].fill(0);
+        if self.fault != Fault::FlushLeavesSlots {
+            self.bank[slots].fill(0);
+        }
         self.bank[self.layout.volatile(board)] = 0;
         self.watch.log_emptied(board);
         Ok(())
@@ -201,6 +204,11 @@ impl<'a, const FORM: Form> Engine<'a, FORM> {
     pub fn checkpoint(&mut self, board: usize, during: During) -> Step {
         let spare = 1 - self.bank[self.layout.selector(board)];
         let area = self.layout.area(board, spare as usize);
+        self.watch
+            .checkpoint_begun(during, self.bank[self.layout.stored(area)]);
+        if self.fault == Fault::HeadSlotsEarly {
+            self.clear(self.slots_of_head(board, area));
+        }
         for page in 0..self.layout.pages {
             self.watch.phase = Phase::Frame { during, page };
             let frame = self.layout.frame(board, page);
@@ -209,23 +217,61 @@ impl<'a, const FORM: Form> Engine<'a, FORM> {
             self.store_made(board)?;
         }
         self.watch.phase = Phase::Head { during };
-        let number = self.number(board);
-        put32(self.bank, area, number);
-        self.bank[self.layout.stored(area)] = 0;
-        self.store_made(board)?;
+        self.store_head(board, area)?;
         self.watch.phase = Phase::Selector { during };
         self.bank[self.layout.selector(board)] = spare;
-        self.watch.selector_stored(board, number);
+        self.watch.selector_stored(board, self.number(board));
         self.store_made(board)?;
         self.clear_since(board);
         self.empty_volatile_log(board);
         Ok(())
     }
 
+    /// The head of an area: the board's number, the stored count 0 and all 32 slots zero, whole or not at all.
+    fn store_head(&mut self, board: usize, area: usize) -> Step {
+        let slots = self.slots_of_head(board, area);
+        let number = self.number(board);
+        put32(self.bank, area, number);
+        self.bank[self.layout.stored(area)] = 0;
+        if matches!(self.fault, Fault::HeadSlotsLater | Fault::HeadTwoStores) {
+            self.store_made(board)?;
+        }
+        self.clear(slots);
+        match self.fault {
+            Fault::HeadSlotsLater => Ok(()),
+            _ => self.store_made(board),
+        }
+    }
+
+    /// What the store of an area's head zeroes, besides the count: its slots, or nothing in a form that lets them be.
+    fn slots_of_head(&self, board: usize, area: usize) -> Vec<Range<usize>> {
+        let records = self.bank[self.layout.stored(area)] as usize;
+        let slots = match self.fault {
+            _ if !Layout::<FORM>::CLEAN_SLOTS => 0..0,
+            Fault::HeadLeavesSlots => 0..0,
+            Fault::HeadLeavesLast => 0..SLOTS - 1,
+            Fault::HeadLeavesRecords => records..SLOTS,
+            _ => 0..SLOTS,
+        };
+        let (area, length) = match self.fault {
+            Fault::HeadSelectedArea => (self.selected(board), Layout::<FORM>::SLOT),
+            Fault::HeadClearsMarks => (area, 2),
+            _ => (area, Layout::<FORM>::SLOT),
+        };
+        let slots = slots.map(|slot| self.layout.area_slot(area, slot));
+        slots.map(|slot| slot..slot + length).collect()
+    }
+
+    fn clear(&mut self, runs: Vec<Range<usize>>) {
+        runs.into_iter().for_each(|run| self.bank[run].fill(0));
+    }
+
     /// All 32 slots become zero, also those past the count.
     fn empty_volatile_log(&mut self, board: usize) {
         let slots = self.layout.volatile_slot(board, 0)..self.layout.volatile_slot(board, SLOTS);
-        self.bank[slots].fill(0);
+        if self.fault != Fault::CutLeavesSlots {
+            self.bank[slots].fill(0);
+        }
         self.bank[self.layout.volatile(board)] = 0;
         self.watch.log_emptied(board);
     }

@@ -2,7 +2,9 @@
 //! The first five are the faults a bench sale would hide, the next six must not satisfy any contract, the next five
 //! get a fuse of 0 wrong, the next two a wide since, the next ten a conversion, the next eighteen a shelf call, the next
 //! eleven a page that a holder gives while its owner isn't up, the next ten the board that a record names, the next six
-//! whether a bank is well formed, the next eight an adoption, and the rest a comparison of two logs.
+//! whether a bank is well formed, the next eight an adoption, the next twenty-three a comparison of two logs, the next ten
+//! the slots that the steps zero, the next nine whether slots past a count are looked at, the next two whether leftovers
+//! are taken over, and the rest a cleaning.
 
 #[derive(Clone, Copy, PartialEq, Eq, Debug)]
 pub enum Fault {
@@ -111,6 +113,42 @@ pub enum Fault {
     CompareAsksPower,
     CompareStores,
     CompareWrites,
+    HeadLeavesSlots,
+    HeadLeavesLast,
+    HeadLeavesRecords,
+    HeadClearsMarks,
+    HeadSelectedArea,
+    HeadTwoStores,
+    HeadSlotsLater,
+    HeadSlotsEarly,
+    FlushLeavesSlots,
+    CutLeavesSlots,
+    CheckSlotsFree,
+    CheckFirstByte,
+    CheckLastByte,
+    CheckFirstSlot,
+    CheckLastSlot,
+    CheckSlotsSelected,
+    CheckSlotsStored,
+    CheckSlotsVolatile,
+    CheckSlotsUp,
+    AdoptCleanSlots,
+    ConvertCleanSlots,
+    CleanSelectedOnly,
+    CleanStoredOnly,
+    CleanVolatileOnly,
+    CleanUpOnly,
+    CleanFirstSlot,
+    CleanLastRecord,
+    CleanEmptiesLogs,
+    CleanRefusesClean,
+    CleanTodaysRule,
+    CleanUnchecked,
+    CleanEarlierRule,
+    CleanEitherRule,
+    CleanWritesFirst,
+    CleanStores,
+    CleanTells,
 }
 
 /// What must catch a fault.
@@ -124,7 +162,8 @@ pub enum Catcher {
     Pairs,
     /// The right engine beside it, on the same random scripts: the claim leaves open what it gets wrong.
     Beside,
-    /// The right engine beside it, on banks made by hand in which a record names a wrong board.
+    /// The right engine beside it, on banks made by hand in which a record names a wrong board or a slot past a count
+    /// isn't zero.
     Verdicts,
     /// The banks that are adopted, or refused.
     Adoptions,
@@ -132,6 +171,8 @@ pub enum Catcher {
     Comparisons,
     /// The same on banks made by hand alone: no script leads to a log that shows it.
     MadeLogs,
+    /// The banks that are cleaned, or refused, and the calls behind it.
+    Cleanings,
 }
 
 impl Fault {
@@ -140,7 +181,7 @@ impl Fault {
     }
 
     /// A wrong engine takes its own bank as well formed, or code 1 would hide what it did. Not so where its steps are
-    /// right: in a wrong conversion, adoption or comparison, or where the verdict itself is wrong.
+    /// right: in a wrong conversion, adoption, comparison or cleaning, or where the verdict itself is wrong.
     pub fn trusts_its_bank(self) -> bool {
         let steps_are_wrong = |kind: &FaultKind| {
             matches!(
@@ -173,7 +214,7 @@ const fn kind(
     }
 }
 
-pub static FAULTS: [FaultKind; 104] = [
+pub static FAULTS: [FaultKind; 140] = [
     kind(
         Fault::KeepCopy,
         "keep-copy",
@@ -796,7 +837,223 @@ pub static FAULTS: [FaultKind; 104] = [
         Fault::CompareWrites,
         "compare-writes",
         Catcher::Comparisons,
-        "a comparison that clears the slots past a count",
+        "a comparison that sets the since of its first board to 0",
+    ),
+    kind(
+        Fault::HeadLeavesSlots,
+        "head-leaves-slots",
+        Catcher::Claim,
+        "the store of an area head leaves its slots, as it did the day before",
+    ),
+    kind(
+        Fault::HeadLeavesLast,
+        "head-leaves-last",
+        Catcher::Claim,
+        "the store of an area head leaves its last slot",
+    ),
+    kind(
+        Fault::HeadLeavesRecords,
+        "head-leaves-records",
+        Catcher::Claim,
+        "the store of an area head zeroes all slots but those of the records that were there",
+    ),
+    kind(
+        Fault::HeadClearsMarks,
+        "head-clears-marks",
+        Catcher::Claim,
+        "the store of an area head zeroes no more than each slot's mark",
+    ),
+    kind(
+        Fault::HeadSelectedArea,
+        "head-selected-area",
+        Catcher::Claim,
+        "the store of an area head zeroes the selected area's slots instead of the spare one's",
+    ),
+    kind(
+        Fault::HeadTwoStores,
+        "head-two-stores",
+        Catcher::Outputs,
+        "the slots of an area head are zeroed by a second store",
+    ),
+    kind(
+        Fault::HeadSlotsLater,
+        "head-slots-later",
+        Catcher::Claim,
+        "the slots of an area head are zeroed behind its store, and not if that blew the fuse",
+    ),
+    kind(
+        Fault::HeadSlotsEarly,
+        "head-slots-early",
+        Catcher::Beside,
+        "the slots of an area head are zeroed before the first frame is stored",
+    ),
+    kind(
+        Fault::FlushLeavesSlots,
+        "flush-leaves-slots",
+        Catcher::Claim,
+        "a flush leaves its records in the volatile slots",
+    ),
+    kind(
+        Fault::CutLeavesSlots,
+        "cut-leaves-slots",
+        Catcher::Claim,
+        "a power loss or a checkpoint leaves the volatile slots",
+    ),
+    kind(
+        Fault::CheckSlotsFree,
+        "check-slots-free",
+        Catcher::Verdicts,
+        "slots past a count may hold anything, as they did the day before",
+    ),
+    kind(
+        Fault::CheckFirstByte,
+        "check-first-byte",
+        Catcher::Verdicts,
+        "well formed looks at the first byte of a slot past a count alone",
+    ),
+    kind(
+        Fault::CheckLastByte,
+        "check-last-byte",
+        Catcher::Verdicts,
+        "the last byte of a slot past a count may be anything",
+    ),
+    kind(
+        Fault::CheckFirstSlot,
+        "check-first-slot",
+        Catcher::Verdicts,
+        "well formed looks at the first slot past a count alone",
+    ),
+    kind(
+        Fault::CheckLastSlot,
+        "check-last-slot",
+        Catcher::Verdicts,
+        "the last slot of a log may hold anything",
+    ),
+    kind(
+        Fault::CheckSlotsSelected,
+        "check-slots-selected",
+        Catcher::Verdicts,
+        "a spare area's slots past its count may hold anything",
+    ),
+    kind(
+        Fault::CheckSlotsStored,
+        "check-slots-stored",
+        Catcher::Verdicts,
+        "a volatile log's slots past its count may hold anything",
+    ),
+    kind(
+        Fault::CheckSlotsVolatile,
+        "check-slots-volatile",
+        Catcher::Verdicts,
+        "an area's slots past its count may hold anything",
+    ),
+    kind(
+        Fault::CheckSlotsUp,
+        "check-slots-up",
+        Catcher::Verdicts,
+        "slots past a count may hold anything on a board that isn't up",
+    ),
+    kind(
+        Fault::AdoptCleanSlots,
+        "adopt-clean-slots",
+        Catcher::Adoptions,
+        "an adoption that asks for zero slots past a count",
+    ),
+    kind(
+        Fault::ConvertCleanSlots,
+        "convert-clean-slots",
+        Catcher::Pairs,
+        "a conversion that asks for zero slots past a count",
+    ),
+    kind(
+        Fault::CleanSelectedOnly,
+        "clean-selected-only",
+        Catcher::Cleanings,
+        "a cleaning that passes over the spare areas",
+    ),
+    kind(
+        Fault::CleanStoredOnly,
+        "clean-stored-only",
+        Catcher::Cleanings,
+        "a cleaning that passes over the volatile logs",
+    ),
+    kind(
+        Fault::CleanVolatileOnly,
+        "clean-volatile-only",
+        Catcher::Cleanings,
+        "a cleaning that passes over the areas",
+    ),
+    kind(
+        Fault::CleanUpOnly,
+        "clean-up-only",
+        Catcher::Cleanings,
+        "a cleaning that passes over boards that aren't up",
+    ),
+    kind(
+        Fault::CleanFirstSlot,
+        "clean-first-slot",
+        Catcher::Cleanings,
+        "a cleaning that zeroes the first slot past each count alone",
+    ),
+    kind(
+        Fault::CleanLastRecord,
+        "clean-last-record",
+        Catcher::Cleanings,
+        "a cleaning that zeroes the last record of each log too",
+    ),
+    kind(
+        Fault::CleanEmptiesLogs,
+        "clean-empties-logs",
+        Catcher::Cleanings,
+        "a cleaning that drops the records too, and sets their counts to 0",
+    ),
+    kind(
+        Fault::CleanRefusesClean,
+        "clean-refuses-clean",
+        Catcher::Cleanings,
+        "a cleaning that answers 1 for a clean bank",
+    ),
+    kind(
+        Fault::CleanTodaysRule,
+        "clean-todays-rule",
+        Catcher::Cleanings,
+        "a cleaning that takes a bank by today's rule",
+    ),
+    kind(
+        Fault::CleanUnchecked,
+        "clean-unchecked",
+        Catcher::Cleanings,
+        "a cleaning that looks at no more than head and length",
+    ),
+    kind(
+        Fault::CleanEarlierRule,
+        "clean-earlier-rule",
+        Catcher::Cleanings,
+        "a cleaning that asks a record's byte 3 to be zero",
+    ),
+    kind(
+        Fault::CleanEitherRule,
+        "clean-either-rule",
+        Catcher::Cleanings,
+        "a cleaning that takes banks whose records' byte 3 is zero too",
+    ),
+    kind(
+        Fault::CleanWritesFirst,
+        "clean-writes-first",
+        Catcher::Cleanings,
+        "a cleaning that writes before it refuses",
+    ),
+    kind(
+        Fault::CleanStores,
+        "clean-stores",
+        Catcher::Cleanings,
+        "a cleaning that counts a store",
+    ),
+    kind(
+        Fault::CleanTells,
+        "clean-tells",
+        Catcher::Cleanings,
+        "a cleaning whose value says whether there was something to zero",
     ),
 ];
 

@@ -1,9 +1,10 @@
 //! Runs every wrong engine and says what catches it. The claim is tried on random scripts, the answers on the stored
 //! scripts and, where these can't show it, on random ones, against the right engine's; a wrong conversion on pairs, a wrong
-//! adoption on banks to adopt, a wrong rule for banks on those in which a record names a wrong board, and a wrong
-//! comparison on random scripts and on banks made by hand.
+//! adoption on banks to adopt, a wrong cleaning on banks to clean, a wrong rule for banks on those in which a record names
+//! a wrong board or a slot past a count isn't zero, and a wrong comparison on random scripts and on banks made by hand.
 
 use crate::adoptions::{self, AdoptionCounters};
+use crate::cleanings::{self, CleaningCounters};
 use crate::compared;
 use crate::counters::Counters;
 use crate::fault::{Catcher, Fault, FaultKind, FAULTS};
@@ -71,6 +72,7 @@ fn try_fault(kind: &FaultKind, corpus: &[Case]) -> bool {
         Catcher::Pairs => return pairs_differ(kind.fault),
         Catcher::Verdicts => return verdicts_differ(kind.fault),
         Catcher::Adoptions => return adoptions_differ(kind.fault),
+        Catcher::Cleanings => return cleanings_differ(kind.fault),
         Catcher::Comparisons => return claim_breaks(kind.fault) & comparisons_differ(kind.fault),
         Catcher::MadeLogs => return comparisons_differ(kind.fault),
         _ => (),
@@ -126,10 +128,19 @@ fn verdicts_differ(fault: Fault) -> bool {
 }
 
 fn adoptions_differ(fault: Fault) -> bool {
-    let failure = adoptions::search(1, BANKS, fault, &mut AdoptionCounters::default());
+    let failure = adoptions::search(1, BANKS, fault, &mut AdoptionCounters::new());
     match &failure {
         Some(failure) => println!("  adoption wrong at seed {}: {}", failure.seed, failure.why),
         None => println!("  {BANKS} adoptions are right"),
+    }
+    failure.is_some()
+}
+
+fn cleanings_differ(fault: Fault) -> bool {
+    let failure = cleanings::search(1, BANKS, fault, &mut CleaningCounters::new());
+    match &failure {
+        Some(failure) => println!("  cleaning wrong at seed {}: {}", failure.seed, failure.why),
+        None => println!("  {BANKS} cleanings are right"),
     }
     failure.is_some()
 }

@@ -1,9 +1,9 @@
-//! Many random scripts under the claim, with counters of what they met; then pairs and adoptions.
+//! Many random scripts under the claim, with counters of what they met; then pairs, adoptions and cleanings.
 //! A script that breaks the claim is made smaller and printed.
 
 use crate::adoptions::adoptions;
-use crate::check::well_formed;
 use crate::claim::Verdict;
+use crate::cleanings::cleanings;
 use crate::counters::{Asked, Counters};
 use crate::fault::Fault;
 use crate::gen::{Generator, LONG_SCRIPT};
@@ -69,19 +69,6 @@ fn try_seed(seed: u64, fault: Fault, counters: &mut Counters) -> Result<(), Fail
         }
     }
     counters.count_script(&trial);
-    let fits = trial
-        .session
-        .bank
-        .as_ref()
-        .is_some_and(|bank| well_formed(bank));
-    if fault == Fault::None && !fits {
-        return Err(Failure {
-            seed,
-            lines,
-            why: "the last bank isn't well formed".into(),
-            script,
-        });
-    }
     Ok(())
 }
 
@@ -159,15 +146,16 @@ fn shrink(mut script: Vec<ScriptLine>, fault: Fault) -> Vec<ScriptLine> {
     script
 }
 
-/// The whole command: the scripts, then as many pairs and adoptions. False if the claim broke, a pair differed or an
-/// adoption answered wrongly.
+/// The whole command: the scripts, then as many pairs, adoptions and cleanings. False if the claim broke, a pair differed,
+/// or an adoption or cleaning went wrong.
 pub fn fuzz(seed: u64, count: u64, fault: Fault) -> io::Result<bool> {
     let mut counters = Counters::new();
     let failure = search(seed, count, fault, &mut counters);
     counters.print();
     let Some(failure) = failure else {
         println!("claim held");
-        return Ok(pairs(seed, count, fault) & adoptions(seed, count, fault));
+        let right = [pairs, adoptions, cleanings].map(|part| part(seed, count, fault));
+        return Ok(right == [true; 3]);
     };
     let Failure {
         seed,

@@ -27,8 +27,8 @@ pub enum Run {
 /// How often both numbers of a comparison are in range, in thousandths.
 const STRICT: u32 = 900;
 
-/// Chooses the lines of a script; for the line runner without shelf calls and comparisons, and without lines about
-/// absent owners that are chosen on purpose.
+/// Chooses the lines of a script; for the line runner without shelf calls, comparisons and cleanings, and without lines
+/// about absent owners that are chosen on purpose.
 pub struct Generator {
     pub random: Random,
     pub profile: Profile,
@@ -54,14 +54,15 @@ impl Generator {
         }
     }
 
-    /// With shelf calls and comparisons too, which the line runner has no line for, and with owners that are absent on
-    /// purpose.
+    /// With shelf calls, comparisons and cleanings too, which the line runner has no line for, and with owners that are
+    /// absent on purpose.
     pub fn with_shelves(seed: u64, lines: u32) -> Generator {
         let mut generator = Generator::new(seed, lines);
         let mut random = Random::new(!seed);
         generator.profile.shelves = random.pick(&[50, 200, 200, 500]);
         generator.profile.absent = random.pick(&[0, 10, 30, 100]);
         generator.profile.comparisons = random.pick(&[10, 20, 60]);
+        generator.profile.cleanings = random.pick(&[2, 5, 20]);
         generator
     }
 
@@ -82,6 +83,9 @@ impl Generator {
         if self.profile.comparisons > 0 && self.random.permille(self.profile.comparisons) {
             let comparison = asked::comparison(&mut self.random, layout, STRICT);
             return ScriptLine::Readable(comparison.into());
+        }
+        if self.profile.cleanings > 0 && self.random.permille(self.profile.cleanings) {
+            return ScriptLine::Readable(Line::Clean);
         }
         if self.random.permille(self.profile.noise) {
             return self.noise(bank, layout);

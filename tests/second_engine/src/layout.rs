@@ -29,8 +29,8 @@ pub const GOT_OWN: Kind = *b"GO";
 pub const SHOWN: Kind = *b"SH";
 pub const DROPPED: Kind = *b"DR";
 
-/// Which form a bank has: where its fields lie, and whether its records name a board. A parameter of types, so that
-/// layout, rules and engine are written once for all.
+/// Which form a bank has: where its fields lie, whether its records name a board, and what may stand in slots at or past
+/// a count. A parameter of types, so that layout, rules and engine are written once for all.
 pub type Form = u8;
 /// The form that every call works on.
 pub const NEWEST: Form = 0;
@@ -40,11 +40,16 @@ pub const OLDER: Form = 1;
 pub const EARLIER: Form = 2;
 /// The older places under the rules of the day: what an old bank is as long as it isn't converted.
 pub const NARROW: Form = 3;
+/// The newest form but for slots at or past a count, which may hold anything: what is cleaned, and what the engine of the
+/// day before works on.
+pub const UNCLEANED: Form = 4;
 
 /// The places and widths in which forms differ, or may come to differ.
 pub struct Places {
     /// Whether byte 3 of a record names a board; else it is zero.
     pub names_board: bool,
+    /// Whether slots at or past a count are zero; else they may hold anything.
+    pub clean_slots: bool,
     /// How many bytes since and a record's count have.
     pub count_width: usize,
     // Inside a block.
@@ -62,6 +67,7 @@ pub struct Places {
 
 const NEWEST_PLACES: Places = Places {
     names_board: true,
+    clean_slots: true,
     count_width: 4,
     since: 8,
     place: 12,
@@ -73,13 +79,19 @@ const NEWEST_PLACES: Places = Places {
     slot: 24,
 };
 
+const UNCLEANED_PLACES: Places = Places {
+    clean_slots: false,
+    ..NEWEST_PLACES
+};
+
 const EARLIER_PLACES: Places = Places {
     names_board: false,
-    ..NEWEST_PLACES
+    ..UNCLEANED_PLACES
 };
 
 const NARROW_PLACES: Places = Places {
     names_board: true,
+    clean_slots: true,
     ..older::PLACES
 };
 
@@ -128,11 +140,15 @@ impl<const FORM: Form> Layout<FORM> {
         OLDER => older::PLACES,
         EARLIER => EARLIER_PLACES,
         NARROW => NARROW_PLACES,
+        UNCLEANED => UNCLEANED_PLACES,
         _ => NEWEST_PLACES,
     };
 
     /// Whether a record of this form names a board.
     pub const NAMES_BOARD: bool = Self::PLACES.names_board;
+
+    /// Whether this form asks for zero in slots at or past a count. The store of an area head then zeroes its slots.
+    pub const CLEAN_SLOTS: bool = Self::PLACES.clean_slots;
 
     // Inside a slot of this form.
     pub const SLOT_COUNT: usize = Self::PLACES.slot_count;
@@ -278,13 +294,28 @@ impl<const FORM: Form> Layout<FORM> {
         (0..count).map(move |slot| log.first + Self::SLOT * slot)
     }
 
-    /// The slots at or past a count, of all logs: one run of bytes for each log.
+    /// The slots of a log at or past its count: one run of bytes.
+    pub fn past_count(self, bank: &[u8], log: Log) -> Range<usize> {
+        let count = (bank[log.count] as usize).min(SLOTS);
+        log.first + Self::SLOT * count..log.first + Self::SLOT * SLOTS
+    }
+
+    /// The same of all logs, one run for each.
     pub fn past_counts(self, bank: &[u8]) -> Vec<Range<usize>> {
-        let past = |log: Log| {
-            let count = (bank[log.count] as usize).min(SLOTS);
-            log.first + Self::SLOT * count..log.first + Self::SLOT * SLOTS
-        };
-        self.logs().map(past).collect()
+        let logs = self.logs();
+        logs.map(|log| self.past_count(bank, log)).collect()
+    }
+
+    /// Whether every slot at or past a count is zero.
+    pub fn is_clean(self, bank: &[u8]) -> bool {
+        let mut logs = self.logs();
+        logs.all(|log| all_zero(&bank[self.past_count(bank, log)]))
+    }
+
+    /// Writes zero into every slot at or past a count.
+    pub fn clear_past_counts(self, bank: &mut [u8]) {
+        let runs = self.past_counts(bank);
+        runs.into_iter().for_each(|run| bank[run].fill(0));
     }
 }
 
@@ -297,6 +328,12 @@ pub struct Log {
     /// Where its count stands, and where its first slot begins.
     pub count: usize,
     pub first: usize,
+}
+
+/// Whether some slots hold nothing; no more than the 32 of a log.
+pub fn all_zero(slots: &[u8]) -> bool {
+    const NOTHING: [u8; SLOTS * SLOT] = [0; SLOTS * SLOT];
+    *slots == NOTHING[..slots.len()]
 }
 
 pub fn get16(bank: &[u8], at: usize) -> u16 {
@@ -376,20 +413,49 @@ mod tests {
         assert_eq!(<Layout>::MOST, 4_294_967_295);
     }
 
-    /// Two widths of since, each with and without names.
+    /// Two widths of since, with and without names; slots past a count are zero where the rules of the day ask it.
     #[test]
-    fn four_forms() {
-        fn form<const FORM: Form>() -> (usize, bool) {
+    fn five_forms() {
+        fn form<const FORM: Form>() -> (usize, bool, bool) {
             let layout = Layout::<FORM> {
                 boards: 1,
                 pages: 1,
             };
-            (layout.length(), Layout::<FORM>::NAMES_BOARD)
+            let (names, clean) = (Layout::<FORM>::NAMES_BOARD, Layout::<FORM>::CLEAN_SLOTS);
+            (layout.length(), names, clean)
         }
-        assert_eq!(form::<NEWEST>(), (2_385, true));
-        assert_eq!(form::<EARLIER>(), (2_385, false));
-        assert_eq!(form::<OLDER>(), (2_191, false));
-        assert_eq!(form::<NARROW>(), (2_191, true));
+        assert_eq!(form::<NEWEST>(), (2_385, true, true));
+        assert_eq!(form::<UNCLEANED>(), (2_385, true, false));
+        assert_eq!(form::<EARLIER>(), (2_385, false, false));
+        assert_eq!(form::<OLDER>(), (2_191, false, false));
+        assert_eq!(form::<NARROW>(), (2_191, true, true));
+    }
+
+    /// One board, one page, two volatile records and one in area 0: what lies behind them, by its numbers.
+    #[test]
+    fn slots_past_the_counts() {
+        let l: Layout = Layout {
+            boards: 1,
+            pages: 1,
+        };
+        let mut bank = vec![7; l.length()];
+        (bank[l.volatile(0)], bank[l.stored(l.area(0, 0))]) = (2, 1);
+        bank[l.stored(l.area(0, 1))] = 0;
+        let runs = [37 + 48..805, 827 + 24..1_595, 1_617..2_385];
+        assert_eq!(l.past_counts(&bank), runs);
+        assert!(!l.is_clean(&bank));
+        let before = bank.clone();
+        l.clear_past_counts(&mut bank);
+        assert!(l.is_clean(&bank));
+        for at in 0..bank.len() {
+            let past = runs.iter().any(|run| run.contains(&at));
+            assert_eq!(bank[at], if past { 0 } else { before[at] });
+        }
+        for at in runs.iter().flat_map(|run| run.clone()) {
+            bank[at] = 1;
+            assert!(!l.is_clean(&bank));
+            bank[at] = 0;
+        }
     }
 
     /// Three logs for each board: the volatile one and those of both areas.

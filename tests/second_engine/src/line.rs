@@ -21,13 +21,15 @@ pub enum Line {
         board: u32,
     },
     Call(Call),
+    /// The whole bank is cleaned. A line of scripts under the claim alone.
+    Clean,
 }
 
 impl Line {
-    /// The call that a line asks for; none for a making.
+    /// The call that a line asks for; none for a making or a cleaning.
     pub fn call(&self) -> Option<Call> {
         match self {
-            Line::Make { .. } => None,
+            Line::Make { .. } | Line::Clean => None,
             Line::Cut { board } => Some(Call::Fuse {
                 board: *board,
                 stores: 0,
@@ -43,7 +45,7 @@ impl From<Call> for Line {
     }
 }
 
-/// Reads a line of a script under the claim: the line runner's, a shelf call or a comparison.
+/// Reads a line of a script under the claim: the line runner's, a shelf call, a comparison or a cleaning.
 pub fn read_script_line(line: &[u8]) -> Option<Line> {
     let fields: Vec<&[u8]> = line.split(|byte| *byte == b' ').collect();
     match fields[..] {
@@ -52,6 +54,7 @@ pub fn read_script_line(line: &[u8]) -> Option<Line> {
             board: read_number(board)?,
             other: read_number(other)?,
         })),
+        [b"Z"] => Some(Line::Clean),
         _ => read_line(line),
     }
 }
@@ -132,6 +135,7 @@ impl fmt::Display for Line {
             Line::Make { boards, pages } => write!(out, "N {boards} {pages}"),
             Line::Cut { board } => write!(out, "K {board}"),
             Line::Call(call) => call.fmt(out),
+            Line::Clean => write!(out, "Z"),
         }
     }
 }
@@ -224,14 +228,14 @@ mod tests {
         for text in "H 0;H 9 1;H 0 1 2;H 0 1 2 255 16 7;H 0 1 2 / 0;H 0 / 3".split(';') {
             assert_eq!(read(text).to_string(), text);
         }
-        for text in "T 0 1;T 1 0;T 7 7;T 4294967295 8".split(';') {
+        for text in "T 0 1;T 1 0;T 7 7;T 4294967295 8;Z".split(';') {
             assert_eq!(read(text).to_string(), text);
         }
     }
 
     /// No request gives the line runner a new line.
     #[test]
-    fn shelf_calls_and_comparisons_are_no_lines_of_the_runner() {
+    fn later_calls_are_no_lines_of_the_runner() {
         for text in "H 0;H 0 1 2;H 0 1 2 / 1".split(';') {
             assert_eq!(read_line(text.as_bytes()), None);
             assert!(read_script_line(text.as_bytes()).is_some());
@@ -239,11 +243,14 @@ mod tests {
         for text in "H;H ;H 0 ;H  0;H 0 256;H 0 01;H 0 1 2 /;H 0 / 1 2;H 0 1 2/ 1;h 0".split(';') {
             assert_eq!(read_script_line(text.as_bytes()), None, "{text}");
         }
-        for text in "T 0 1;T 0 0;T 4294967295 9".split(';') {
+        for text in "T 0 1;T 0 0;T 4294967295 9;Z".split(';') {
             assert_eq!(read_line(text.as_bytes()), None);
             assert!(read_script_line(text.as_bytes()).is_some());
         }
         for text in "T;T 0;T 0 1 2;T 0 1 ;T  0 1;T 0 01;T 0 4294967296;T 0 -1;t 0 1".split(';') {
+            assert_eq!(read_script_line(text.as_bytes()), None, "{text}");
+        }
+        for text in "Z ; Z;Z 0;ZZ;z".split(';') {
             assert_eq!(read_script_line(text.as_bytes()), None, "{text}");
         }
         let long = format!("H 0{}", " 0 0".repeat(40));
@@ -262,5 +269,6 @@ mod tests {
         assert_eq!(read("F 3 0").call(), Some(wanted));
         assert_ne!(read("K 3"), read("F 3 0"));
         assert_eq!(read("N 3 1").call(), None);
+        assert_eq!(read("Z").call(), None);
     }
 }

@@ -1,5 +1,6 @@
 //! Random well-formed banks: reached by a script, or made by hand, in any form, which no run need ever reach, with
-//! fields in their ranges, often at a limit. Slots at or past a count are anything: any bytes, zero or records.
+//! fields in their ranges, often at a limit. Slots at or past a count are zero or, where the form lets them, mostly
+//! leftovers: any bytes or records.
 //! Records name any board but their own, where the form has names; with one board there are none then. In some banks
 //! gots and showns agree as if the boards had dealt with each other, or nearly.
 
@@ -8,6 +9,7 @@ use crate::check::has_records;
 use crate::fault::Fault;
 use crate::gen::Generator;
 use crate::layout::*;
+use crate::leftovers;
 use crate::older;
 use crate::random::Random;
 use crate::settle;
@@ -121,6 +123,20 @@ pub fn with_one_log<const FORM: Form>(random: &mut Random) -> Vec<u8> {
     by_hand::<FORM>(random, Logged::One)
 }
 
+/// A bank with leftovers, which is well formed by the rule of the day before alone: reached by a script or made by hand.
+pub fn with_leftovers(random: &mut Random) -> Vec<u8> {
+    let mut bank = match random.below(4) {
+        0 => reached(random),
+        1 => bank::<UNCLEANED>(random),
+        2 => without_records::<UNCLEANED>(random),
+        _ => bank::<NEWEST>(random),
+    };
+    if Layout::of(&bank).is_clean(&bank) {
+        leftovers::put::<NEWEST>(random, &mut bank);
+    }
+    bank
+}
+
 fn by_hand<const FORM: Form>(random: &mut Random, logged: Logged) -> Vec<u8> {
     let layout = size::<FORM>(random);
     let mut bank = fresh(layout);
@@ -151,6 +167,9 @@ fn by_hand<const FORM: Form>(random: &mut Random, logged: Logged) -> Vec<u8> {
     if Layout::<FORM>::NAMES_BOARD && making.random.permille(500) {
         making.dealings();
     }
+    if Layout::<FORM>::CLEAN_SLOTS {
+        layout.clear_past_counts(&mut making.bank);
+    }
     making.bank
 }
 
@@ -167,7 +186,7 @@ struct Making<'a, const FORM: Form> {
     layout: Layout<FORM>,
     /// Whether counts may be other than zero.
     logged: bool,
-    /// Whether there are records past the counts too.
+    /// Whether there are records past the counts too, where the form lets them.
     records_past: bool,
     /// How often since, a record's count or an access number is near its largest, in thousandths.
     at_limits: u32,
@@ -532,9 +551,30 @@ mod tests {
     #[test]
     fn banks_are_as_asked() {
         made_as_asked::<NEWEST>();
+        made_as_asked::<UNCLEANED>();
         made_as_asked::<OLDER>();
         made_as_asked::<EARLIER>();
         made_as_asked::<NARROW>();
+    }
+
+    /// Leftovers stand where a form lets them, in most of its banks, and nowhere else.
+    #[test]
+    fn leftovers_are_as_asked() {
+        fn littered<const FORM: Form>() -> usize {
+            many::<FORM>(|bank, layout| !layout.is_clean(bank))
+        }
+        assert_eq!([littered::<NEWEST>(), littered::<NARROW>()], [0, 0]);
+        let free = [
+            littered::<UNCLEANED>(),
+            littered::<EARLIER>(),
+            littered::<OLDER>(),
+        ];
+        assert!(free.iter().all(|count| (700..950).contains(count)));
+        let mut random = Random::new(5);
+        for _ in 0..300 {
+            let bank = with_leftovers(&mut random);
+            assert!(fits::<UNCLEANED>(&bank) && !fits::<NEWEST>(&bank));
+        }
     }
 
     /// All boards are named, in every log; without their names they are of the earlier form.

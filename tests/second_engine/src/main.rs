@@ -1,15 +1,19 @@
 //! The second engine: the bank, line runner and claim of documents 01 and 02, worked on plain bytes.
-//! Commands: run, dump, gen, claim, fuzz, pairs, adoptions, faults.
+//! Commands: run, dump, gen, claim, fuzz, pairs, adoptions, cleanings, faults.
 
 mod absent;
 mod access;
 mod adopt;
 mod adoptions;
 mod asked;
+mod beside;
+mod blown;
 mod calls;
 mod cases;
 mod check;
 mod claim;
+mod clean;
+mod cleanings;
 mod compared;
 mod comparisons;
 mod convert;
@@ -25,6 +29,7 @@ mod gen;
 mod given;
 mod history;
 mod layout;
+mod leftovers;
 mod line;
 mod logs;
 mod made;
@@ -39,10 +44,14 @@ mod random;
 mod replay;
 mod runner;
 mod script_line;
+mod search;
 mod served;
 mod settle;
 mod shelves;
+mod slots;
+mod sources;
 mod trial;
+mod twins;
 mod verdicts;
 mod watch;
 #[cfg(test)]
@@ -53,6 +62,8 @@ mod worked_givers;
 mod worked_logs;
 #[cfg(test)]
 mod worked_names;
+#[cfg(test)]
+mod worked_slots;
 
 use fault::Fault;
 use std::io::{self, stdin, stdout};
@@ -61,7 +72,7 @@ use std::process::ExitCode;
 
 const USAGE: &str = "usage: second run|dump|claim [--fault NAME] < SCRIPT
        second gen SEED LINES
-       second fuzz|pairs|adoptions SEED COUNT [--fault NAME]
+       second fuzz|pairs|adoptions|cleanings SEED COUNT [--fault NAME]
        second faults
        second test";
 
@@ -89,6 +100,9 @@ fn command(arguments: &[&str], fault: Fault) -> Option<io::Result<bool>> {
         ["pairs", seed, count] => Ok(pairs::pairs(number(seed)?, number(count)?, fault)),
         ["adoptions", seed, count] => {
             Ok(adoptions::adoptions(number(seed)?, number(count)?, fault))
+        }
+        ["cleanings", seed, count] => {
+            Ok(cleanings::cleanings(number(seed)?, number(count)?, fault))
         }
         ["faults", folder] => faults::faults(Path::new(folder)),
         _ => return None,

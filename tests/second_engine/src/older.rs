@@ -8,6 +8,7 @@ use crate::layout::{self, Places, NEWEST, OLDER};
 
 pub const PLACES: Places = Places {
     names_board: false,
+    clean_slots: false,
     count_width: 2,
     since: 8,
     place: 10,
@@ -80,7 +81,8 @@ mod tests {
         assert_eq!((l.stored(7), l.area_frame(7, 1)), (11, 29));
         assert_eq!(l.area_slot(7, 1), 7 + 5 + 51 + 22);
         assert_eq!((Layout::SLOT_COUNT, Layout::SLOT_BYTES), (4, 6));
-        assert_eq!((Layout::MOST, Layout::NAMES_BOARD), (65_535, false));
+        let rules = (Layout::NAMES_BOARD, Layout::CLEAN_SLOTS);
+        assert_eq!((Layout::MOST, rules), (65_535, (false, false)));
     }
 
     /// For one number of boards and pages the two lengths never agree.

@@ -1,9 +1,10 @@
 //! What the pairs of an old bank and its conversion have met. Printed at the end of a run.
 
+use crate::blown::Blown;
 use crate::calls::{Answer, Call};
 use crate::layout::*;
 use crate::older;
-use crate::watch::{phase_name, phases, Watch, PHASES};
+use crate::watch::Watch;
 
 /// A counter is near its limit if so many more accesses, or fewer, fill it.
 const NEAR: u32 = 5;
@@ -85,7 +86,7 @@ pub struct PairCounters {
     sources: [u64; SOURCES.len()],
     refusals: [u64; REFUSALS.len()],
     codes: [u64; 13],
-    phases: [u64; PHASES],
+    blown: Blown,
     calls: [u64; CALLS.len()],
 }
 
@@ -95,7 +96,7 @@ impl PairCounters {
             sources: Default::default(),
             refusals: Default::default(),
             codes: Default::default(),
-            phases: [0; PHASES],
+            blown: Blown::new(),
             calls: Default::default(),
         }
     }
@@ -134,17 +135,11 @@ impl PairCounters {
     /// Counts a call that the old bank has answered.
     pub fn call(&mut self, Before(before): Before, answer: &Answer, watch: &Watch) {
         self.codes[answer.code as usize] += 1;
-        if let (Some(phase), 8) = (watch.blown, answer.code) {
-            self.phases[phase] += 1;
-        }
+        self.blown.count(watch);
         // The first two count whatever was answered, the others if they were done.
         for (at, fits) in before.into_iter().enumerate() {
             self.calls[at] += (fits && (at < 2 || answer.code == 0)) as u64;
         }
-    }
-
-    fn phases_met(&self) -> impl Iterator<Item = (usize, u64)> + '_ {
-        phases().map(|phase| (phase, self.phases[phase]))
     }
 
     /// What was never met and can be.
@@ -156,12 +151,8 @@ impl PairCounters {
             .chain(&self.refusals)
             .chain(&self.calls)
             .copied();
-        let phases = self.phases_met().map(|(_, count)| count);
-        tables
-            .chain(codes)
-            .chain(phases)
-            .filter(|count| *count == 0)
-            .count()
+        let missing = tables.chain(codes).filter(|count| *count == 0);
+        missing.count() + self.blown.never_met()
     }
 
     pub fn print(&self) {
@@ -171,7 +162,7 @@ impl PairCounters {
             "pairs {pairs}, calls after the conversion {calls}, pairs over by the old one's code 4: {}",
             self.codes[4]
         );
-        println!("old banks:");
+        println!("old banks, each converted clean and with leftovers:");
         print_rows(SOURCES.iter().zip(self.sources));
         println!("calls:");
         print_rows(CALLS.iter().zip(self.calls));
@@ -179,10 +170,7 @@ impl PairCounters {
         for code in CODES {
             println!("  {code}: {}", self.codes[code]);
         }
-        println!("fuses blown in:");
-        for (phase, count) in self.phases_met() {
-            println!("  {}: {count}", phase_name(phase));
-        }
+        self.blown.print();
         println!("conversions refused:");
         for ((name, code), count) in REFUSALS.iter().zip(self.refusals) {
             println!("  {name}, code {code}: {count}");

@@ -1,9 +1,11 @@
 //! Pairs of banks, an old one and its conversion, that are given the same calls. Document 02: both under the rules of
 //! the day, a converted bank answers every later call as the old one would until the old one's first code 4.
 //! An old bank is converted while it has no record; from then on its records name boards as the rules of the day have it.
+//! With leftovers it is converted to the same bytes, but the rules of the day call it malformed.
 
 use crate::asked;
-use crate::calls::{call, call_in, Answer, Call};
+use crate::beside::{same, Beside};
+use crate::calls::{call, Answer, Call};
 use crate::check::{has_records, well_formed};
 use crate::claim::{Answered, Verdict};
 use crate::convert::{carry, convert};
@@ -11,12 +13,14 @@ use crate::damage;
 use crate::fault::Fault;
 use crate::gen::{Generator, LONG_SCRIPT};
 use crate::layout::*;
+use crate::leftovers::{self, cleaned};
 use crate::line::Line;
 use crate::made;
 use crate::older;
 use crate::pair_counters::{PairCounters, Refusal, Source};
 use crate::random::Random;
 use crate::runner::Session;
+use crate::search::{first_failure, told, Failure};
 use crate::settle;
 use crate::trial::Trial;
 use crate::watch::Watch;
@@ -28,16 +32,9 @@ const REACHED_EVERY: u64 = 3;
 /// A board that reads on and on does so behind the conversion, which comes in one of the first lines.
 const LONG_CONVERTED_BY: u32 = 30;
 
-/// A pair that differed, and how.
-pub struct Failure {
-    pub seed: u64,
-    pub why: String,
-}
-
 /// An old bank, run on its own bytes by the right engine under the rules of the day, beside its conversion.
 struct Pair<'a> {
-    old: Vec<u8>,
-    watch: Watch,
+    old: Beside<NARROW>,
     calls: u64,
     fault: Fault,
     counters: &'a mut PairCounters,
@@ -46,61 +43,61 @@ struct Pair<'a> {
 impl Pair<'_> {
     fn new(old: Vec<u8>, fault: Fault, counters: &mut PairCounters) -> Pair<'_> {
         Pair {
-            watch: Watch::of::<NARROW>(&old),
-            old,
+            old: Beside::new(old),
             calls: 0,
             fault,
             counters,
         }
     }
 
-    /// The old bank's conversion, written over any bytes.
+    /// The old bank's conversion. With leftovers it is the same.
     fn converted(&mut self, random: &mut Random, source: Source) -> Result<Vec<u8>, String> {
-        let mut new = vec![0; Layout::of(&self.old).length()];
-        made::fill(random, &mut new);
-        let answer = convert(&self.old, &mut new, self.fault);
+        let new = self.conversion_of(&self.old.bank, random)?;
+        let mut littered = self.old.bank.clone();
+        leftovers::put::<OLDER>(random, &mut littered);
+        if self.conversion_of(&littered, random)? != new {
+            return Err("leftovers make another conversion".into());
+        }
+        refused_today(littered, random)?;
         self.counters.converted(source);
-        conversion_fits(&self.old, &new, &answer)?;
+        Ok(new)
+    }
+
+    /// Written over any bytes.
+    fn conversion_of(&self, old: &[u8], random: &mut Random) -> Result<Vec<u8>, String> {
+        let mut new = vec![0; Layout::of(old).length()];
+        made::fill(random, &mut new);
+        let answer = convert(old, &mut new, self.fault);
+        conversion_fits(old, &new, &answer)?;
         Ok(new)
     }
 
     /// Gives the old bank a call that the converted one, here as it is now, has answered. False if the pair is over.
     fn take(&mut self, answered: Answered, new: &[u8]) -> Result<bool, String> {
-        let Answered { call, answer, out } = answered;
+        let Answered { call, answer, .. } = answered;
         self.calls += 1;
-        let before = self.counters.before(&self.old, call);
-        let (wanted, wanted_out) = self.old_answer(call);
-        self.counters.call(before, &wanted, &self.watch);
-        let told = |what: String| format!("call {}, {call}: {what}", self.calls);
-        if wanted.code == 4 {
+        let before = self.counters.before(&self.old.bank, call);
+        let wanted = self.old.answer(call);
+        self.counters.call(before, &wanted.0, &self.old.watch);
+        let told = |why: String| format!("call {}, {call}: {why}", self.calls);
+        if wanted.0.code == 4 {
             return match (answer.code == 4) == self.number_is_full(call) {
                 true => Ok(false),
-                false => Err(told(format!("old {wanted:?}, converted {answer:?}"))),
+                false => Err(told(format!("old {:?}, converted {answer:?}", wanted.0))),
             };
         }
-        if wanted != *answer {
-            return Err(told(format!("old {wanted:?}, converted {answer:?}")));
+        same(&wanted, &answered).map_err(told)?;
+        match same_bytes(&self.old.bank, new) {
+            true => Ok(true),
+            false => Err(told("the banks differ".into())),
         }
-        if wanted_out != out {
-            return Err(told(format!("old {wanted_out:?}, converted {out:?}")));
-        }
-        if !same_numbers(&self.old, new) {
-            return Err(told("the banks differ".into()));
-        }
-        Ok(true)
-    }
-
-    /// What the right engine answers on the old bank's own bytes, and the second buffer.
-    fn old_answer(&mut self, call: &Call) -> (Answer, Vec<u8>) {
-        let mut out = call.second_buffer();
-        let answer = call_in::<NARROW>(&mut self.old, call, &mut out, Fault::None, &mut self.watch);
-        (answer, out)
     }
 
     /// Then the converted bank answers 4 too; it doesn't if the old one's since alone is full.
     fn number_is_full(&self, call: &Call) -> bool {
-        let layout = older::Layout::named_by(&self.old);
-        get32(&self.old, layout.number(call.board() as usize)) == u32::MAX
+        let old = &self.old.bank;
+        let layout = older::Layout::named_by(old);
+        get32(old, layout.number(call.board() as usize)) == u32::MAX
     }
 
     /// A conversion that must be refused leaves its target alone.
@@ -121,7 +118,7 @@ impl Pair<'_> {
     fn refusals(&mut self, random: &mut Random, new: &[u8]) -> Result<(), String> {
         let mut target = vec![0; new.len()];
         made::fill(random, &mut target);
-        let old = self.old.clone();
+        let old = self.old.bank.clone();
         self.refused_if_damaged(Refusal::Damaged, &old, random)?;
         let mut other = old.clone();
         damage::length::<OLDER>(random, &mut other);
@@ -203,10 +200,10 @@ impl Pair<'_> {
     /// The old bank as it stands may have records, which name boards by the rules of the day: not well formed by document
     /// 01's rule unless all name board 0. With zero bytes in their place it is.
     fn refused_as_it_stands(&mut self, random: &mut Random) -> Result<(), String> {
-        if !has_records::<NARROW>(&self.old) {
+        if !has_records::<NARROW>(&self.old.bank) {
             return Ok(());
         }
-        let old = self.old.clone();
+        let old = self.old.bank.clone();
         let mut zero = vec![0; old.len()];
         carry::<NARROW, OLDER>(&old, &mut zero, Fault::None);
         self.refused_for_records(Refusal::Reached, &zero, random)?;
@@ -225,36 +222,40 @@ fn conversion_fits(old: &[u8], new: &[u8], answer: &Answer) -> Result<(), String
     if !well_formed(new) {
         return Err("the converted bank isn't well formed".into());
     }
-    if without_leftovers::<NEWEST>(new) != new {
-        return Err("the converted bank has something in a slot past a count".into());
-    }
-    if older::narrowed(new, |_| ()) != Some(without_leftovers::<OLDER>(old)) {
+    if older::narrowed(new, |_| ()) != Some(cleaned::<OLDER>(old)) {
         return Err("the conversion loses a number".into());
     }
     Ok(())
 }
 
-/// A bank with zero in every slot at or past a count.
-fn without_leftovers<const FORM: Form>(bank: &[u8]) -> Vec<u8> {
-    let mut clean = bank.to_vec();
-    for run in Layout::<FORM>::named_by(bank).past_counts(bank) {
-        clean[run].fill(0);
+/// An old bank with leftovers is malformed under the rules of the day, whatever is asked.
+fn refused_today(old: Vec<u8>, random: &mut Random) -> Result<(), String> {
+    let Some(call) = asked::any(random, Layout::of(&old), 900).call() else {
+        return Ok(());
+    };
+    let mut today = Beside::<NARROW>::new(old.clone());
+    let (answer, out) = today.answer(&call);
+    let unchanged = today.bank == old && out == call.second_buffer();
+    match unchanged && answer == Answer::refused(1) {
+        true => Ok(()),
+        false => Err(format!(
+            "an old bank with leftovers: {call} is {answer:?}, or writes"
+        )),
     }
-    clean
 }
 
-/// Whether the old bank, with its records and their names in the newest places, is the other one up to slots at or past a
-/// count.
-fn same_numbers(old: &[u8], new: &[u8]) -> bool {
-    let mut again = vec![0; new.len()];
-    carry::<NARROW, NEWEST>(old, &mut again, Fault::None);
-    again == without_leftovers::<NEWEST>(new)
+/// Whether each is the other one carried to its own places, byte for byte.
+fn same_bytes(old: &[u8], new: &[u8]) -> bool {
+    let (mut widened, mut narrowed) = (vec![0; new.len()], vec![0; old.len()]);
+    carry::<NARROW, NEWEST>(old, &mut widened, Fault::None);
+    carry::<NEWEST, NARROW>(new, &mut narrowed, Fault::None);
+    widened == new && narrowed == old
 }
 
 /// A bank made by hand, converted, and calls that suit it.
 fn made_by_hand(seed: u64, fault: Fault, counters: &mut PairCounters) -> Result<(), String> {
     let mut random = Random::new(seed);
-    let old = made::without_records::<OLDER>(&mut random);
+    let old = made::without_records::<NARROW>(&mut random);
     let mut pair = Pair::new(old, fault, counters);
     let mut new = pair.converted(&mut random, Source::Made)?;
     pair.refusals(&mut random, &new)?;
@@ -303,7 +304,7 @@ fn reached(seed: u64, lines: u32, fault: Fault, counters: &mut PairCounters) -> 
         if line == converted_at {
             pair.refused_as_it_stands(&mut random)?;
             settle_both(&mut pair, &mut generator, &mut trial, &mut random)?;
-            if has_records::<NARROW>(&pair.old) {
+            if has_records::<NARROW>(&pair.old.bank) {
                 return Ok(());
             }
             let new = pair.converted(&mut random, source)?;
@@ -363,7 +364,7 @@ fn one_line(
             bank,
         ),
         (Some(asked), _) => {
-            pair.old_answer(&asked);
+            pair.old.answer(&asked);
             Ok(true)
         }
         _ => Ok(true),
@@ -383,10 +384,7 @@ fn try_seed(seed: u64, fault: Fault, counters: &mut PairCounters) -> Result<(), 
 
 /// The first of so many pairs from a seed on that differs.
 pub fn search(seed: u64, count: u64, fault: Fault, counters: &mut PairCounters) -> Option<Failure> {
-    (seed..seed.saturating_add(count)).find_map(|seed| {
-        let why = try_seed(seed, fault, counters).err()?;
-        Some(Failure { seed, why })
-    })
+    first_failure(seed, count, |seed| try_seed(seed, fault, counters))
 }
 
 /// The whole command; false if a pair differed.
@@ -394,9 +392,5 @@ pub fn pairs(seed: u64, count: u64, fault: Fault) -> bool {
     let mut counters = PairCounters::new();
     let failure = search(seed, count, fault, &mut counters);
     counters.print();
-    match &failure {
-        None => println!("pairs agree"),
-        Some(Failure { seed, why }) => println!("pairs differ, seed {seed}: {why}"),
-    }
-    failure.is_none()
+    told(failure, "pairs agree", "pairs differ")
 }

@@ -12,7 +12,7 @@ use crate::older;
 /// A bank is tried as it is after every call, in the other forms after one in so many.
 const FORMS_EVERY: u32 = 16;
 
-const STATES: [&str; 3] = [
+pub const STATES: [&str; 3] = [
     "all boards up",
     "a board down, none replaying",
     "a board replaying",
@@ -31,7 +31,8 @@ pub struct Passages {
     counts: [[[u64; 12]; STATES.len()]; KINDS.len()],
 }
 
-fn state_of(bank: &[u8]) -> usize {
+/// The state of its boards: which of `STATES` it is.
+pub fn state_of(bank: &[u8]) -> usize {
     let layout = Layout::of(bank);
     let some = |state: u8| (0..layout.boards).any(|board| bank[layout.state(board)] == state);
     match (some(REPLAYING), some(DOWN)) {
@@ -49,7 +50,7 @@ fn passing(bank: &[u8]) -> Answer {
 }
 
 /// What adoption answers for a bank of the newest form: records that all name board 0 have zero bytes too.
-fn adopted_as_it_is(bank: &[u8]) -> Answer {
+pub fn adopted_as_it_is(bank: &[u8]) -> Answer {
     let layout = Layout::of(bank);
     let mut records = layout.logs().flat_map(|log| layout.records(bank, log));
     match records.any(|slot| bank[slot + SLOT_ZERO] != 0) {
@@ -59,7 +60,7 @@ fn adopted_as_it_is(bank: &[u8]) -> Answer {
 }
 
 /// An adoption answers this, and leaves every byte.
-fn adoption(bank: &[u8], wanted: Answer, fault: Fault) -> Result<(), String> {
+pub fn adoption(bank: &[u8], wanted: Answer, fault: Fault) -> Result<(), String> {
     let mut copy = bank.to_vec();
     let answer = adopt(&mut copy, fault);
     if answer != wanted {
@@ -71,7 +72,8 @@ fn adoption(bank: &[u8], wanted: Answer, fault: Fault) -> Result<(), String> {
     }
 }
 
-/// The old bank of the same numbers is converted back into it, up to leftovers; or refused, and nothing is written.
+/// The old bank of the same numbers is converted back into it, whatever leftovers it has; or refused, and nothing is
+/// written.
 fn conversion(bank: &[u8], old: &[u8], wanted: Answer, fault: Fault) -> Result<(), String> {
     let mut new = vec![UNWRITTEN; bank.len()];
     let answer = convert(old, &mut new, fault);
@@ -80,11 +82,10 @@ fn conversion(bank: &[u8], old: &[u8], wanted: Answer, fault: Fault) -> Result<(
             "conversion answers {answer:?} instead of {wanted:?}"
         ));
     }
-    let mut target = bank.to_vec();
-    match answer.code {
-        0 => clear_leftovers(&mut target),
-        _ => target.fill(UNWRITTEN),
-    }
+    let target = match answer.code {
+        0 => bank.to_vec(),
+        _ => vec![UNWRITTEN; bank.len()],
+    };
     match new == target {
         true => Ok(()),
         false => Err(format!(
@@ -92,11 +93,6 @@ fn conversion(bank: &[u8], old: &[u8], wanted: Answer, fault: Fault) -> Result<(
             answer.code
         )),
     }
-}
-
-fn clear_leftovers(bank: &mut [u8]) {
-    let runs = Layout::of(bank).past_counts(bank);
-    runs.into_iter().for_each(|run| bank[run].fill(0));
 }
 
 impl Passages {

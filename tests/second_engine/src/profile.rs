@@ -16,6 +16,8 @@ pub struct Profile {
     pub absent: u32,
     /// Comparisons of two logs; none in scripts for the line runner.
     pub comparisons: u32,
+    /// Cleanings; none in scripts for the line runner.
+    pub cleanings: u32,
     pub checkpoints: u32,
     /// Power losses that are asked for.
     pub cuts: u32,
@@ -56,6 +58,7 @@ impl Profile {
             shelves: 0,
             absent: 0,
             comparisons: 0,
+            cleanings: 0,
             checkpoints: random.pick(&[0, 2, 10, 30, 60]),
             cuts: random.pick(&[0, 5, 15, 30, 60]),
             fuses: [5, 25, 80][hasty],

@@ -2,6 +2,7 @@
 //! `dump` is the same with a hash of the bank's bytes behind each answer.
 
 use crate::calls::{call, make, Answer, Call};
+use crate::clean::clean;
 use crate::fault::Fault;
 use crate::layout::{Layout, MAX_BOARDS, MAX_PAGES};
 use crate::line::{read_line, Line, Lines};
@@ -37,6 +38,7 @@ impl Session {
             None => Answer::refused(9),
             Some(Line::Make { .. }) if self.lines > 1 => Answer::refused(9),
             Some(Line::Make { boards, pages }) => self.make(boards, pages),
+            Some(Line::Clean) => self.clean(),
             Some(line) => match (call_for(&line, self.fault), &mut self.bank) {
                 (Some(wanted), Some(bank)) => {
                     self.out = wanted.second_buffer();
@@ -52,6 +54,11 @@ impl Session {
         let answer = make(&mut bank, boards, pages);
         self.bank = (answer.code == 0).then_some(bank);
         answer
+    }
+
+    fn clean(&mut self) -> Answer {
+        let bank = self.bank.as_deref_mut();
+        bank.map_or(Answer::refused(1), |bank| clean(bank, self.fault))
     }
 
     /// FNV-1a of the bank's bytes, of no bytes where there is no bank.

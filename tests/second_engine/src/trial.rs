@@ -11,6 +11,7 @@ use crate::named::{self, Names};
 use crate::passages::Passages;
 use crate::runner::Session;
 use crate::served::all_served;
+use crate::slots::Slots;
 use std::io::{self, Read, Write};
 
 pub struct Trial {
@@ -19,6 +20,7 @@ pub struct Trial {
     pub names: Names,
     pub compared: Compared,
     pub passages: Passages,
+    pub slots: Slots,
     /// What the latest line was answered.
     pub latest: Answer,
 }
@@ -41,6 +43,7 @@ impl Trial {
             names: Names::default(),
             compared: Compared::default(),
             passages: Passages::default(),
+            slots: Slots::default(),
             latest: Answer::default(),
         }
     }
@@ -58,6 +61,10 @@ impl Trial {
             _ => None,
         };
         (self.judge.began, self.judge.ended) = (None, None);
+        let before = match line {
+            Some(Line::Clean) => self.session.bank.clone(),
+            _ => None,
+        };
         let answer = self.session.take(line);
         let verdict = match asked {
             Some(_) if answer.code == 1 => {
@@ -67,10 +74,19 @@ impl Trial {
                 Verdict::ClaimBroken("no script is long enough for code 4".into())
             }
             Some(asked) => self.judged(asked, &answer),
-            None => Verdict::Held,
+            None => self.cleaned(before, &answer),
         };
         self.latest = answer;
         (answer, verdict)
+    }
+
+    /// A line that wasn't a call: a cleaning, of a bank as it was before, or one that changes nothing.
+    fn cleaned(&mut self, before: Option<Vec<u8>>, answer: &Answer) -> Verdict {
+        let fits = match (before, &self.session.bank) {
+            (Some(before), Some(bank)) => self.slots.cleaned(&before, answer, bank),
+            _ => Ok(()),
+        };
+        fits.map_or_else(Verdict::ClaimBroken, |_| Verdict::Held)
     }
 
     /// The claim, then what holds whether the premise does or not.
@@ -101,8 +117,18 @@ impl Trial {
                 .and_then(|_| buffer_fits(answer, out, single))
                 .and_then(|_| self.all_served()),
         };
-        let fits = fits.and_then(|_| self.passes_over());
+        let fits = fits
+            .and_then(|_| self.slots_fit())
+            .and_then(|_| self.passes_over());
         fits.map_or_else(Verdict::ClaimBroken, |_| verdict)
+    }
+
+    fn slots_fit(&mut self) -> Result<(), String> {
+        let Session {
+            bank, lines, fault, ..
+        } = &self.session;
+        let bank = bank.as_deref().unwrap_or(&[]);
+        self.slots.take(bank, *lines, *fault)
     }
 
     /// Adoption and conversion know the bank that the call left. A wrong engine's may be anything.

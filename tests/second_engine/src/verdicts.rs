@@ -1,5 +1,5 @@
 //! Whether an engine that takes a bank for well formed by a wrong rule is told from the right one: on banks made by hand,
-//! sound and with a wrong board in one record.
+//! sound, with a wrong board in one record, or with a byte in a slot past a count.
 
 use crate::asked;
 use crate::calls::{call, Answer, Call};
@@ -22,8 +22,10 @@ pub fn taken(bank: &[u8], asked: &Call, fault: Fault) -> (Answer, Vec<u8>, Vec<u
 pub fn differs(seed: u64, fault: Fault) -> Option<String> {
     let mut random = Random::new(seed);
     let mut bank = made::bank::<NEWEST>(&mut random);
-    if random.permille(800) {
-        damage::name::<NEWEST>(&mut random, &mut bank);
+    match random.below(10) {
+        0 | 1 => (),
+        2..=5 => drop(damage::name::<NEWEST>(&mut random, &mut bank)),
+        _ => damage::slot::<NEWEST>(&mut random, &mut bank),
     }
     let asked = asked::any(&mut random, Layout::of(&bank), 985).call()?;
     let (right, wrong) = (

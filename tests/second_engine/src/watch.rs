@@ -11,6 +11,13 @@ pub enum During {
     BeforeLive,
 }
 
+/// What each is called.
+pub const CHECKPOINTS: [&str; 3] = [
+    "checkpoint",
+    "end of replay after a repeat",
+    "end of replay before going on live",
+];
+
 /// Who gives a page to a reader.
 #[derive(Clone, Copy, PartialEq, Eq)]
 pub enum Giver {
@@ -121,17 +128,13 @@ pub fn phase_name(index: usize) -> String {
         let after = ["", " (after a replay ended in the call)"][index / FLUSHES];
         return format!("{}, {}{}", FLUSH_NAMES[index % FLUSHES / 2], record, after);
     }
-    let during = [
-        "checkpoint",
-        "end of replay after a repeat",
-        "end of replay before going on live",
-    ];
     let part = match (index - 2 * FLUSHES) % PARTS {
         MAX_PAGES => "head".to_string(),
         part if part > MAX_PAGES => "selector".to_string(),
         page => format!("frame {page}"),
     };
-    format!("{}, {}", during[(index - 2 * FLUSHES) / PARTS], part)
+    let checkpoint = CHECKPOINTS[(index - 2 * FLUSHES) / PARTS];
+    format!("{checkpoint}, {part}")
 }
 
 /// An access number and the moment it was noted at.
@@ -163,6 +166,8 @@ pub struct Watch {
     /// Records whose count has no room in the older form: made, and used in a replay.
     pub wide_records_made: u64,
     pub wide_records_used: u64,
+    /// Which checkpoint was begun in this call, and how many records the spare area had then.
+    pub checkpoint: Option<(During, u8)>,
 }
 
 impl Watch {
@@ -178,6 +183,7 @@ impl Watch {
             replay_ended: None,
             wide_records_made: 0,
             wide_records_used: 0,
+            checkpoint: None,
         }
     }
 
@@ -195,6 +201,7 @@ impl Watch {
         self.blown = None;
         self.givers.clear();
         self.replay_ended = None;
+        self.checkpoint = None;
     }
 
     fn note(&mut self, number: u32) -> Note {
@@ -218,6 +225,10 @@ impl Watch {
 
     pub fn selector_stored(&mut self, board: usize, number: u32) {
         self.boards[board].last_selector = Some(self.note(number));
+    }
+
+    pub fn checkpoint_begun(&mut self, during: During, spare_records: u8) {
+        self.checkpoint = Some((during, spare_records));
     }
 
     /// A cut or a checkpoint emptied the volatile log.

@@ -66,6 +66,18 @@ pub fn log_with(bank: &[u8], board: usize, number: impl Fn(usize) -> u32) -> Str
     format!("{} | {}", records(Some(selected)), records(None))
 }
 
+/// What breaks the claim at the last line of a script, if something does.
+pub fn broken_by(fault: Fault, script: &str) -> Option<String> {
+    let mut trial = Trial::new(fault);
+    let verdicts = script
+        .split("; ")
+        .map(|line| trial.take(read_script_line(line.as_bytes())));
+    match verdicts.last()?.1 {
+        Verdict::ClaimBroken(why) => Some(why),
+        _ => None,
+    }
+}
+
 #[test]
 fn bytes_come_in_the_asked_order() {
     let bank = worked(

@@ -2,13 +2,10 @@
 
 use crate::adopt::adopt;
 use crate::calls::Answer;
-use crate::claim::Verdict;
 use crate::fault::Fault;
 use crate::layout::*;
-use crate::line::read_script_line;
 use crate::made::unnamed;
-use crate::trial::Trial;
-use crate::worked::{log_with, worked};
+use crate::worked::{broken_by, log_with, worked};
 
 /// The stored and the volatile records of a board: mark, page and the board named.
 fn names(bank: &[u8], board: usize) -> String {
@@ -141,18 +138,6 @@ fn two_checkpoints_of_each_board_before_a_bank_passes() {
         adopted(&worked(&format!("{restarted}\nC 0 -> 0 0 0 3"))),
         Answer::default()
     );
-}
-
-/// What breaks the claim at the last line of a script, if something does.
-fn broken_by(fault: Fault, script: &str) -> Option<String> {
-    let mut trial = Trial::new(fault);
-    let verdicts = script
-        .split("; ")
-        .map(|line| trial.take(read_script_line(line.as_bytes())));
-    match verdicts.last()?.1 {
-        Verdict::ClaimBroken(why) => Some(why),
-        _ => None,
-    }
 }
 
 #[test]

@@ -1,6 +1,6 @@
-//! Whether diagnosis and archive agree on random banks of every form, sound and damaged: a broken rule is named exactly where the archive answers 1, and
-//! an old or earlier bank gets code 11 exactly where it has records. Of sound ones of the newest form the words about two logs are held against the second
-//! engine.
+//! Whether diagnosis, archive and second engine agree on random banks of every form, sound and damaged: a broken rule is named exactly where the archive
+//! answers 1 and the second engine's check refuses, and an old or earlier bank gets code 11 exactly where it has records. Leftovers are named exactly where a
+//! cleaning would mend all, at the first byte that it changes. Of sound ones of the newest form the words about two logs are held against the second engine.
 
 use crate::bank;
 use crate::cases::has;
@@ -11,9 +11,10 @@ use crate::pairs::Pairs;
 use crate::rules::Rule;
 use crate::table;
 use crate::verdict::{self, HAS_RECORDS, MALFORMED};
-use second::check::has_records;
+use second::check::{fits, has_records};
 use second::damage;
-use second::layout::{Form, EARLIER, NEWEST, OLDER};
+use second::layout::{Form, EARLIER, NEWEST, OLDER, UNCLEANED};
+use second::leftovers::cleaned;
 use second::made;
 use second::random::Random;
 
@@ -24,7 +25,7 @@ const DAMAGED: u32 = 25;
 const PRINTED: u32 = 20;
 
 /// In so many banks of a form every rule of it must have been broken.
-const ENOUGH: u64 = 100_000;
+const ENOUGH: u64 = 75_000;
 
 /// What a sound bank of the newest form is answered: it hasn't the board that the call names.
 const NO_SUCH_BOARD: u8 = 2;
@@ -91,11 +92,12 @@ fn sound<const FORM: Form>(random: &mut Random) -> Vec<u8> {
     }
 }
 
-/// What a random script leaves.
+/// What a random script leaves; with leftovers, also what is made by hand.
 fn reached<const FORM: Form>(random: &mut Random) -> Vec<u8> {
     match FORM {
         OLDER => made::reached_old(random),
         EARLIER => made::unnamed(&made::reached(random)),
+        UNCLEANED => made::with_leftovers(random),
         _ => made::reached(random),
     }
 }
@@ -104,6 +106,7 @@ fn reached<const FORM: Form>(random: &mut Random) -> Vec<u8> {
 fn sound_code<const FORM: Form>(bank: &[u8]) -> u8 {
     match FORM {
         NEWEST => NO_SUCH_BOARD,
+        UNCLEANED => 0,
         _ if has_records::<FORM>(bank) => HAS_RECORDS,
         _ => 0,
     }
@@ -132,7 +135,15 @@ fn judged<const FORM: Form>(bytes: &[u8]) -> Result<Option<Box<Fault>>, String> 
     if found.is_none() && !taken_for::<FORM>(bytes) {
         return Err("the bytes are taken for the other form".into());
     }
+    if accepted != fits::<FORM>(bytes) {
+        return Err(format!(
+            "the archive accepts it: {accepted}, and the second engine doesn't agree"
+        ));
+    }
     if accepted == found.is_none() {
+        if let (NEWEST, Some(found)) = (FORM, &found) {
+            leftovers_fit(bytes, found)?;
+        }
         return Ok(found);
     }
     let told = found
@@ -141,6 +152,22 @@ fn judged<const FORM: Form>(bytes: &[u8]) -> Result<Option<Box<Fault>>, String> 
     Err(format!(
         "the archive accepts it: {accepted}, the diagnosis names\n{told}"
     ))
+}
+
+/// Leftovers are what is named if a cleaning would mend all, and nothing else then; the place is the first byte that it changes.
+fn leftovers_fit(bytes: &[u8], found: &Fault) -> Result<(), String> {
+    let is_named = found.rule == Rule::Leftovers;
+    let first_changed = || {
+        let cleaned = cleaned::<NEWEST>(bytes);
+        (0..bytes.len()).find(|at| bytes[*at] != cleaned[*at])
+    };
+    match accepted::<UNCLEANED>(bytes)? {
+        true if is_named && first_changed() == Some(found.at) => Ok(()),
+        false if !is_named => Ok(()),
+        mends => Err(format!(
+            "a cleaning mends it: {mends}, the diagnosis names\n{found}"
+        )),
+    }
 }
 
 fn look<const FORM: Form>(met: &mut Met, random: &mut Random, bytes: &[u8]) -> Result<(), String> {
@@ -199,14 +226,15 @@ fn form<const FORM: Form>(name: &str, seed: u64, wanted: u64) -> bool {
     false
 }
 
-/// A third of the banks have each form. Says what was met, and whether all agreed.
+/// A quarter of the banks have each form. Says what was met, and whether all agreed.
 pub fn agree(seed: u64, wanted: u64) -> bool {
-    let third = wanted / 3;
-    let agree = form::<NEWEST>("newest", seed, wanted - 2 * third)
-        && form::<EARLIER>("earlier", seed, third)
-        && form::<OLDER>("older", seed, third);
+    let quarter = wanted / 4;
+    let agree = form::<NEWEST>("newest", seed, wanted - 3 * quarter)
+        && form::<UNCLEANED>("uncleaned", seed, quarter)
+        && form::<EARLIER>("earlier", seed, quarter)
+        && form::<OLDER>("older", seed, quarter);
     if agree {
-        println!("agree: {wanted} banks, every rule broken in all three forms");
+        println!("agree: {wanted} banks, every rule broken in all four forms");
     }
     agree
 }

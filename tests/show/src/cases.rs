@@ -1,6 +1,6 @@
 //! Banks that are damaged by hand, at least one for each rule of the newest form and of the older. All begin as the script of the tables leaves its bank: of
 //! three boards, 0 replays, and of its four pages board 1 owns page 3. Those of the older form have leftovers behind their logs. Two more break no rule, but
-//! their logs don't agree.
+//! their logs don't agree; and two have leftovers in many slots, one of them with records that may be of the earlier form.
 
 use crate::rules::Rule;
 use second::fault::Fault;
@@ -38,11 +38,12 @@ const fn case<const FORM: Form>(
     }
 }
 
-/// Whether a form has the rule: its records name a board, or the byte is zero.
+/// Whether a form has the rule: its records name a board, or the byte is zero; slots past a count are zero, or anything.
 pub fn has<const FORM: Form>(rule: Rule) -> bool {
     match rule {
         Rule::RecordZero => !Layout::<FORM>::NAMES_BOARD,
         Rule::RecordBoard | Rule::RecordOther => Layout::<FORM>::NAMES_BOARD,
+        Rule::Leftovers => Layout::<FORM>::CLEAN_SLOTS,
         _ => true,
     }
 }
@@ -165,6 +166,24 @@ fn all<const FORM: Form>() -> Vec<Case<FORM>> {
         case("one-board", Rule::RecordOther, |bank, _| {
             *bank = of_one_board()
         }),
+        case("volatile-leftovers", Rule::Leftovers, |bank, l| {
+            bank[l.volatile_slot(1, 2)] = b'G'
+        }),
+        case(
+            "volatile-leftovers-replaying",
+            Rule::Leftovers,
+            |bank, l| bank[l.volatile_slot(0, SLOTS) - 1] = 1,
+        ),
+        case("stored-leftovers", Rule::Leftovers, |bank, l| {
+            bank[l.area_slot(l.area(2, 0), SLOTS) - 1] = 255
+        }),
+        case("stored-leftovers-down", Rule::Leftovers, |bank, l| {
+            bank[l.area_slot(l.area(1, 0), 6) + SLOT_BOARD] = 2
+        })
+        .after(BOARD_1_DOWN),
+        case("spare-leftovers", Rule::Leftovers, |bank, l| {
+            bank[l.area_slot(l.area(0, 0), 0) + SLOT_PAGE] = 3
+        }),
         case("shown-with-bytes", Rule::RecordBytes, |bank, l| {
             bank[l.area_slot(l.area(1, 0), 0) + Layout::<FORM>::SLOT_BYTES + 15] = 9
         }),
@@ -210,6 +229,25 @@ pub fn with_other_log(name: &str) -> Option<Vec<u8>> {
         _ => return None,
     }
     Some(bank)
+}
+
+/// The bank of the script with leftovers in every log, as records and as other bytes.
+pub fn littered() -> Vec<u8> {
+    let mut bank = undamaged::<NEWEST>("");
+    for (log, run) in (0..).zip(Layout::of(&bank).past_counts(&bank)) {
+        bank[run.start + SLOT..run.start + SLOT + log].fill(238);
+        bank[run.start..run.start + 2].copy_from_slice(&DROPPED);
+    }
+    bank
+}
+
+/// A record of the earlier form in a log of board 1 alone, which seems to name board 0, and leftovers in the spare area of board 2.
+pub fn littered_earlier() -> Vec<u8> {
+    let lines = ["N 3 3", "W 2 2 0 120", "R 1 2 0", "C 2"];
+    let mut bank = made::unnamed(&left_by(lines.into_iter()));
+    let spare = Layout::of(&bank).log(2, Some(0));
+    bank[spare.count] = 0;
+    bank
 }
 
 /// A bank of one board with a record, which can name no board.

@@ -30,7 +30,9 @@ mod table;
 #[path = "../../../tools/show/src/verdict.rs"]
 mod verdict;
 
-use cases::{cases, has, old_without_records, undamaged, with_other_log};
+use cases::{
+    cases, has, littered, littered_earlier, old_without_records, undamaged, with_other_log,
+};
 use rules::Rule;
 use second::layout::{Form, EARLIER, NEWEST, OLDER};
 use std::io::{self, Write};
@@ -38,8 +40,9 @@ use std::process::ExitCode;
 
 const USAGE: &str = "usage: check words          the words for each bank damaged by hand
        check bank NAME      the bytes of one of them, or of the one they come from: undamaged. Of the older form: old-NAME,
-                            also old-without-records. Of the earlier form: earlier. Well formed, but with logs that
-                            don't agree: got-of-another-page, shown-to-another-board
+                            also old-without-records. Of the earlier form: earlier. With leftovers in many slots: littered,
+                            and littered-earlier, whose records may be of the earlier form. Well formed, but with logs
+                            that don't agree: got-of-another-page, shown-to-another-board
        check agree SEED BANKS";
 
 /// What names in the older form begin with.
@@ -83,6 +86,8 @@ fn bank(name: &str) -> Option<bool> {
         Some("without-records") => old_without_records(),
         Some(name) => named::<OLDER>(name)?,
         None if name == "earlier" => undamaged::<EARLIER>(""),
+        None if name == "littered" => littered(),
+        None if name == "littered-earlier" => littered_earlier(),
         None => with_other_log(name).or_else(|| named::<NEWEST>(name))?,
     };
     Some(io::stdout().write_all(&bytes).is_ok())

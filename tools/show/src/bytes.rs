@@ -2,7 +2,7 @@
 
 use crate::verdict::{self, HAS_RECORDS, MALFORMED};
 use crate::{bank, compared, diagnosis, logs, table};
-use second::layout::{Form, EARLIER, NEWEST, OLDER};
+use second::layout::{all_zero, Form, Layout, EARLIER, NEWEST, OLDER, SLOT, UNCLEANED};
 
 /// What is printed, and whether it is of a well-formed bank.
 pub struct Shown {
@@ -44,18 +44,60 @@ fn older_note(code: u8) -> &'static str {
     }
 }
 
-/// What is known of the form of bytes that break a rule of the newest.
-fn newest_note(bytes: &[u8], earlier: bool) -> &'static str {
-    match diagnosis::layout::<NEWEST>(bytes) {
-        _ if earlier => {
-            "They are a bank of the earlier form, from before records named a board: bank_adopt takes it over once every count is zero (else code 11), \
-            after two checkpoints of each board with records by the firmware that wrote it\n"
+/// What bytes are that break a rule of the newest form.
+enum Nearly {
+    /// Slots past a count aren't zero, and nothing else is wrong. Their records may be of the earlier form if an adoption finds some.
+    Littered {
+        may_be_earlier: bool,
+    },
+    Earlier,
+    NoForm,
+    Newest,
+}
+
+impl Nearly {
+    fn of(bytes: &mut [u8]) -> Nearly {
+        let adoption = verdict::code::<EARLIER>(bytes);
+        let cleaning = verdict::code::<UNCLEANED>(bytes);
+        match diagnosis::layout::<NEWEST>(bytes) {
+            _ if cleaning != MALFORMED => Nearly::Littered {
+                may_be_earlier: adoption == HAS_RECORDS,
+            },
+            _ if adoption != MALFORMED => Nearly::Earlier,
+            Some(layout) if layout.length() != bytes.len() => Nearly::NoForm,
+            _ => Nearly::Newest,
         }
-        Some(layout) if layout.length() != bytes.len() => {
-            "They have the length of no form, so they are read as the newest\n"
-        }
-        _ => "",
     }
+
+    fn note(&self, bytes: &[u8]) -> String {
+        match self {
+            Nearly::Littered { may_be_earlier } => littered_note(bytes, *may_be_earlier),
+            Nearly::Earlier => {
+                "They are a bank of the earlier form, from before records named a board: bank_adopt takes it over once every count is zero (else code 11), \
+                after two checkpoints of each board with records by the firmware that wrote it; then bank_clean zeroes what its slots still hold\n"
+                    .into()
+            }
+            Nearly::NoForm => {
+                "They have the length of no form, so they are read as the newest\n".into()
+            }
+            Nearly::Newest => String::new(),
+        }
+    }
+}
+
+/// What a bank with leftovers needs.
+fn littered_note(bytes: &[u8], may_be_earlier: bool) -> String {
+    let past = Layout::of(bytes).past_counts(bytes).into_iter();
+    let slots = past.flat_map(|run| bytes[run].chunks(SLOT));
+    let count = match slots.filter(|slot| !all_zero(slot)).count() {
+        1 => "1 slot".into(),
+        count => format!("{count} slots"),
+    };
+    let hint = match may_be_earlier {
+        true => "If the firmware that wrote it named no board in records it is of the earlier form: bank_adopt comes first (now: code 11)\n",
+        false => "",
+    };
+    format!("But for leftovers in {count} past a count they are one: bank_clean zeroes such slots, and then every call takes it\n{hint}")
 }
 
 /// Says of bytes that aren't well formed which rule they break first.
@@ -80,20 +122,21 @@ fn show_older(bytes: &mut [u8], logs: Two) -> Result<Shown, String> {
 }
 
 fn show_newest(bytes: &mut [u8], logs: Two) -> Result<Shown, String> {
-    let well_formed = verdict::code::<NEWEST>(bytes) != MALFORMED;
-    let earlier = !well_formed && verdict::code::<EARLIER>(bytes) != MALFORMED;
-    let title = match well_formed {
-        true => "The bytes of a bank\n".into(),
-        false => broken::<NEWEST>(bytes, newest_note(bytes, earlier)),
-    };
-    let tables = match (well_formed, earlier) {
-        (true, _) => sound(bytes, logs)?,
-        (false, true) => tables::<EARLIER>(bytes, logs)?,
-        (false, false) => tables::<NEWEST>(bytes, logs)?,
+    if verdict::code::<NEWEST>(bytes) != MALFORMED {
+        return Ok(Shown {
+            text: String::from("The bytes of a bank\n") + &sound(bytes, logs)?,
+            well_formed: true,
+        });
+    }
+    let nearly = Nearly::of(bytes);
+    let title = broken::<NEWEST>(bytes, &nearly.note(bytes));
+    let tables = match nearly {
+        Nearly::Earlier => tables::<EARLIER>(bytes, logs)?,
+        _ => tables::<NEWEST>(bytes, logs)?,
     };
     Ok(Shown {
         text: title + &tables,
-        well_formed,
+        well_formed: false,
     })
 }
 

@@ -1,5 +1,5 @@
 //! What is wrong with bytes that are no well-formed bank: the first rule of a form that they break, and where. Head and directory are tested first, then every
-//! board's block, then every board's records.
+//! board's block, then every board's records, and last the slots that hold no record.
 
 use crate::fault::{Copies, Fault, Mark, Numbers, Others, Right};
 use crate::rules::Rule;
@@ -270,17 +270,34 @@ impl<'a, const FORM: Form> Test<'a, FORM> {
         self.must(named != own, Rule::RecordOther, at, named, &others)
     }
 
+    /// Every slot at or past the log's count is zero; a fault is at the first byte that isn't.
+    fn leftovers(&self, log: Log) -> Found {
+        let (slot, count) = (Layout::<FORM>::SLOT, self.bank[log.count]);
+        let mut past = self.layout.past_count(self.bank, log);
+        let Some(at) = past.find(|at| self.bank[*at] != 0) else {
+            return Ok(());
+        };
+        let (byte, stands) = ((at - log.first) % slot, self.bank[at]);
+        let stands =
+            format_args!("{stands}, in byte {byte} of the slot; the log's count is {count}");
+        self.must(false, Rule::Leftovers, at, stands, 0)
+    }
+
     fn all(&self) -> Found {
         let Layout { boards, pages } = self.layout;
         self.head()?;
         (0..pages).try_for_each(|page| self.entry(page))?;
         (0..boards).try_for_each(|board| self.block(board))?;
-        (0..boards).try_for_each(|board| self.records(board))
+        (0..boards).try_for_each(|board| self.records(board))?;
+        match Layout::<FORM>::CLEAN_SLOTS {
+            true => self.layout.logs().try_for_each(|log| self.leftovers(log)),
+            false => Ok(()),
+        }
     }
 }
 
-/// The form whose length the bytes have, by the numbers of boards and pages in their head. The newest if it is that of no form; the earlier form has the
-/// newest one's length.
+/// The form whose length the bytes have, by the numbers of boards and pages in their head. The newest if it is that of no form; the earlier form, and the
+/// newest with leftovers, have the newest one's length.
 pub fn form(bank: &[u8]) -> Form {
     match layout::<OLDER>(bank) {
         Some(layout) if layout.length() == bank.len() => OLDER,

@@ -9,7 +9,7 @@ use std::ops::Range;
 
 pub struct Fault {
     pub rule: Rule,
-    at: usize,
+    pub at: usize,
     place: String,
     stands: String,
     may_stand: String,

@@ -1,5 +1,5 @@
-//! The rules that the bytes of a well-formed bank obey, in words and in the order in which they are tested. The last three speak of one byte: in a form
-//! whose records name a board it is that board, in the others zero.
+//! The rules that the bytes of a well-formed bank obey, in words and in the order in which they are tested. `RecordZero` and the two behind it speak of
+//! one byte: in a form whose records name a board it is that board, in the others zero. The last is one of the newest form alone.
 
 macro_rules! rules {
     ($($name:ident: $words:literal,)*) => {
@@ -59,4 +59,6 @@ rules! {
     RecordZero: "the byte behind a record's page is 0",
     RecordBoard: "a record names a board of the bank",
     RecordOther: "a record names another board than the log's own",
+
+    Leftovers: "a slot at or past its log's count is zero",
 }

@@ -1,8 +1,8 @@
-//! What the proved engine says of bytes as a bank of a form, by the call that reads banks of that form. It writes nothing into them.
+//! What the proved engine says of bytes as a bank of a form, by the call that takes banks of that form. The bytes stay as they are.
 
 use crate::diagnosis;
 use crate::engines::{archive, archive_adopt, archive_convert, unpacked};
-use second::layout::{Form, EARLIER, NEWEST, OLDER};
+use second::layout::{Form, EARLIER, NEWEST, OLDER, UNCLEANED};
 use second::line::Line;
 
 /// The bytes are no well-formed bank of the form. Any other code says that they are.
@@ -16,6 +16,7 @@ pub fn code<const FORM: Form>(bytes: &mut [u8]) -> u8 {
     let answer = match FORM {
         OLDER => convert(bytes),
         EARLIER => archive_adopt(bytes),
+        UNCLEANED => archive(&mut bytes.to_vec(), &Line::Clean),
         _ => refused_by_any_bank(bytes),
     };
     unpacked(answer).code

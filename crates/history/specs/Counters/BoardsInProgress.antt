@@ -57,7 +57,7 @@ burnt-same x =
       number = ap (λ (w : Working). w .number) (burnt-working x);
       since = ap (λ (w : Working). w .since) (burnt-working x);
       place = ap (λ (w : Working). w .place) (burnt-working x);
-      volatile = ap (λ (w : Working). w .log .records) (burnt-working x);
+      volatile = ap (λ (w : Working). w .log) (burnt-working x);
       second = ap (λ (t : Stable). t .second) (burnt-stable x);
       selected = ap (λ (t : Stable). t .selected) (burnt-stable x);
     }

@@ -12,7 +12,7 @@ use Rattle.types.specs.declared.Kind.{Kind}
 use Rattle.types.specs.declared.Kind.the-variants.{Got}
 use Rattle.types.specs.declared.Record.{Record}
 use Rattle.types.specs.declared.State.the-variants.{Up, Replaying}
-use Rattle.model.specs.Definitions.Bank.{Board, emptyLog, onWorking}
+use Rattle.model.specs.Definitions.Bank.{Board, onWorking}
 use Rattle.model.specs.Definitions.WellFormed.{isGot}
 use Rattle.model.specs.Definitions.Steps.{poweredOff, appended, recorded, storedRecord, storedSelector, restedWorking, Access, accessed}
 use Rattle.model.specs.Definitions.Replay.{loaded, recordsLeft, used, useUp, usedUp, gotsDue, due, tookGot, tookDue, replayed}
@@ -123,7 +123,7 @@ module _ (kind : Kind) (peer : ℕ) (bytes : List ℕ) (x : Board) (u : x .state
   unfolding recordsOf onWorking recorded appended
   recorded-spaced n g =
       let r : Record = record { count = x .working .since; kind = kind; peer = peer; bytes = bytes } in
-      rw (← append-assoc (x .stable .selected .log .records) (x .working .log .records) (r ∷ [])) (spaced-one (recordsOf x) r n (h .up (λ p. p) u) g)
+      rw (← append-assoc (x .stable .selected .log) (x .working .log) (r ∷ [])) (spaced-one (recordsOf x) r n (h .up (λ p. p) u) g)
 
   pub recorded-orderly : {P : Type 0} → isGot kind ≡ false → Orderly P (onWorking (recorded kind peer bytes) x)
   unfolding onWorking recorded
@@ -137,7 +137,7 @@ joined-pending kind peer bytes x u g q h =
     let r : Record = record { count = x .working .since; kind = kind; peer = peer; bytes = bytes } in
     let s : Spaced (recordsOf x ++ (r ∷ [])) 1 = spaced-got (recordsOf x) r 1 (h .spaced) g in
     up-orderly u
-    (rw (← append-assoc (x .stable .selected .log .records) (x .working .log .records) (r ∷ [])) s)
+    (rw (← append-assoc (x .stable .selected .log) (x .working .log) (r ∷ [])) s)
     (λ n. absurd (n q))
 
 -- a record stored stays in its place among the board's records
@@ -147,17 +147,17 @@ storedRecord-orderly x u h =
     up-orderly (f .state ∙ u) (rw (f .records) (h .spaced)) (λ n. rw (f .records, f .since) (h .up n u))
 
 -- a checkpoint leaves no record
-pub selected-orderly : {P : Type 0} (x : Board) → x .state ≡ Up → x .stable .spare .log .records ≡ [] → Orderly P (onWorking restedWorking (storedSelector x))
-unfolding recordsOf onWorking restedWorking storedSelector emptyLog Spaced
+pub selected-orderly : {P : Type 0} (x : Board) → x .state ≡ Up → x .stable .spare .log ≡ [] → Orderly P (onWorking restedWorking (storedSelector x))
+unfolding recordsOf onWorking restedWorking storedSelector Spaced
 selected-orderly x u r = up-orderly u (rw r tt) (λ n. rw r tt)
 
 -- a power loss leaves the stored ones
 pub poweredOff-orderly : {P Q : Type 0} (x : Board) → Orderly P x → Orderly Q (poweredOff x)
-unfolding recordsOf poweredOff emptyLog
+unfolding recordsOf poweredOff
 poweredOff-orderly x h =
-    let rs : List Record = x .stable .selected .log .records in
+    let rs : List Record = x .stable .selected .log in
     record {
-      spaced = rw (append-nil rs) (spaced-left rs (x .working .log .records) 1 (h .spaced));
+      spaced = rw (append-nil rs) (spaced-left rs (x .working .log) 1 (h .spaced));
       up = λ n i. up-not-down i refl;
       waits = λ n i. down-not-replaying refl i;
     }
@@ -228,8 +228,8 @@ restarted-orderly x h = usedUp-orderly (loaded x) refl (h .spaced) (λ r rs e. o
 pub left-spaced : {P : Type 0} (x : Board) → Orderly P x → Spaced (recordsLeft x) 1
 unfolding recordsOf recordsLeft
 left-spaced x h =
-    let rs : List Record = x .stable .selected .log .records in
-    spaced-drop (x .working .place) rs 1 (spaced-left rs (x .working .log .records) 1 (h .spaced))
+    let rs : List Record = x .stable .selected .log in
+    spaced-drop (x .working .place) rs 1 (spaced-left rs (x .working .log) 1 (h .spaced))
 
 got-is : (q : Record) (g : CopyOrOwn) (p : ℕ) → q .kind ≡ Got g p → isGot (q .kind) ≡ true
 unfolding isGot

@@ -1,4 +1,4 @@
--- The bank as a record that loses nothing: its directory and its boards. A board is nested by what a power loss does to it:
+-- The bank as a record, which loses nothing of well-formed bytes: its directory and its boards. A board is nested by what a power loss does to it:
 -- `working` is emptied, `stable` can't be touched. Assumes nothing.
 use Prim.Native.Nat.{ℕ, _%_}
 use mathlib.Core.Bool.{Bool, true, false}
@@ -11,23 +11,19 @@ use Rattle.types.specs.declared.Record.{Record}
 use Rattle.types.specs.declared.State.{State}
 use Rattle.types.specs.declared.State.the-variants.{Up, Down}
 use Rattle.model.specs.Definitions.Parts.{zeros, update, tabulate}
-use Rattle.model.specs.Definitions.Layout.{pageSize, slotsSize, noFuse}
+use Rattle.model.specs.Definitions.Layout.{pageSize, noFuse}
 
 -- "Directory, per page: owner; copy-set, where bit b stands for board b."; N is the number of boards, P of entries
 pub record Entry : Type 0 where
   pub owner : ℕ
   pub copies : ℕ
 
--- A log: its records, and the bytes of the slots behind them as they are. The count is the number of records.
-pub record Log : Type 0 where
-  pub records : List Record
-  pub rest : List ℕ
-
+-- A log is its records, and the count their number; the slots behind them are zero.
 -- "An area: access number u32, stored count u8, P frames, 32 slots."
 pub record Area : Type 0 where
   pub number : ℕ
   pub frames : List Frame
-  pub log : Log
+  pub log : List Record
 
 -- What a power loss empties: access number, since, replay place, frames, volatile log.
 pub record Working : Type 0 where
@@ -35,7 +31,7 @@ pub record Working : Type 0 where
   pub since : ℕ
   pub place : ℕ
   pub frames : List Frame
-  pub log : Log
+  pub log : List Record
 
 -- What a power loss can't touch: the area that the selector names, and the spare one. `second` says that area 1 is the selected one.
 pub record Stable : Type 0 where
@@ -59,15 +55,12 @@ pub record Bank : Type 0 where
 unfoldable pub emptyFrame : Frame
 emptyFrame = record { right = None; bytes = zeros pageSize }
 
-unfoldable pub emptyLog : Log
-emptyLog = record { records = []; rest = zeros slotsSize }
-
 -- these frames, no record, all else zero
 abbrev pub zeroArea : List Frame → Area
-zeroArea fs = record { number = 0; frames = fs; log = emptyLog }
+zeroArea fs = record { number = 0; frames = fs; log = [] }
 
 abbrev pub zeroWorking : List Frame → Working
-zeroWorking fs = record { number = 0; since = 0; place = 0; frames = fs; log = emptyLog }
+zeroWorking fs = record { number = 0; since = 0; place = 0; frames = fs; log = [] }
 
 -- what stands where there is no board: never read in a bank that is well formed
 unfoldable pub noBoard : Board
@@ -118,7 +111,7 @@ withAreaNumber n a = record { number = n; frames = a .frames; log = a .log }
 abbrev pub withAreaFrames : List Frame → Area → Area
 withAreaFrames fs a = record { number = a .number; frames = fs; log = a .log }
 
-abbrev pub withAreaLog : Log → Area → Area
+abbrev pub withAreaLog : List Record → Area → Area
 withAreaLog l a = record { number = a .number; frames = a .frames; log = l }
 
 abbrev pub withNumber : ℕ → Working → Working
@@ -133,7 +126,7 @@ withPlace n w = record { number = w .number; since = w .since; place = n; frames
 abbrev pub withFrames : List Frame → Working → Working
 withFrames fs w = record { number = w .number; since = w .since; place = w .place; frames = fs; log = w .log }
 
-abbrev pub withLog : Log → Working → Working
+abbrev pub withLog : List Record → Working → Working
 withLog l w = record { number = w .number; since = w .since; place = w .place; frames = w .frames; log = l }
 
 -- ---- one part changed by what it was
@@ -155,24 +148,6 @@ onSpare f x = withStable (withSpareArea (f (x .stable .spare)) (x .stable)) x
 
 unfoldable pub onFrames : (List Frame → List Frame) → Working → Working
 onFrames f w = withFrames (f (w .frames)) w
-
--- ---- what stands in the slots past a count
-
--- a log with these bytes in the slots behind its records
-unfoldable pub logOver : List ℕ → Log → Log
-logOver l x = record { records = x .records; rest = l }
-
--- an area with these bytes in the slots past its count
-unfoldable pub areaOver : List ℕ → Area → Area
-areaOver l x = withAreaLog (logOver l (x .log)) x
-
--- a board with these bytes in the slots past its three counts
-unfoldable pub boardOver : (volatile selected spare : List ℕ) → Board → Board
-boardOver volatile selected spare x =
-    withWorking (withLog (logOver volatile (x .working .log)) (x .working))
-    (withStable
-    (withSelectedArea (areaOver selected (x .stable .selected)) (withSpareArea (areaOver spare (x .stable .spare)) (x .stable)))
-    x)
 
 -- ---- a fresh bank
 

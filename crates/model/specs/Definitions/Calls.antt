@@ -1,4 +1,4 @@
--- Document 01's calls, with document 02's F-1 to F-7, for any numbers: first on a bank, then on bytes of any length and content.
+-- Document 01's calls, with document 02's F-1 to F-8, for any numbers: first on a bank, then on bytes of any length and content.
 -- Each refusal is in the table's order, and the list of tests shows that order. Assumes nothing.
 use Prim.Native.Nat.{ℕ, _+_, _%_}
 use mathlib.Core.Bool.{Bool, true, false, _&&_, _||_, not}
@@ -92,7 +92,7 @@ need b a k c = sumBelow (length (k .directory)) (pageNeed b a k c)
 -- "stored + volatile + needed > 32"
 unfoldable pub short : ℕ → Access → Bank → ℕ → Bool
 short b a k c =
-    ltb slotCount (length (boardAt k c .stable .selected .log .records) + length (boardAt k c .working .log .records) + need b a k c)
+    ltb slotCount (length (boardAt k c .stable .selected .log) + length (boardAt k c .working .log) + need b a k c)
 
 -- "on some board ..; who: lowest such board"
 unfoldable pub shortBoard : ℕ → Access → Bank → Option ℕ
@@ -269,6 +269,10 @@ pub record Reply : Type 0 where
 unfoldable pub refused : Answer → List ℕ → Reply
 refused a s = record { outcome = record { answer = a; stores = 0 }; bytes = s; given = [] }
 
+-- done, with value, who and stores 0, and these bytes left
+abbrev pub doneWith : List ℕ → Reply
+doneWith s = record { outcome = record { answer = Done 0; stores = 0 }; bytes = s; given = [] }
+
 unfoldable pub replyOf : Result → Reply
 replyOf t = record { outcome = record { answer = t .answer; stores = t .run .stores }; bytes = encode (t .run .bank); given = t .given }
 
@@ -288,6 +292,6 @@ make boards pages s =
       | true ↦
           elim (eqb (length s) (bankSize boards pages)) [
             | false ↦ refused Malformed s
-            | true ↦ record { outcome = record { answer = Done 0; stores = 0 }; bytes = encode (fresh boards pages); given = [] }
+            | true ↦ doneWith (encode (fresh boards pages))
           ]
     ]

@@ -1,6 +1,7 @@
--- Document 01, "Well formed means", with document 02's F-6, as a test of bytes: the head, the directory, every block but its records, the records, then whom
--- they name; in any form, which what depends on one takes first. Laws/WellFormedTest proves that exactly the bytes of a well-formed bank pass. Assumes nothing.
-use Prim.Native.Nat.{ℕ, _+_, _*_, _^_}
+-- Document 01, "Well formed means", with document 02's F-6 and F-8, as a test of bytes: the head, the directory, every block but its records, the
+-- records, whom they name, then the slots behind them; in any form, which what depends on one takes first. Laws/WellFormedTest proves that exactly
+-- the bytes of a well-formed bank pass. Assumes nothing.
+use Prim.Native.Nat.{ℕ, _+_, _-_, _*_, _^_}
 use mathlib.Core.Bool.{Bool, true, false, _&&_, _||_, not}
 use mathlib.Core.List.{List}
 use lib.ListN.{length}
@@ -15,7 +16,8 @@ use Rattle.model.specs.Definitions.Layout.{byteValues, letterG, letterC,
 use Rattle.model.specs.Definitions.Layout.{mark1At, mostBoards, mostPages, pageSize, slotCount, noFuse, fuseSize, numberSize, headMark0, headMark1}
 use Rattle.model.specs.Definitions.Layout.{headMark0At, headMark1At, headSize, boardsAt, pagesAt, entrySize, frameSize, slotPageAt, slotPeerAt}
 use Rattle.model.specs.Definitions.Layout.{areaFramesAt, areaCountAt, areaSlotsAt, stateAt, selectorAt, fuseAt, numberAt, sinceAt, blocksAt, today}
-use Rattle.model.specs.Definitions.Layout.{slotBytesAtIn, slotSizeIn, placeAtIn, volatileCountAtIn, framesAtIn, slotsAtIn, areaAtIn, blockSizeIn}
+use Rattle.model.specs.Definitions.Layout.{slotBytesAtIn, slotSizeIn, slotsSizeIn, placeAtIn, volatileCountAtIn, framesAtIn, slotsAtIn, areaAtIn}
+use Rattle.model.specs.Definitions.Layout.{blockSizeIn}
 use Rattle.model.specs.Definitions.Layout.{bankSizeIn, Form}
 use Rattle.model.specs.Definitions.Bank.{Entry}
 use Rattle.model.specs.Definitions.Codec.{decodeEntry, rightByte, decodeFrame, stateByte, stateOf, selectorByte}
@@ -167,12 +169,16 @@ module _ (form : Form) where
 
   -- ---- a test of every record of a block
 
-  -- of the slot of an index in the log that starts at a place; "Slots at or past a count may hold anything."
+  -- where the slots of area 0 or 1 start in a block
+  abbrev pub areaLogAt : (pages area : ℕ) → ℕ
+  areaLogAt pages area = areaAtIn form pages area + areaSlotsAt pages
+
+  -- of the slot of an index in the log that starts at a place; a slot at or past a count is asked nothing here
   unfoldable pub recordPasses : (List ℕ → Bool) → ℕ → ℕ → List ℕ → ℕ → Bool
   recordPasses test a count l i = elim (ltb i count) [ true ↦ test (part l (a + i * slotSizeIn form) (slotSizeIn form)) | false ↦ true ]
 
   unfoldable pub storedPasses : (List ℕ → Bool) → ℕ → ℕ → List ℕ → ℕ → Bool
-  storedPasses test pages area l i = recordPasses test (areaAtIn form pages area + areaSlotsAt pages) (areaCount pages area l) l i
+  storedPasses test pages area l i = recordPasses test (areaLogAt pages area) (areaCount pages area l) l i
 
   -- of the slots of an index in all three logs
   unfoldable pub slotsPass : (List ℕ → Bool) → ℕ → List ℕ → ℕ → Bool
@@ -198,8 +204,9 @@ module _ (form : Form) where
   unfoldable pub peersValid : (named : Bool) → ℕ → ℕ → List ℕ → Bool
   peersValid named boards pages s = everyBelow boards (λ b. recordsPass (slotPeerValid named boards b) pages (blockOfIn pages s b))
 
-  unfoldable pub wellFormedIn : (named : Bool) → List ℕ → Bool
-  wellFormedIn named s =
+  -- all that is asked of a bank's bytes but what F-8 asks of the slots at or past a count: "may hold anything" (document 01)
+  unfoldable pub formedIn : (named : Bool) → List ℕ → Bool
+  formedIn named s =
       let boards : ℕ = byteAt s boardsAt in
       let pages : ℕ = byteAt s pagesAt in
       elim (headValid s) [
@@ -209,6 +216,26 @@ module _ (form : Form) where
             && (directoryValid boards pages (directoryOf pages s)
             && (blocksFit boards pages s && (logsValid boards pages s && peersValid named boards pages s)))
       ]
+
+  -- ---- "every slot at or past a count to be zero" (document 02, F-8)
+
+  -- in the log of so many records whose 32 slots start at a place
+  unfoldable pub restZero : (at count : ℕ) → List ℕ → Bool
+  restZero a count l = isZero (part l (a + count * slotSizeIn form) (slotsSizeIn form - count * slotSizeIn form))
+
+  -- in all three logs of a block
+  unfoldable pub blockClean : ℕ → List ℕ → Bool
+  blockClean pages l =
+      restZero (slotsAtIn form pages) (byteAt l (volatileCountAtIn form)) l
+      && (restZero (areaLogAt pages 0) (areaCount pages 0 l) l && restZero (areaLogAt pages 1) (areaCount pages 1 l) l)
+
+  unfoldable pub slotsClean : List ℕ → Bool
+  slotsClean s = let pages : ℕ = byteAt s pagesAt in everyBelow (byteAt s boardsAt) (λ b. blockClean pages (blockOfIn pages s b))
+
+  -- ---- all of it
+
+  unfoldable pub wellFormedIn : (named : Bool) → List ℕ → Bool
+  wellFormedIn named s = formedIn named s && slotsClean s
 
 -- ==== the same of today's form, in which records name boards
 

@@ -1,6 +1,6 @@
--- Document 01, "Bytes of a bank", with document 02's F-2 and F-6: what each part looks like as bytes, and what bytes are read as, in any form and in today's.
--- Each reader takes exactly its part. Readers are total; bytes that no writer makes are told apart by WellFormed. Assumes nothing.
-use Prim.Native.Nat.{ℕ, zero, suc, _*_}
+-- Document 01, "Bytes of a bank", with document 02's F-2, F-6 and F-8: what each part looks like as bytes, and what bytes are read as, in any form and
+-- in today's. Each reader takes exactly its part. Readers are total; bytes that no writer makes are told apart by WellFormed. Assumes nothing.
+use Prim.Native.Nat.{ℕ, zero, suc, _*_, _-_}
 use mathlib.Core.Bool.{Bool, true, false}
 use mathlib.Core.List.{List, [], _∷_, _++_}
 use lib.ListN.{length, drop}
@@ -15,13 +15,14 @@ use Rattle.types.specs.declared.Kind.the-variants.{Got, Shown, Dropped}
 use Rattle.types.specs.declared.Record.{Record}
 use Rattle.types.specs.declared.State.{State}
 use Rattle.types.specs.declared.State.the-variants.{Up, Down, Replaying}
-use Rattle.model.specs.Definitions.Parts.{part, byteAt, encodeAll, decodeAll}
+use Rattle.model.specs.Definitions.Parts.{part, byteAt, zeros, encodeAll, decodeAll}
 use Rattle.model.specs.Definitions.Layout.{pageSize, entrySize, frameSize, slotSizeIn, slotsSizeIn, ownerAt, copiesAt, rightAt, frameBytesAt, mark0At}
-use Rattle.model.specs.Definitions.Layout.{mark1At, slotPageAt, slotPeerAt, slotBytesAtIn, letterG, letterC, letterO, letterS, letterH, letterD, letterR, fuseSize}
+use Rattle.model.specs.Definitions.Layout.{mark1At, slotPageAt, slotPeerAt, slotBytesAtIn, letterG, letterC, letterO, letterS, letterH, letterD}
+use Rattle.model.specs.Definitions.Layout.{letterR, fuseSize}
 use Rattle.model.specs.Definitions.Layout.{numberSize, Form, today, stateAt, selectorAt, fuseAt, numberAt, sinceAt, placeAtIn, volatileCountAtIn}
 use Rattle.model.specs.Definitions.Layout.{framesAtIn, slotsAtIn, areaAtIn, areaSizeIn, areaNumberAt, areaCountAt, areaFramesAt, areaSlotsAt}
 use Rattle.model.specs.Definitions.Layout.{blockSizeIn, headMark0, headMark1, headSize, boardsAt, pagesAt, blocksAt, recordCountAt}
-use Rattle.model.specs.Definitions.Bank.{Entry, Log, Area, Stable, Board, Bank}
+use Rattle.model.specs.Definitions.Bank.{Entry, Area, Stable, Board, Bank}
 
 -- ---- "Directory, per page: owner; copy-set"
 
@@ -121,18 +122,18 @@ module _ (form : Form) where
         bytes = part l (slotBytesAtIn form) pageSize;
       }
 
-  -- ---- a log: its records, then the slots at or past the count, which "may hold anything"
+  -- ---- a log, in 32 slots: its records; "every slot at or past a count to be zero" (document 02, F-8). A reader looks at none of these.
 
-  unfoldable pub encodeLogIn : Log → List ℕ
-  encodeLogIn l = encodeAll encodeRecordIn (l .records) ++ l .rest
+  unfoldable pub encodeLogIn : List Record → List ℕ
+  encodeLogIn rs = encodeAll encodeRecordIn rs ++ zeros (slotsSizeIn form - length rs * slotSizeIn form)
 
-  unfoldable pub decodeLogIn : ℕ → List ℕ → Log
-  decodeLogIn count l = record { records = decodeAll decodeRecordIn (slotSizeIn form) count l; rest = drop (count * slotSizeIn form) l }
+  unfoldable pub decodeLogIn : ℕ → List ℕ → List Record
+  decodeLogIn count l = decodeAll decodeRecordIn (slotSizeIn form) count l
 
   -- ---- "An area: access number u32, stored count u8, P frames, 32 slots."
 
   unfoldable pub encodeAreaIn : Area → List ℕ
-  encodeAreaIn a = bytesOf numberSize (a .number) ++ length (a .log .records) ∷ (encodeAll encodeFrame (a .frames) ++ encodeLogIn (a .log))
+  encodeAreaIn a = bytesOf numberSize (a .number) ++ length (a .log) ∷ (encodeAll encodeFrame (a .frames) ++ encodeLogIn (a .log))
 
   unfoldable pub decodeAreaIn : ℕ → List ℕ → Area
   decodeAreaIn pages l =
@@ -151,7 +152,7 @@ module _ (form : Form) where
       stateByte (x .state) ∷ selectorByte (x .stable .second)
       ∷ (bytesOf fuseSize (x .fuse)
       ++ (bytesOf numberSize (x .working .number)
-      ++ (bytesOf (form .sinceWidth) (x .working .since) ++ x .working .place ∷ length (x .working .log .records) ∷ [])))
+      ++ (bytesOf (form .sinceWidth) (x .working .since) ++ x .working .place ∷ length (x .working .log) ∷ [])))
 
   -- area 0, then area 1
   unfoldable pub encodeStableIn : Stable → List ℕ
@@ -208,10 +209,10 @@ encodeRecord = encodeRecordIn today
 abbrev pub decodeRecord : List ℕ → Record
 decodeRecord = decodeRecordIn today
 
-abbrev pub encodeLog : Log → List ℕ
+abbrev pub encodeLog : List Record → List ℕ
 encodeLog = encodeLogIn today
 
-abbrev pub decodeLog : ℕ → List ℕ → Log
+abbrev pub decodeLog : ℕ → List ℕ → List Record
 decodeLog = decodeLogIn today
 
 abbrev pub encodeArea : Area → List ℕ

@@ -40,7 +40,7 @@ firstUnmatched i (g ∷ gots) (s ∷ showns) = elim (eqb g s) [ true ↦ firstUn
 
 -- "the stored logs of their selected areas"
 abbrev pub storedRecords : Bank → ℕ → List Record
-storedRecords k b = boardAt k b .stable .selected .log .records
+storedRecords k b = boardAt k b .stable .selected .log
 
 -- "For each direction": the gots of the taker that name the giver, and the showns of the giver that name the taker
 abbrev pub gotsOf : (giver taker : ℕ) → Bank → List ℕ

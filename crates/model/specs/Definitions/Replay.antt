@@ -15,7 +15,7 @@ use Rattle.types.specs.declared.Kind.the-variants.{Got, Shown, Dropped}
 use Rattle.types.specs.declared.Record.{Record}
 use Rattle.types.specs.declared.State.the-variants.{Up, Replaying}
 use Rattle.model.specs.Definitions.Parts.{each}
-use Rattle.model.specs.Definitions.Bank.{Area, Working, Board, Bank, emptyFrame, boardAt, entryAt, frameAt, withState, withWorking, withNumber}
+use Rattle.model.specs.Definitions.Bank.{Area, Working, Board, Bank, emptyFrame, boardAt, entryAt, withState, withWorking, withNumber}
 use Rattle.model.specs.Definitions.Bank.{withSince, withPlace, withFrames, onBoard, onWorking}
 use Rattle.model.specs.Definitions.Codec.{pageOf}
 use Rattle.model.specs.Definitions.Steps.{Run, step, checkpoint, Access, takes, lacksPage, lackingPages, accessed}
@@ -28,7 +28,7 @@ loaded x =
 
 -- the stored records that replay has not used yet
 unfoldable pub recordsLeft : Board → List Record
-recordsLeft x = drop (x .working .place) (x .stable .selected .log .records)
+recordsLeft x = drop (x .working .place) (x .stable .selected .log)
 
 -- one record used: the next place, the frames as the record leaves them, since 0
 unfoldable pub used : List Frame → Working → Working
@@ -108,7 +108,7 @@ tookDue x = onWorking (tookGots (due x)) x
 
 -- "when no record is left"
 unfoldable pub replayOver : Board → Bool
-replayOver x = leb (length (x .stable .selected .log .records)) (x .working .place)
+replayOver x = leb (length (x .stable .selected .log)) (x .working .place)
 
 -- code 5: "a got is due and the access doesn't need it, or the access lacks a right and no fitting got is due"; "a call that doesn't need them all gets code
 -- 5"; "if replay ends with them every page then lacking is fetched live" (F-3), and else none may be lacking
@@ -148,4 +148,4 @@ countSum (r ∷ rs) = r .count + countSum rs
 
 -- "The stand point is the selected area's number plus the counts of its stored records." The field's word is recovery point.
 unfoldable pub recoveryPoint : Board → ℕ
-recoveryPoint x = x .stable .selected .number + countSum (x .stable .selected .log .records)
+recoveryPoint x = x .stable .selected .number + countSum (x .stable .selected .log)

@@ -1,10 +1,11 @@
--- Document 01, "Steps", up to the cut, with document 02's F-1, F-3, F-4 and F-6: what one board or several do to the bank, one micro-step each, and the stores
--- that a power loss can follow. A call in progress is a `Run`: once a fuse blew, every later step passes it on unchanged. Assumes nothing.
+-- Document 01, "Steps", up to the cut, with document 02's F-1, F-3, F-4, F-6 and F-8: what one board or several do to the bank, one micro-step each,
+-- and the stores that a power loss can follow. A call in progress is a `Run`: once a fuse blew, every later step passes it on unchanged. Assumes
+-- nothing.
 use Prim.Native.Nat.{ℕ, zero, suc, _+_, _-_}
 use mathlib.Core.Bool.{Bool, true, false, _&&_, _||_, not}
 use mathlib.Core.Option.{Option, none, some}
 use mathlib.Core.List.{List, [], _∷_, _++_, map, foldl}
-use lib.ListN.{length, drop, replicate, set, getD}
+use lib.ListN.{length, replicate, set, getD}
 use lib.Dec.{eqb}
 use lib.Count.{trailingZeros}
 use Rattle.types.specs.declared.Right.{Right}
@@ -17,11 +18,10 @@ use Rattle.types.specs.declared.Kind.the-variants.{Got, Shown, Dropped}
 use Rattle.types.specs.declared.Record.{Record}
 use Rattle.types.specs.declared.State.the-variants.{Down}
 use Rattle.model.specs.Definitions.Parts.{zeros, each, tabulate, allBelow, member, withMember, withoutMember}
-use Rattle.model.specs.Definitions.Layout.{mostBoards, pageSize, slotSize, noFuse}
-use Rattle.model.specs.Definitions.Bank.{Entry, Log, Area, Working, Board, Bank, emptyFrame, emptyLog, zeroWorking, boardAt, entryAt, frameAt}
+use Rattle.model.specs.Definitions.Layout.{mostBoards, pageSize, noFuse}
+use Rattle.model.specs.Definitions.Bank.{Entry, Area, Working, Board, Bank, emptyFrame, zeroWorking, boardAt, entryAt, frameAt}
 use Rattle.model.specs.Definitions.Bank.{withWorking, withStable, withSelectedArea, withAreaNumber, withAreaFrames, withAreaLog, withNumber, withSince}
 use Rattle.model.specs.Definitions.Bank.{withFrames, withLog, onBoard, onEntry, onWorking, onSpare, onFrames}
-use Rattle.model.specs.Definitions.Codec.{encodeLog}
 use Rattle.model.specs.Definitions.WellFormed.{isUp}
 
 -- ==== a call in progress
@@ -90,8 +90,8 @@ storeAll b fs r = foldl (λ s f. store b f s) r fs
 -- ==== records
 
 -- one record more behind a log's records: it takes the next slot
-unfoldable pub appended : Record → Log → Log
-appended r l = record { records = l .records ++ (r ∷ []); rest = drop slotSize (l .rest) }
+unfoldable pub appended : Record → List Record → List Record
+appended r l = l ++ (r ∷ [])
 
 abbrev pub withRecord : Record → Area → Area
 withRecord r a = withAreaLog (appended r (a .log)) a
@@ -109,15 +109,15 @@ note b kind peer bytes k = onBoard b (onWorking (recorded kind peer bytes)) k
 unfoldable pub movedRecord : Record → List Record → Board → Board
 movedRecord r rs x =
     withStable (withSelectedArea (withRecord r (x .stable .selected)) (x .stable))
-    (withWorking (withLog (record { records = rs; rest = zeros slotSize ++ x .working .log .rest }) (x .working)) x)
+    (withWorking (withLog rs (x .working)) x)
 
 -- the next record of a flush
 unfoldable pub storedRecord : Board → Board
-storedRecord x = elim (x .working .log .records) [ [] ↦ x | r ∷ rs ↦ movedRecord r rs x ]
+storedRecord x = elim (x .working .log) [ [] ↦ x | r ∷ rs ↦ movedRecord r rs x ]
 
 -- "Flush stores the volatile records in order, zeroing their slots.": a store for each
 unfoldable pub recordStores : Board → List (Board → Board)
-recordStores x = replicate (length (x .working .log .records)) storedRecord
+recordStores x = replicate (length (x .working .log)) storedRecord
 
 unfoldable pub flush : ℕ → Run → Run
 flush b r = storeAll b (recordStores (boardAt (r .bank) b)) r
@@ -131,9 +131,9 @@ withAreaFrame p f a = withAreaFrames (set (a .frames) p f) a
 unfoldable pub storedFrame : ℕ → Board → Board
 storedFrame p x = onSpare (withAreaFrame p (frameAt (x .working .frames) p)) x
 
--- "one area head (number and stored count 0)"; the old slots stay as they are
+-- "one area head (number and stored count 0)"; "The store of an area head now also zeroes its 32 slots" (document 02, F-8): no record is left in them
 abbrev pub withHead : ℕ → Area → Area
-withHead n a = withAreaNumber n (withAreaLog (record { records = []; rest = encodeLog (a .log) }) a)
+withHead n a = withAreaNumber n (withAreaLog [] a)
 
 unfoldable pub storedHead : Board → Board
 storedHead x = onSpare (withHead (x .working .number)) x
@@ -152,7 +152,7 @@ checkpointStores pages = spareStores pages ++ (storedSelector ∷ [])
 
 -- "then since is 0 and the volatile log is emptied and zeroed"
 unfoldable pub restedWorking : Working → Working
-restedWorking w = withSince 0 (withLog emptyLog w)
+restedWorking w = withSince 0 (withLog [] w)
 
 -- "Checkpoint: ..; then since is 0 and .."
 unfoldable pub checkpoint : ℕ → Run → Run

@@ -1,10 +1,10 @@
--- Document 01, "Well formed means", with document 02's F-6: the clauses, one definition each, of a bank and their conjunction `WellFormed`; bytes are well
--- formed where they are the bytes of such a bank. What asks for a since or a count in range is said for any form, and by its plain name for today's; what is
--- asked of a record's zero byte, which names a board today, for either rule.
--- Check has the test of bytes, which Laws proves to say the same. Assumes nothing.
+-- Document 01, "Well formed means", with document 02's F-6 and F-8: the clauses, one definition each, of a bank and their conjunction `WellFormed`;
+-- bytes are well formed where they are the bytes of such a bank. What asks for a since or a count in range is said for any form, and by its plain name
+-- for today's; what is asked of a record's zero byte, which names a board today, for either rule. Check has the test of bytes, which Laws proves to say
+-- the same. Assumes nothing.
 use mathlib.Core.Path.{_≡_}
 use mathlib.Core.Logic.{_≢_}
-use Prim.Native.Nat.{ℕ, _+_, _*_, _^_, _≤_, _<_}
+use Prim.Native.Nat.{ℕ, _+_, _^_, _≤_, _<_}
 use mathlib.Core.Bool.{Bool, true, false}
 use mathlib.Core.List.{List, []}
 use lib.ListN.{length}
@@ -19,10 +19,9 @@ use Rattle.types.specs.declared.Record.{Record}
 use Rattle.types.specs.declared.State.{State}
 use Rattle.types.specs.declared.State.the-variants.{Up, Down, Replaying}
 use Rattle.model.specs.Definitions.Parts.{zeros, member}
-use Rattle.model.specs.Definitions.Layout.{mostBoards, mostPages, pageSize, slotCount, noFuse, lastNumber, byteValues, Form, today, slotSizeIn}
-use Rattle.model.specs.Definitions.Layout.{slotsSizeIn}
-use Rattle.model.specs.Definitions.Bank.{Entry, Log, Area, Working, Board, Bank, boardAt, entryAt, frameAt}
-use Rattle.model.specs.Definitions.Codec.{pageOf, encodeIn}
+use Rattle.model.specs.Definitions.Layout.{mostBoards, mostPages, pageSize, slotCount, noFuse, lastNumber, byteValues, Form, today}
+use Rattle.model.specs.Definitions.Bank.{Entry, Area, Working, Board, Bank, boardAt, entryAt, frameAt}
+use Rattle.model.specs.Definitions.Codec.{pageOf, encode}
 
 -- "every frame as above": "a right and 16 page bytes, all zero under right 0"
 pub record FrameOk (f : Frame) : Type 0 where
@@ -44,11 +43,10 @@ pub record RecordOkIn (form : Form) (pages : ℕ) (r : Record) : Type 0 where
   pub bytes : Bytes (r .bytes)
   pub plain : isGot (r .kind) ≡ false → r .bytes ≡ zeros pageSize
 
--- 32 slots in all, so "stored at most 32 in either"; "Slots at or past a count may hold anything."
-pub record LogOkIn (form : Form) (pages : ℕ) (l : Log) : Type 0 where
-  pub records : Each (RecordOkIn form pages) (l .records)
-  pub bytes : Bytes (l .rest)
-  pub slots : length (l .records) * slotSizeIn form + length (l .rest) ≡ slotsSizeIn form
+-- 32 slots in all, so "stored at most 32 in either". What stands in the slots at or past a count is no part of a bank: the writer puts zeros there.
+pub record LogOkIn (form : Form) (pages : ℕ) (rs : List Record) : Type 0 where
+  pub records : Each (RecordOkIn form pages) rs
+  pub count : length rs ≤ slotCount
 
 pub record FramesOk (pages : ℕ) (fs : List Frame) : Type 0 where
   pub count : length fs ≡ pages
@@ -78,17 +76,17 @@ FuseOk x = 0 < x .fuse
 
 -- "stored plus volatile at most 32 for the selected area"
 abbrev pub RoomOk : Board → Type 0
-RoomOk x = length (x .stable .selected .log .records) + length (x .working .log .records) ≤ slotCount
+RoomOk x = length (x .stable .selected .log) + length (x .working .log) ≤ slotCount
 
 -- "place 0 unless replaying, and then below the selected stored count"
 unfoldable pub PlaceOk : State → Board → Type 0
 PlaceOk Up x = x .working .place ≡ 0
 PlaceOk Down x = x .working .place ≡ 0
-PlaceOk Replaying x = x .working .place < length (x .stable .selected .log .records)
+PlaceOk Replaying x = x .working .place < length (x .stable .selected .log)
 
 -- "a replaying board has no volatile record"
 abbrev pub ReplayingOk : Board → Type 0
-ReplayingOk x = x .state ≡ Replaying → x .working .log .records ≡ []
+ReplayingOk x = x .state ≡ Replaying → x .working .log ≡ []
 
 -- right none with zero bytes
 abbrev pub IsEmpty : Frame → Type 0
@@ -98,7 +96,7 @@ IsEmpty f = (f .right ≡ None) × (f .bytes ≡ zeros pageSize)
 pub record Blank (x : Board) : Type 0 where
   pub number : x .working .number ≡ 0
   pub since : x .working .since ≡ 0
-  pub volatile : x .working .log .records ≡ []
+  pub volatile : x .working .log ≡ []
   pub frames : Each IsEmpty (x .working .frames)
   pub fuse : x .fuse ≡ noFuse
 
@@ -139,9 +137,9 @@ PeerOk false boards b r = r .peer ≡ 0
 
 -- of every record below a count in the logs of board b
 pub record PeersOkIn (named : Bool) (boards b : ℕ) (x : Board) : Type 0 where
-  pub volatile : Each (PeerOk named boards b) (x .working .log .records)
-  pub selected : Each (PeerOk named boards b) (x .stable .selected .log .records)
-  pub spare : Each (PeerOk named boards b) (x .stable .spare .log .records)
+  pub volatile : Each (PeerOk named boards b) (x .working .log)
+  pub selected : Each (PeerOk named boards b) (x .stable .selected .log)
+  pub spare : Each (PeerOk named boards b) (x .stable .spare .log)
 
 -- ---- the bank
 
@@ -165,16 +163,12 @@ pub record WellFormedIn (form : Form) (named : Bool) (k : Bank) : Type 0 where
   pub boards : (b : ℕ) → b < length (k .boards) → BoardOkIn form k b
   pub peers : (b : ℕ) → b < length (k .boards) → PeersOkIn named (length (k .boards)) b (boardAt k b)
 
--- bytes are well formed where they are the bytes of a well-formed bank
-abbrev pub WellFormedBytesIn : Form → Bool → List ℕ → Type 0
-WellFormedBytesIn form named s = (k : Bank) × WellFormedIn form named k × (encodeIn form k ≡ s)
-
 -- ---- the same in today's form, in which records name boards
 
 abbrev pub RecordOk : ℕ → Record → Type 0
 RecordOk = RecordOkIn today
 
-abbrev pub LogOk : ℕ → Log → Type 0
+abbrev pub LogOk : ℕ → List Record → Type 0
 LogOk = LogOkIn today
 
 abbrev pub AreaOk : ℕ → Area → Type 0
@@ -195,8 +189,9 @@ PeersOk = PeersOkIn true
 abbrev pub WellFormed : Bank → Type 0
 WellFormed = WellFormedIn today true
 
+-- bytes are well formed where they are the bytes of a well-formed bank; so "every slot at or past a count" is zero (F-8)
 abbrev pub WellFormedBytes : List ℕ → Type 0
-WellFormedBytes = WellFormedBytesIn today true
+WellFormedBytes s = (k : Bank) × WellFormed k × (encode k ≡ s)
 
 -- ---- a state, as the calls ask for it
 

@@ -8,12 +8,10 @@ use mathlib.Core.Option.{Option, none, some}
 use mathlib.Core.List.{List, [], _∷_}
 use lib.ListN.{length}
 use lib.Dec.{eqb}
-use Rattle.types.specs.declared.Frame.{Frame}
-use Rattle.types.specs.declared.Record.{Record}
 use Rattle.types.specs.declared.State.{State}
 use Rattle.types.specs.declared.State.the-variants.{Down}
 use Rattle.types.specs.declared.Answer.{Answer}
-use Rattle.model.specs.Definitions.Bank.{Area, Board, Bank, boardAt, entryAt, onBoard}
+use Rattle.model.specs.Definitions.Bank.{Area, Working, Board, Bank, boardAt, entryAt, onBoard}
 use Rattle.model.specs.Definitions.WellFormed.{isReplaying, WellFormed}
 use Rattle.model.specs.Definitions.Steps.{Run, Access}
 use Rattle.model.specs.Definitions.Replay.{tookDue, replayOver}
@@ -23,33 +21,15 @@ use Rattle.model.specs.History.Statement.{accessOf}
 
 -- ==== what a call gives
 
--- All of a board but its spare area, the bytes behind its logs, and which of its areas is the selected one.
+-- all of a board but its spare area, and which of its areas is the selected one
 pub record Seen : Type 0 where
   pub state : State
   pub fuse : ℕ
-  pub number : ℕ
-  pub since : ℕ
-  pub place : ℕ
-  pub frames : List Frame
-  pub volatile : List Record
-  pub checkpointNumber : ℕ
-  pub checkpointFrames : List Frame
-  pub stored : List Record
+  pub working : Working
+  pub selected : Area
 
 unfoldable pub seen : Board → Seen
-seen x =
-    record {
-      state = x .state;
-      fuse = x .fuse;
-      number = x .working .number;
-      since = x .working .since;
-      place = x .working .place;
-      frames = x .working .frames;
-      volatile = x .working .log .records;
-      checkpointNumber = x .stable .selected .number;
-      checkpointFrames = x .stable .selected .frames;
-      stored = x .stable .selected .log .records;
-    }
+seen x = record { state = x .state; fuse = x .fuse; working = x .working; selected = x .stable .selected }
 
 -- Answer, stores, the bytes for a second buffer and the board left. An access that goes on live has no answer yet: its stores and its board are those of the
 -- end of replay.
@@ -147,12 +127,6 @@ unfoldable pub callsOf : ℕ → List Call → List Call
 callsOf b [] = []
 callsOf b (c ∷ cs) = elim (isCallOf b c) [ true ↦ c ∷ callsOf b cs | false ↦ callsOf b cs ]
 
--- number, frames and records; not the bytes behind them
-pub record SameArea (a c : Area) : Type 0 where
-  pub number : a .number ≡ c .number
-  pub frames : a .frames ≡ c .frames
-  pub records : a .log .records ≡ c .log .records
-
 -- "its directory entries": which pages name this board as owner
 abbrev pub SameOwned : ℕ → Bank → Bank → Type 0
 SameOwned b k j = (p : ℕ) → p < length (k .directory) → (entryAt k p .owner ≡ b) ↔ (entryAt j p .owner ≡ b)
@@ -163,7 +137,7 @@ pub record SameStart (b : ℕ) (k j : Bank) : Type 0 where
   pub boards : length (j .boards) ≡ length (k .boards)
   pub pages : length (j .directory) ≡ length (k .directory)
   pub down : (boardAt k b .state ≡ Down) × (boardAt j b .state ≡ Down)
-  pub area : SameArea (boardAt k b .stable .selected) (boardAt j b .stable .selected)
+  pub area : boardAt k b .stable .selected ≡ boardAt j b .stable .selected
 
 -- The claim: all other calls may be any, and differ in the two banks.
 abbrev pub SameReplay : ℕ → Bank → Bank → Type 0

@@ -4,7 +4,7 @@ use mathlib.Core.Path.{_≡_}
 use mathlib.Core.Logic.{_≢_}
 use Prim.Native.Nat.{ℕ, suc, _<_}
 use mathlib.Core.Bool.{true}
-use mathlib.Core.List.{List, [], _∷_}
+use mathlib.Core.List.{List, []}
 use lib.ListN.{length, getElem?}
 use Rattle.words.specs.Bytes.{Each}
 use Rattle.types.specs.declared.Answer.{Answer}
@@ -17,7 +17,7 @@ use Rattle.model.specs.Definitions.Logs.{gotsFrom, gotsOf, shownsOf}
 use Rattle.model.specs.Definitions.Calls.{Checkpointing, Comparing, Reply, call}
 use Rattle.model.specs.Contracts.{recordsOf}
 use Rattle.model.specs.Laws.Codes.Statement.{boardNamed}
-use Rattle.model.specs.History.Statement.{LostPower, eventOf, Observed}
+use Rattle.model.specs.History.Statement.{bytesLeft, LostPower, eventOf, Observed}
 
 -- ==== what it finds
 
@@ -66,11 +66,6 @@ pub record Spared (b : ℕ) (x : Observed) : Type 0 where
   pub checkpoint : x .asked ≡ Checkpointing b → code (x .outcome .answer) ≢ 0
   -- "and made no call that ended in code 8", whichever board lost its power
   pub caller : boardNamed (x .asked) ≡ b → code (x .outcome .answer) ≢ 8
-
--- the bytes that a list of calls left
-unfoldable pub bytesLeft : List ℕ → List Observed → List ℕ
-bytesLeft s [] = s
-bytesLeft s (x ∷ xs) = bytesLeft (x .bytes) xs
 
 -- between calls: the pages of all gots of the taker that name the giver, stored then volatile, are those of the giver's stored showns that name the taker
 abbrev pub LogsAgree : (giver taker : ℕ) → Bank → Type 0

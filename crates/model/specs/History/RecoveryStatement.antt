@@ -17,7 +17,7 @@ pub record SameCounters (x y : Board) : Type 0 where
   pub number : y .working .number ≡ x .working .number
   pub since : y .working .since ≡ x .working .since
   pub place : y .working .place ≡ x .working .place
-  pub volatile : y .working .log .records ≡ x .working .log .records
+  pub volatile : y .working .log ≡ x .working .log
   pub second : y .stable .second ≡ x .stable .second
   pub selected : y .stable .selected ≡ x .stable .selected
 
@@ -27,7 +27,7 @@ pub data Change (x y : Board) : Type 0 where
   Made : (kind : Kind) (peer : ℕ) (bytes : List ℕ) → x .state ≡ Up → y ≡ onWorking (recorded kind peer bytes) x → Change x y
   Stored : x .state ≡ Up → y ≡ storedRecord x → Change x y
   -- the spare area's head is stored; a power loss right after the selector leaves the same board with the volatile log emptied or not
-  Selected : x .state ≡ Up → x .stable .spare .number ≡ x .working .number → x .stable .spare .log .records ≡ []
+  Selected : x .state ≡ Up → x .stable .spare .number ≡ x .working .number → x .stable .spare .log ≡ []
       → y ≡ onWorking restedWorking (storedSelector x) → Change x y
   Lost : y ≡ poweredOff x → Change x y
   Accessed : (a : Access) → x .state ≡ Up → y ≡ onWorking (accessed a) x → Change x y

@@ -35,7 +35,7 @@ lastIsGot (r ∷ []) = isGot (r .kind)
 lastIsGot (r ∷ q ∷ rs) = lastIsGot (q ∷ rs)
 
 unfoldable pub endsInGot : Board → Bool
-endsInGot x = lastIsGot (x .stable .selected .log .records)
+endsInGot x = lastIsGot (x .stable .selected .log)
 
 -- ==== calls
 

@@ -212,6 +212,11 @@ unfoldable pub runOf : List Call → List ℕ → List Observed
 runOf [] s = []
 runOf (c ∷ cs) s = defined c s ∷ runOf cs (call c s .bytes)
 
+-- the bytes that a list of calls left
+unfoldable pub bytesLeft : List ℕ → List Observed → List ℕ
+bytesLeft s [] = s
+bytesLeft s (x ∷ xs) = bytesLeft (x .bytes) xs
+
 -- bank and history after a call
 unfoldable pub afterSeen : Observed → System → System
 afterSeen x t =

@@ -21,9 +21,8 @@ use Rattle.model.specs.Laws.Lists.{each-getD, each-imp, each-set, length
 use Rattle.model.specs.Laws.Parts.{part-part, part-encodeAll, index-in, each-all}
 use Rattle.model.specs.Laws.Codec.{length-encodeEntry, decode-encodeEntry}
 use Rattle.model.specs.Laws.CodecBank.{bank-directory, length-encodeBoard, length-encode, decode-encode}
-use Rattle.model.specs.Laws.CodecBankBack.{encode-decode}
 use Rattle.model.specs.Laws.CodecAt.{encode-onBoard}
-use Rattle.model.specs.Laws.WellFormedTest.{wellFormed-sound, bank-block, fields-of}
+use Rattle.model.specs.Laws.WellFormedTest.{wellFormed-sound, wellFormed-back, bank-block, fields-of}
 use Rattle.model.specs.Laws.Boards.{update-out, boardAt-out, boardAt-same, onBoard-onBoard}
 use Rattle.model.specs.Laws.Runs.{lost-not, store-cases}
 use Rattle.model.specs.Laws.Valid.{frameOk-empty, frameOk-at}
@@ -33,7 +32,7 @@ use Rattle.model.specs.Laws.Valid.{frameOk-empty, frameOk-at}
 pub isBank-test : (s : List ℕ) → wellFormed s ≡ true → IsBank s
 isBank-test s v =
     let w : WellFormed (decode s) = wellFormed-sound s v in
-    record { back = encode-decode today true s v; fields = fields-of (decode s) w; sizes = w .sizes }
+    record { back = wellFormed-back s v; fields = fields-of (decode s) w; sizes = w .sizes }
 
 module _ (k : Bank) where
   pub isBank-encode : Fields k → SizesOk (length (k .boards)) (length (k .directory)) → IsBank (encode k)

@@ -2,6 +2,7 @@
 -- Assumes nothing.
 use mathlib.Core.Path.{_≡_, refl, sym, _∙_}
 use Prim.Native.Nat.{ℕ, _+_, _*_, _≤_, _<_}
+use native.Mathlib.Nat.{add-zero}
 use native.Mathlib.Omega.{arith}
 use mathlib.Core.List.{List, [], _∷_, _++_, append-assoc}
 use lib.ListN.{length, getD, length-append}
@@ -9,16 +10,17 @@ use Rattle.words.specs.LittleEndian.{bytesOf, numberOf}
 use Rattle.words.specs.LittleEndianLaws.{length-bytesOf, numberOf-bytesOf}
 use Rattle.types.specs.declared.Frame.{Frame}
 use Rattle.types.specs.declared.Record.{Record}
-use Rattle.model.specs.Definitions.Parts.{part, splice, encodeAll}
-use Rattle.model.specs.Definitions.Layout.{numberSize, frameSize, slotSize, areaNumberAt, areaCountAt, areaFramesAt, areaSlotsAt}
+use Rattle.model.specs.Definitions.Parts.{part, splice, zeros, encodeAll}
+use Rattle.model.specs.Definitions.Layout.{slotCount, numberSize, frameSize, slotSize, slotsSize, areaNumberAt, areaCountAt, areaFramesAt, areaSlotsAt}
 use Rattle.model.specs.Definitions.Bank.{Area, frameAt}
-use Rattle.model.specs.Definitions.Codec.{encodeFrame, decodeFrame, encodeRecord, decodeRecord, encodeLog, encodeArea, encodeLogIn, encodeAreaIn}
+use Rattle.model.specs.Definitions.Codec.{encodeFrame, decodeFrame, encodeRecord, decodeRecord, encodeLog, encodeArea, encodeAreaIn}
 use Rattle.model.specs.Definitions.WellFormed.{FrameOk, RecordOk, AreaOk}
 use Rattle.model.specs.Definitions.Steps.{appended, withRecord, withAreaFrame, withHead}
-use Rattle.model.specs.Laws.Parts.{splice-front, splice-at, splice-amid, splice-behind, index-in}
-use Rattle.model.specs.Laws.WrittenTests.{log-count}
-use Rattle.model.specs.Laws.Codec.{area-number, area-frames, area-slots, length-encodeFrames, decode-encodeFrames, length-encodeFrame, decode-encodeLog}
-use Rattle.model.specs.Laws.CodecAt.{frame-read-at, record-read-at, encode-appended, encode-setFrame}
+use Rattle.model.specs.Laws.Parts.{splice-front, splice-all, splice-at, splice-amid, splice-behind, index-in}
+use Rattle.model.specs.Laws.Zeros.{zeros-length}
+use Rattle.model.specs.Laws.Codec.{length-encodeLog, area-number, area-frames, area-slots, length-encodeFrames, decode-encodeFrames}
+use Rattle.model.specs.Laws.Codec.{length-encodeFrame, decode-encodeLog}
+use Rattle.model.specs.Laws.CodecAt.{frame-read-at, record-read-at, encode-appended, encode-noRecord, encode-setFrame}
 
 -- ---- an area: its fields read
 
@@ -30,10 +32,10 @@ module _ (pages : ℕ) (a : Area) (ok : AreaOk pages a) where
   area-frame-read p h =
       sym (frame-read-at pages (encodeArea a) areaFramesAt p h) ∙ rw (area-frames pages a ok, decode-encodeFrames pages (a .frames) (ok .frames))
 
-  pub area-record-read : (i : ℕ) (d : Record) → i < length (a .log .records)
-      → decodeRecord (part (encodeArea a) (areaSlotsAt pages + i * slotSize) slotSize) ≡ getD (a .log .records) i d
+  pub area-record-read : (i : ℕ) (d : Record) → i < length (a .log)
+      → decodeRecord (part (encodeArea a) (areaSlotsAt pages + i * slotSize) slotSize) ≡ getD (a .log) i d
   area-record-read i d h =
-      sym (record-read-at (length (a .log .records)) (encodeArea a) (areaSlotsAt pages) i d (log-count pages (a .log) (ok .log)) h)
+      sym (record-read-at (length (a .log)) (encodeArea a) (areaSlotsAt pages) i d (ok .log .count) h)
       ∙ rw (area-slots pages a ok, decode-encodeLog pages (a .log) (ok .log))
 
 -- ---- an area: a record appended, a frame or the head written
@@ -73,23 +75,23 @@ module _ (pages : ℕ) (a : Area) (ok : AreaOk pages a) where
   bytes = encodeAll encodeFrame (a .frames)
 
   abbrev n : ℕ
-  n = length (a .log .records)
+  n = length (a .log)
 
   length-bytes : length bytes ≡ pages * frameSize
   length-bytes = length-encodeFrames pages (a .frames) (ok .frames)
 
   -- the record in the slot at the count, and the count one more
-  pub write-areaRecord : (r : Record) → RecordOk pages r
-      → splice (splice (encodeArea a) (areaSlotsAt pages + length (a .log .records) * slotSize) (encodeRecord r)) areaCountAt
-      ((length (a .log .records) + 1) ∷ [])
+  pub write-areaRecord : (r : Record) → RecordOk pages r → length (a .log) < slotCount
+      → splice (splice (encodeArea a) (areaSlotsAt pages + length (a .log) * slotSize) (encodeRecord r)) areaCountAt
+      ((length (a .log) + 1) ∷ [])
       ≡ encodeArea (withRecord r a)
   unfolding encodeAreaIn appended
-  write-areaRecord r v =
+  write-areaRecord r v h =
       rw (
         slots-written (a .number) n bytes (encodeLog (a .log)) pages (n * slotSize) (encodeRecord r) length-bytes,
         count-written (a .number) n bytes (splice (encodeLog (a .log)) (n * slotSize) (encodeRecord r)) (n + 1),
-        length-append (a .log .records) (r ∷ []),
-        encode-appended pages r (a .log) v (ok .log .records),
+        length-append (a .log) (r ∷ []),
+        encode-appended pages r (a .log) v (ok .log .records) h,
       )
 
   pub write-areaFrame : (p : ℕ) (f : Frame) → FrameOk f → p < pages
@@ -103,6 +105,16 @@ module _ (pages : ℕ) (a : Area) (ok : AreaOk pages a) where
         encode-setFrame pages (a .frames) p f (ok .frames) v h,
       )
 
-  pub write-areaHead : (m : ℕ) → splice (encodeArea a) areaNumberAt (bytesOf numberSize m ++ (0 ∷ [])) ≡ encodeArea (withHead m a)
-  unfolding encodeAreaIn encodeLogIn encodeAll
-  write-areaHead m = head-written (a .number) n bytes (encodeLog (a .log)) m 0
+  -- number and count, and all slots zero
+  pub write-areaHead : (m : ℕ) → splice (splice (encodeArea a) areaNumberAt (bytesOf numberSize m ++ (0 ∷ []))) (areaSlotsAt pages) (zeros slotsSize)
+      ≡ encodeArea (withHead m a)
+  unfolding encodeAreaIn
+  write-areaHead m =
+      let w : length (encodeLog (a .log)) ≡ length (zeros slotsSize) = length-encodeLog pages (a .log) (ok .log) ∙ sym (zeros-length slotsSize) in
+      rw (
+        head-written (a .number) n bytes (encodeLog (a .log)) m 0,
+        ← add-zero (areaSlotsAt pages),
+        slots-written m 0 bytes (encodeLog (a .log)) pages 0 (zeros slotsSize) length-bytes,
+        splice-all (encodeLog (a .log)) (zeros slotsSize) w,
+        encode-noRecord,
+      )

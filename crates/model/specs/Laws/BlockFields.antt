@@ -1,10 +1,9 @@
 -- A board's block as bytes, field by field: what stands at each place of `encodeBoard x`, and that one field changed is one splice.
 -- Steps of whole boards are in BlockWorking. Assumes nothing.
 use mathlib.Core.Path.{_≡_, refl, sym, ap, _∙_}
-use Prim.Native.Nat.{ℕ, _+_, _*_, _≤_, _<_}
-use native.Mathlib.Nat.{add-zero}
+use Prim.Native.Nat.{ℕ, _+_, _-_, _*_, _≤_, _<_}
 use native.Mathlib.Omega.{arith}
-use mathlib.Core.List.{List, [], _∷_, _++_, append-nil}
+use mathlib.Core.List.{List, [], _∷_, _++_}
 use lib.ListN.{length, getD, set, length-append, length-set}
 use Rattle.words.specs.Bytes.{Each}
 use Rattle.words.specs.LittleEndian.{bytesOf, numberOf}
@@ -12,26 +11,22 @@ use Rattle.words.specs.LittleEndianLaws.{length-bytesOf, numberOf-bytesOf}
 use Rattle.types.specs.declared.Frame.{Frame}
 use Rattle.types.specs.declared.Record.{Record}
 use Rattle.types.specs.declared.State.{State}
-use Rattle.model.specs.Definitions.Parts.{part, splice, byteAt, encodeAll}
+use Rattle.model.specs.Definitions.Parts.{part, splice, byteAt, zeros, encodeAll}
 use Rattle.model.specs.Definitions.Layout.{pageSize, frameSize, frameBytesAt, rightAt, slotSize, slotsSize, fuseSize, numberSize, sinceSize, stateAt}
 use Rattle.model.specs.Definitions.Layout.{selectorAt, fuseAt, numberAt, sinceAt, placeAt, volatileCountAt, framesAt, slotsAt, today}
-use Rattle.model.specs.Definitions.Bank.{Log, Board, emptyFrame, frameAt, withState, withNumber, withSince, withPlace, withLog, onWorking, onFrames}
+use Rattle.model.specs.Definitions.Bank.{Board, emptyFrame, frameAt, withState, withNumber, withSince, withPlace, withLog, onWorking, onFrames}
 use Rattle.model.specs.Definitions.Codec.{rightByte, encodeFrame, decodeFrame, encodeRecord, decodeRecord, encodeLog, stateByte, selectorByte}
 use Rattle.model.specs.Definitions.Codec.{encodeFixed, encodeStable, encodeBoard, encodeLogIn, encodeFixedIn, encodeBoardIn}
 use Rattle.model.specs.Definitions.Steps.{withFuse, withFrame, withByte, cellByte}
 use Rattle.model.specs.Definitions.WellFormed.{FramesOk, FieldsOk}
 use Rattle.model.specs.Laws.Lists.{each-imp, each-getD}
 use Rattle.model.specs.Laws.Parts.{part-part, part-append-left, part-end, splice-append-left, splice-append-right, splice-front, splice-at, splice-amid}
-use Rattle.model.specs.Laws.Parts.{splice-behind, splice-within, splice-one, byteAt-part, index-in, part-encodeAll, encodeAll-set}
+use Rattle.model.specs.Laws.Parts.{splice-all, splice-behind, splice-within, splice-one, byteAt-part, index-in, part-encodeAll, encodeAll-set}
 use Rattle.model.specs.Laws.Codec.{length-encodeFrame, decode-encodeFrame, length-encodeFrames, length-encodeRecord, decode-encodeRecord}
 use Rattle.model.specs.Laws.Codec.{length-encodeRecords}
 use Rattle.model.specs.Laws.CodecBank.{switches, length-encodeFixed, fixed-state, fixed-selector, fixed-number, fixed-since, board-fixed, board-byte}
 use Rattle.model.specs.Laws.CodecBank.{board-frames, board-slots}
 use Rattle.model.specs.Laws.Valid.{frameOk-at}
-
--- a splice of the whole list
-pub splice-all : {A : Type 0} (l v : List A) → length l ≡ length v → splice l 0 v ≡ v
-splice-all l v e = simp append-nil at (splice-front l v [] e)
 
 -- ---- writing the fixed fields: for any board, whatever its values
 
@@ -74,7 +69,7 @@ module _ (x : Board) where
   sinceBytes = bytesOf sinceSize (x .working .since)
 
   abbrev lastTwo : List ℕ
-  lastTwo = x .working .place ∷ length (x .working .log .records) ∷ []
+  lastTwo = x .working .place ∷ length (x .working .log) ∷ []
 
   pub write-fuse : (n : ℕ) → splice (encodeBoard x) fuseAt (bytesOf fuseSize n) ≡ encodeBoard (withFuse n x)
   unfolding encodeFixedIn withFuse
@@ -120,13 +115,10 @@ module _ (x : Board) where
   unfolding encodeFixedIn onWorking splice
   write-place n = write-fixed x (onWorking (withPlace n) x) placeAt (n ∷ []) (omega arith) (in-lastTwo placeAt 0 (n ∷ []) refl) refl
 
-  -- the volatile count: the same slots, read as more or fewer records
-  pub write-count : (g : Log) → encodeLog g ≡ encodeLog (x .working .log)
-      → splice (encodeBoard x) volatileCountAt (length (g .records) ∷ []) ≡ encodeBoard (onWorking (withLog g) x)
+  -- the count of another volatile log
+  pub count-written : (g : List Record) → splice (encodeFixed x) volatileCountAt (length g ∷ []) ≡ encodeFixed (onWorking (withLog g) x)
   unfolding encodeFixedIn onWorking splice
-  write-count g e =
-      write-fixed x (onWorking (withLog g) x) volatileCountAt (length (g .records) ∷ []) (omega arith)
-      (in-lastTwo volatileCountAt 1 (length (g .records) ∷ []) refl) (rw e)
+  count-written g = in-lastTwo volatileCountAt 1 (length g ∷ []) refl
 
 -- valid frames have the width of a frame
 pub wide-frames : {pages : ℕ} (fs : List Frame) → FramesOk pages fs → Each (λ f. length (encodeFrame f) ≡ frameSize) fs
@@ -185,24 +177,24 @@ module _ (pages : ℕ) (x : Board) (ok : FieldsOk pages x) where
 
   -- ---- reading a volatile record
 
-  pub slot-part : (i : ℕ) (d : Record) → i < length (x .working .log .records)
-      → part (encodeBoard x) (slotsAt pages + i * slotSize) slotSize ≡ encodeRecord (getD (x .working .log .records) i d)
+  pub slot-part : (i : ℕ) (d : Record) → i < length (x .working .log)
+      → part (encodeBoard x) (slotsAt pages + i * slotSize) slotSize ≡ encodeRecord (getD (x .working .log) i d)
   unfolding encodeLogIn
   slot-part i d h =
-      let rs : List Record = x .working .log .records in
+      let rs : List Record = x .working .log in
       let bytes : List ℕ = encodeAll encodeRecord rs in
       let m : i * slotSize + slotSize ≤ length rs * slotSize = index-in slotSize (length rs) i h in
       let e : length bytes ≡ length rs * slotSize = length-encodeRecords pages rs (ok .working .log .records) in
-      sym (part-part (encodeBoard x) (slotsAt pages) slotsSize (i * slotSize) slotSize (omega (arith, ok .working .log .slots)))
+      sym (part-part (encodeBoard x) (slotsAt pages) slotsSize (i * slotSize) slotSize (omega (arith, ok .working .log .count)))
       ∙ rw (board-slots pages x ok)
-      (part-append-left bytes (x .working .log .rest) (i * slotSize) slotSize (omega arith)
+      (part-append-left bytes (zeros (slotsSize - length rs * slotSize)) (i * slotSize) slotSize (omega arith)
       ∙ part-encodeAll encodeRecord slotSize rs i d (each-imp rs (λ r o. length-encodeRecord today r (o .size)) (ok .working .log .records)) h)
 
-  pub read-record : (i : ℕ) (d : Record) → i < length (x .working .log .records)
-      → decodeRecord (part (encodeBoard x) (slotsAt pages + i * slotSize) slotSize) ≡ getD (x .working .log .records) i d
+  pub read-record : (i : ℕ) (d : Record) → i < length (x .working .log)
+      → decodeRecord (part (encodeBoard x) (slotsAt pages + i * slotSize) slotSize) ≡ getD (x .working .log) i d
   read-record i d h =
       rw (slot-part i d h)
-      (decode-encodeRecord pages (getD (x .working .log .records) i d) (each-getD (x .working .log .records) i d (ok .working .log .records) h))
+      (decode-encodeRecord pages (getD (x .working .log) i d) (each-getD (x .working .log) i d (ok .working .log .records) h))
 
 -- ---- writing frames
 
@@ -260,16 +252,18 @@ module _ (pages : ℕ) (x : Board) (p : ℕ) (ok : FramesOk pages (x .working .f
       (splice-append-right (rightByte (f .right) ∷ []) (f .bytes) (frameBytesAt + o) o (v ∷ []) refl
       ∙ ap (λ (r : List ℕ). rightByte (f .right) ∷ r) (splice-one (f .bytes) o v (omega arith)))
 
--- a block is at least its fixed fields and frames
-pub frames-inside : (pages : ℕ) (x : Board) → FramesOk pages (x .working .frames) → slotsAt pages ≤ length (encodeBoard x)
+-- a block is at least its fixed fields, frames and volatile slots
+pub slots-inside : (pages : ℕ) (x : Board) → FramesOk pages (x .working .frames) → length (encodeLog (x .working .log)) ≡ slotsSize
+    → slotsAt pages + slotsSize ≤ length (encodeBoard x)
 unfolding encodeBoardIn
-frames-inside pages x ok =
+slots-inside pages x ok n =
     let frames : List ℕ = encodeAll encodeFrame (x .working .frames) in
-    let n : length frames ≡ pages * frameSize = length-encodeFrames pages (x .working .frames) ok in
+    let m : length frames ≡ pages * frameSize = length-encodeFrames pages (x .working .frames) ok in
     rw (
       length-append (encodeFixed x) (behindFixed x),
       length-encodeFixed today x,
       length-append frames (encodeLog (x .working .log) ++ encodeStable (x .stable)),
+      length-append (encodeLog (x .working .log)) (encodeStable (x .stable)),
     )
     (omega arith)
 
@@ -282,25 +276,18 @@ write-all-frames pages x fs ok n =
     write-frames pages x (λ gs. fs) 0 (encodeAll encodeFrame fs) ok (omega arith)
     (splice-all (encodeAll encodeFrame (x .working .frames)) (encodeAll encodeFrame fs) (m ∙ sym n))
 
--- ---- writing slots
+-- ---- writing the volatile log
 
--- a splice in the volatile slots, under the same count
-pub write-slots : (pages : ℕ) (x : Board) (g : Log) (b : ℕ) (v : List ℕ) → FramesOk pages (x .working .frames)
-    → length (encodeLog (x .working .log)) ≡ slotsSize → b + length v ≤ slotsSize → length (g .records) ≡ length (x .working .log .records)
-    → splice (encodeLog (x .working .log)) b v ≡ encodeLog g
-    → splice (encodeBoard x) (slotsAt pages + b) v ≡ encodeBoard (onWorking (withLog g) x)
-unfolding encodeBoardIn encodeFixedIn onWorking
-write-slots pages x g b v ok n h c e =
+-- another log is its count, and a splice that makes the slots those of the log
+pub write-log : (pages : ℕ) (x : Board) (g : List Record) (b : ℕ) (v : List ℕ) → FramesOk pages (x .working .frames)
+    → length (encodeLog (x .working .log)) ≡ slotsSize → b + length v ≤ slotsSize → splice (encodeLog (x .working .log)) b v ≡ encodeLog g
+    → splice (splice (encodeBoard x) volatileCountAt (length g ∷ [])) (slotsAt pages + b) v ≡ encodeBoard (onWorking (withLog g) x)
+unfolding encodeBoardIn onWorking
+write-log pages x g b v ok n h e =
+    let y : Board = onWorking (withLog g) x in
     let frames : List ℕ = encodeAll encodeFrame (x .working .frames) in
     let m : length frames ≡ pages * frameSize = length-encodeFrames pages (x .working .frames) ok in
-    splice-behind (encodeFixed x) frames (encodeLog (x .working .log) ++ encodeStable (x .stable))
-    (slotsAt pages + b) b v (rw (length-encodeFixed today x) (omega arith))
-    ∙ rw (splice-append-left (encodeLog (x .working .log)) (encodeStable (x .stable)) b v (omega arith), e, c)
-
--- all of them
-pub write-all-slots : (pages : ℕ) (x : Board) (g : Log) → FramesOk pages (x .working .frames) → length (encodeLog (x .working .log)) ≡ slotsSize
-    → length (encodeLog g) ≡ slotsSize → length (g .records) ≡ length (x .working .log .records)
-    → splice (encodeBoard x) (slotsAt pages) (encodeLog g) ≡ encodeBoard (onWorking (withLog g) x)
-write-all-slots pages x g ok n m c =
-    rw add-zero at
-    (write-slots pages x g 0 (encodeLog g) ok n (omega arith) c (splice-all (encodeLog (x .working .log)) (encodeLog g) (n ∙ sym m)))
+    rw (splice-append-left (encodeFixed x) (behindFixed x) volatileCountAt (length g ∷ []) (rw (length-encodeFixed today x) (omega arith)), count-written x g)
+    (splice-behind (encodeFixed y) frames (encodeLog (x .working .log) ++ encodeStable (x .stable))
+    (slotsAt pages + b) b v (rw (length-encodeFixed today y) (omega arith))
+    ∙ rw (splice-append-left (encodeLog (x .working .log)) (encodeStable (x .stable)) b v (omega arith), e))

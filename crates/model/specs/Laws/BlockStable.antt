@@ -11,7 +11,7 @@ use lib.Dec.{eqb}
 use Rattle.words.specs.LittleEndian.{bytesOf}
 use Rattle.types.specs.declared.Frame.{Frame}
 use Rattle.types.specs.declared.Record.{Record}
-use Rattle.model.specs.Definitions.Parts.{part, splice, byteAt, encodeAll}
+use Rattle.model.specs.Definitions.Parts.{part, splice, byteAt, zeros, encodeAll}
 use Rattle.model.specs.Definitions.Layout.{slotCount, numberSize, frameSize, slotSize, slotsSize, areaNumberAt, areaCountAt, areaFramesAt, areaSlotsAt}
 use Rattle.model.specs.Definitions.Layout.{areaSize, selectorAt, slotsAt, areaAt, blockSize, today}
 use Rattle.model.specs.Definitions.Bank.{Area, Stable, Board, frameAt, onSelected, onSpare}
@@ -21,12 +21,13 @@ use Rattle.model.specs.Definitions.WellFormed.{FrameOk, RecordOk, Fields
 use Rattle.model.specs.Definitions.Steps.{storedFrame, storedHead, storedSelector, withRecord, withAreaFrame, withHead}
 use Rattle.model.specs.Laws.Parts.{length-part, part-append-right, part-front, part-end, length-splice, part-splice, splice-append-right, splice-front}
 use Rattle.model.specs.Laws.Parts.{splice-at, splice-within, splice-again, index-in}
-use Rattle.model.specs.Laws.Codec.{areaHead, length-areaHead, length-encodeArea, length-encodeFrames, length-encodeFrame, length-encodeRecord}
+use Rattle.model.specs.Laws.Codec.{length-encodeArea, length-encodeFrames, length-encodeFrame, length-encodeRecord}
 use Rattle.model.specs.Laws.Codec.{length-encodeLog}
 use Rattle.model.specs.Laws.CodecBank.{length-encodeFixed, length-encodeBoard, eqb-selectorByte}
 use Rattle.model.specs.Laws.BlockFields.{read-selector}
 use Rattle.model.specs.Laws.BlockAreas.{write-areaRecord, write-areaFrame, write-areaHead}
-use Rattle.model.specs.Laws.Valid.{frameOk-at, areaOk-record}
+use Rattle.model.specs.Laws.Valid.{frameOk-at, areaOk-number, areaOk-log, areaOk-record}
+use Rattle.model.specs.Laws.Fresh.{noRecord-ok}
 use Rattle.model.specs.Laws.BoardFields.{onSelected-fields}
 
 -- ---- a part changed by two splices and put back
@@ -206,19 +207,22 @@ module _ (pages : ℕ) (x : Board) (ok : FieldsOk pages x) where
     unfolding storedFrame
     storedFrame-bytes = in-spare (withAreaFrame p frame) (areaFramesAt + p * frameSize) (encodeFrame frame) frame-in frame-written
 
-  -- "one area head (number and stored count 0)"
+  -- "one area head (number and stored count 0)", and its 32 slots (document 02, F-8)
   abbrev head : Area
   head = withHead (x .working .number) (t .spare)
 
-  head-in : areaNumberAt + length (areaHead head) ≤ areaSize pages
-  head-in = omega (arith, length-areaHead head)
-
-  pub storedHead-bytes : splice (encodeBoard x) (areaAt pages (selectorByte (not (x .stable .second))) + areaNumberAt)
-      (bytesOf numberSize (x .working .number) ++ (0 ∷ []))
+  pub storedHead-bytes : splice (encodeBoard x) (areaAt pages (selectorByte (not (x .stable .second))))
+      (splice
+      (splice (part (encodeBoard x) (areaAt pages (selectorByte (not (x .stable .second)))) (areaSize pages)) areaNumberAt
+      (bytesOf numberSize (x .working .number) ++ (0 ∷ [])))
+      (areaSlotsAt pages) (zeros slotsSize))
       ≡ encodeBoard (storedHead x)
   unfolding storedHead
   storedHead-bytes =
-      in-spare (withHead (x .working .number)) areaNumberAt (areaHead head) head-in (write-areaHead pages (t .spare) (ok .spare) (x .working .number))
+      write-spare-part (withHead (x .working .number))
+      (λ s. splice (splice s areaNumberAt (bytesOf numberSize (x .working .number) ++ (0 ∷ []))) (areaSlotsAt pages) (zeros slotsSize))
+      (write-areaHead pages (t .spare) (ok .spare) (x .working .number))
+      (length-encodeArea pages head (areaOk-number (areaOk-log (ok .spare) (noRecord-ok pages)) (x .working .number) (ok .working .number)))
 
   -- "one selector": the areas stay where they are
   pub storedSelector-bytes : splice (encodeBoard x) selectorAt (selectorByte (not (x .stable .second)) ∷ []) ≡ encodeBoard (storedSelector x)
@@ -228,25 +232,25 @@ module _ (pages : ℕ) (x : Board) (ok : FieldsOk pages x) where
       (splice-at (stateByte (x .state) ∷ []) (selectorByte (t .second) ∷ []) (selectorByte (not (t .second)) ∷ []) _ selectorAt refl refl)
 
   -- "one record appended to the selected area": the record in the slot at the stored count, and the count one more
-  module _ (r : Record) (v : RecordOk pages r) (h : length (x .stable .selected .log .records) < slotCount) where
+  module _ (r : Record) (v : RecordOk pages r) (h : length (x .stable .selected .log) < slotCount) where
     abbrev stored : ℕ
-    stored = length (t .selected .log .records)
+    stored = length (t .selected .log)
 
     pub withRecord-part : splice (encodeBoard x) (areaAt pages (selectorByte (x .stable .second)))
         (splice
         (splice (part (encodeBoard x) (areaAt pages (selectorByte (x .stable .second))) (areaSize pages))
-        (areaSlotsAt pages + length (x .stable .selected .log .records) * slotSize) (encodeRecord r))
-        areaCountAt ((length (x .stable .selected .log .records) + 1) ∷ []))
+        (areaSlotsAt pages + length (x .stable .selected .log) * slotSize) (encodeRecord r))
+        areaCountAt ((length (x .stable .selected .log) + 1) ∷ []))
         ≡ encodeBoard (onSelected (withRecord r) x)
     withRecord-part =
         write-selected-part (withRecord r) (λ s. splice (splice s (areaSlotsAt pages + stored * slotSize) (encodeRecord r)) areaCountAt ((stored + 1) ∷ []))
-        (write-areaRecord pages (t .selected) (ok .selected) r v)
+        (write-areaRecord pages (t .selected) (ok .selected) r v h)
         (length-encodeArea pages (withRecord r (t .selected)) (areaOk-record (ok .selected) v h))
 
     pub withRecord-bytes : splice
-        (splice (encodeBoard x) (areaAt pages (selectorByte (x .stable .second)) + (areaSlotsAt pages + length (x .stable .selected .log .records) * slotSize))
+        (splice (encodeBoard x) (areaAt pages (selectorByte (x .stable .second)) + (areaSlotsAt pages + length (x .stable .selected .log) * slotSize))
         (encodeRecord r))
-        (areaAt pages (selectorByte (x .stable .second)) + areaCountAt) ((length (x .stable .selected .log .records) + 1) ∷ [])
+        (areaAt pages (selectorByte (x .stable .second)) + areaCountAt) ((length (x .stable .selected .log) + 1) ∷ [])
         ≡ encodeBoard (onSelected (withRecord r) x)
     withRecord-bytes =
         let w : length (encodeRecord r) ≡ slotSize = length-encodeRecord today r (v .size) in
@@ -256,6 +260,6 @@ module _ (pages : ℕ) (x : Board) (ok : FieldsOk pages x) where
         (omega arith) (omega arith) (fits-in (t .second)))
         ∙ withRecord-part
 
-  pub withRecord-fields : (r : Record) → RecordOk pages r → length (x .stable .selected .log .records) < slotCount
+  pub withRecord-fields : (r : Record) → RecordOk pages r → length (x .stable .selected .log) < slotCount
       → FieldsOk pages (onSelected (withRecord r) x)
   withRecord-fields r v h = onSelected-fields ok (withRecord r) (areaOk-record (ok .selected) v h)

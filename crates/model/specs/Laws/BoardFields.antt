@@ -16,7 +16,7 @@ use Rattle.types.specs.declared.Record.{Record}
 use Rattle.types.specs.declared.State.{State}
 use Rattle.types.specs.declared.State.the-variants.{Up, Replaying}
 use Rattle.model.specs.Definitions.Parts.{zeros}
-use Rattle.model.specs.Definitions.Layout.{byteValues, pageSize, noFuse, mostPages, lastSince, lastNumber}
+use Rattle.model.specs.Definitions.Layout.{byteValues, pageSize, noFuse, lastSince, lastNumber}
 use Rattle.model.specs.Definitions.Bank.{Area, Working, Stable, Board, emptyFrame, frameAt, withState, withWorking, withStable, onWorking, onSelected}
 use Rattle.model.specs.Definitions.Bank.{onSpare, onFrames}
 use Rattle.model.specs.Definitions.Codec.{pageOf}
@@ -28,10 +28,10 @@ use Rattle.model.specs.Definitions.Replay.{loaded, used, settled}
 use Rattle.model.specs.Contracts.{Space, Recordable}
 use Rattle.model.specs.Laws.Logic.{cases}
 use Rattle.model.specs.Laws.Lists.{each-head}
-use Rattle.model.specs.Laws.Fresh.{emptyLog-ok, zeroWorking-ok}
+use Rattle.model.specs.Laws.Fresh.{noRecord-ok, zeroWorking-ok}
 use Rattle.model.specs.Laws.Boards.{tookCopy, tookOwn}
 use Rattle.model.specs.Laws.Valid.{copy-some, own-some, frameOk-empty, frameOk-right, frameOk-at, framesOk-set, settledFrames-ok, emptyFrames-ok}
-use Rattle.model.specs.Laws.Valid.{Writable, framesOk-withBytes, logOk-appended, logOk-moved, logOk-old, recordable-plain, recordable-got, areaOk-number}
+use Rattle.model.specs.Laws.Valid.{Writable, framesOk-withBytes, logOk-appended, logOk-moved, recordable-plain, recordable-got, areaOk-number}
 use Rattle.model.specs.Laws.Valid.{areaOk-frames, areaOk-log, workingOk-number, workingOk-since, workingOk-place, workingOk-frames, workingOk-log}
 use Rattle.model.specs.Laws.Valid.{workingOk-used, areaOk-record}
 
@@ -115,11 +115,11 @@ settled-fields {x} ok owned =
 
 -- ---- flush, restart and checkpoint
 
-pub movedRecord-fields : {pages : ℕ} {x : Board} → FieldsOk pages x → (r : Record) (rs : List Record) → x .working .log .records ≡ r ∷ rs → RoomOk x
+pub movedRecord-fields : {pages : ℕ} {x : Board} → FieldsOk pages x → (r : Record) (rs : List Record) → x .working .log ≡ r ∷ rs → RoomOk x
     → FieldsOk pages (movedRecord r rs x)
 unfolding movedRecord
 movedRecord-fields {x} ok r rs e room =
-    let n : length (x .working .log .records) ≡ length (r ∷ rs) = ap length e in
+    let n : length (x .working .log) ≡ length (r ∷ rs) = ap length e in
     withStable-fields (withWorking-fields ok (workingOk-log (ok .working) (logOk-moved r rs e (ok .working .log))))
     (areaOk-record (ok .selected) (each-head (rw e at (ok .working .log .records))) (omega arith)) (ok .spare)
 
@@ -133,7 +133,7 @@ module _ (pages : ℕ) (x : Board) (ok : FieldsOk pages x) where
 
   pub rested-fields : FieldsOk pages (onWorking restedWorking x)
   unfolding restedWorking
-  rested-fields = onWorking-fields ok restedWorking (workingOk-since (workingOk-log (ok .working) (emptyLog-ok pages)) 0 (omega arith))
+  rested-fields = onWorking-fields ok restedWorking (workingOk-since (workingOk-log (ok .working) (noRecord-ok pages)) 0 (omega arith))
 
   pub storedFrame-fields : (p : ℕ) → FieldsOk pages (storedFrame p x)
   unfolding storedFrame
@@ -142,11 +142,11 @@ module _ (pages : ℕ) (x : Board) (ok : FieldsOk pages x) where
       onSpare-fields ok (withAreaFrame p f)
       (areaOk-frames (ok .spare) (framesOk-set (x .stable .spare .frames) p f (ok .spare .frames) (frameOk-at (x .working .frames) p (ok .working .frames))))
 
-  pub storedHead-fields : pages ≤ mostPages → FieldsOk pages (storedHead x)
+  pub storedHead-fields : FieldsOk pages (storedHead x)
   unfolding storedHead
-  storedHead-fields few =
+  storedHead-fields =
       onSpare-fields ok (withHead (x .working .number))
-      (areaOk-number (areaOk-log (ok .spare) (logOk-old few (ok .spare .log))) (x .working .number) (ok .working .number))
+      (areaOk-number (areaOk-log (ok .spare) (noRecord-ok pages)) (x .working .number) (ok .working .number))
 
   pub storedSelector-fields : FieldsOk pages (storedSelector x)
   unfolding storedSelector

@@ -147,7 +147,7 @@ says-empties (suc n) l e =
 
 -- a count is the number of records that were read
 pub counted-area : (form : Form) (pages area : ℕ) (l : List ℕ)
-    → length (decodeAreaIn form pages (part l (areaAtIn form pages area) (areaSizeIn form pages)) .log .records) ≡ areaCount form pages area l
+    → length (decodeAreaIn form pages (part l (areaAtIn form pages area) (areaSizeIn form pages)) .log) ≡ areaCount form pages area l
 unfolding decodeAreaIn
 counted-area form pages area l =
     length-decodeLog form _ (part (part l (areaAtIn form pages area) (areaSizeIn form pages)) (areaSlotsAt pages) (slotsSizeIn form))
@@ -157,23 +157,23 @@ counted-stable : (form : Form) (pages : ℕ) (l : List ℕ) (second : Bool)
     → length
     (decodeStable second
     (decodeAreaIn form pages (part l (areaAtIn form pages 0) (areaSizeIn form pages)))
-    (decodeAreaIn form pages (part l (areaAtIn form pages 1) (areaSizeIn form pages))) .selected .log .records)
+    (decodeAreaIn form pages (part l (areaAtIn form pages 1) (areaSizeIn form pages))) .selected .log)
     ≡ areaCount form pages (selectorByte second) l
 unfolding decodeStable selectorByte
 counted-stable form pages l false = counted-area form pages 0 l
 counted-stable form pages l true = counted-area form pages 1 l
 
 module _ (form : Form) (pages : ℕ) (l : List ℕ) where
-  pub counted-volatile : length (decodeBoardIn form pages l .working .log .records) ≡ byteAt l (volatileCountAtIn form)
+  pub counted-volatile : length (decodeBoardIn form pages l .working .log) ≡ byteAt l (volatileCountAtIn form)
   unfolding decodeBoardIn
   counted-volatile = length-decodeLog form (byteAt l (volatileCountAtIn form)) (part l (slotsAtIn form pages) (slotsSizeIn form))
 
-  counted-selected : length (decodeBoardIn form pages l .stable .selected .log .records) ≡ selectedCount form pages l
+  counted-selected : length (decodeBoardIn form pages l .stable .selected .log) ≡ selectedCount form pages l
   unfolding decodeBoardIn selectedCount
   counted-selected = counted-stable form pages l (eqb (byteAt l selectorAt) (selectorByte true))
 
-  says-volatile : Says (eqb (byteAt l (volatileCountAtIn form)) 0) (decodeBoardIn form pages l .working .log .records ≡ [])
-  says-volatile = rw (← counted-volatile) (says-none (decodeBoardIn form pages l .working .log .records))
+  says-volatile : Says (eqb (byteAt l (volatileCountAtIn form)) 0) (decodeBoardIn form pages l .working .log ≡ [])
+  says-volatile = rw (← counted-volatile) (says-none (decodeBoardIn form pages l .working .log))
 
   says-blank : framesAtIn form + pages * frameSize ≤ length l → Says (isBlank form pages l) (Blank (decodeBoardIn form pages l))
   unfolding isBlank decodeBoardIn
@@ -208,7 +208,7 @@ module _ (form : Form) (pages : ℕ) (l : List ℕ) where
       (λ t. (all .0 t .0, (λ r. cc, λ d. all .0 t .1)), λ k. all .1 (k .0, k .1 .1 e))
   says-state h Replaying e =
       let place : Says (ltb (byteAt l (placeAtIn form)) (selectedCount form pages l))
-      (byteAt l (placeAtIn form) < length (decodeBoardIn form pages l .stable .selected .log .records))
+      (byteAt l (placeAtIn form) < length (decodeBoardIn form pages l .stable .selected .log))
       = rw counted-selected (says-lt (byteAt l (placeAtIn form)) (selectedCount form pages l)) in
       let all = says-and place says-volatile in
       (λ t. (all .0 t .0, (λ r. all .0 t .1, λ d. let f : _≡_ {A = ℕ} 0 1 = cc in absurd (omega arith))), λ k. all .1 (k .0, k .1 .0 e))

@@ -84,12 +84,12 @@ frameAt-each p g fs h = getD-each p g fs emptyFrame h
 
 -- ---- the first volatile record, if there is one
 
-pub storedRecord-cases : (P : Board → Type 0) (x : Board) → (x .working .log .records ≡ [] → P x)
-    → ((r : Record) (rs : List Record) → x .working .log .records ≡ r ∷ rs → P (movedRecord r rs x)) → P (storedRecord x)
+pub storedRecord-cases : (P : Board → Type 0) (x : Board) → (x .working .log ≡ [] → P x)
+    → ((r : Record) (rs : List Record) → x .working .log ≡ r ∷ rs → P (movedRecord r rs x)) → P (storedRecord x)
 unfolding storedRecord
-storedRecord-cases P x f g = go (x .working .log .records) refl
+storedRecord-cases P x f g = go (x .working .log) refl
   where
-    go : (l : List Record) → x .working .log .records ≡ l → P (elim l [ [] ↦ x | r ∷ rs ↦ movedRecord r rs x ])
+    go : (l : List Record) → x .working .log ≡ l → P (elim l [ [] ↦ x | r ∷ rs ↦ movedRecord r rs x ])
     go [] e = f e
     go (r ∷ rs) e = g r rs e
 

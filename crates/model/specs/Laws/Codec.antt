@@ -1,11 +1,11 @@
 -- What was written reads back, part by part: the length of a part's bytes, where each field stands in them, and that reading gives
 -- the part again. An entry, a frame, a record, a log, an area. Assumes nothing.
 use mathlib.Core.Path.{_≡_, refl, ap, _∙_}
-use Prim.Native.Nat.{ℕ, suc, _*_}
+use Prim.Native.Nat.{ℕ, suc, _*_, _≤_}
+use native.Mathlib.Nat.{mul-le-mul-right}
 use native.Mathlib.Omega.{arith}
 use mathlib.Core.List.{List, [], _∷_, _++_, append-assoc}
 use lib.ListN.{length, length-append}
-use lib.Seq.{drop-at}
 use Rattle.words.specs.Bytes.{Each}
 use Rattle.words.specs.LittleEndian.{bytesOf}
 use Rattle.words.specs.LittleEndianLaws.{length-bytesOf, numberOf-bytesOf}
@@ -17,15 +17,16 @@ use Rattle.types.specs.declared.Kind.{Kind}
 use Rattle.types.specs.declared.Kind.the-variants.{Got, Shown, Dropped}
 use Rattle.types.specs.declared.Record.{Record}
 use Rattle.model.specs.Definitions.Parts.{part, byteAt, encodeAll}
-use Rattle.model.specs.Definitions.Layout.{frameBytesAt, areaNumberAt, pageSize, entrySize, frameSize, numberSize, areaCountAt, areaFramesAt}
+use Rattle.model.specs.Definitions.Layout.{frameBytesAt, areaNumberAt, pageSize, slotCount, entrySize, frameSize, numberSize, areaCountAt, areaFramesAt}
 use Rattle.model.specs.Definitions.Layout.{areaSlotsAt, slotBytesAtIn, slotSizeIn, slotsSizeIn, areaSizeIn, Form, recordCountAt}
-use Rattle.model.specs.Definitions.Bank.{Entry, Log, Area}
+use Rattle.model.specs.Definitions.Bank.{Entry, Area}
 use Rattle.model.specs.Definitions.Codec.{encodeEntry, decodeEntry, rightByte, rightOf, encodeFrame, decodeFrame, mark0, mark1, pageOf, kindOf}
 use Rattle.model.specs.Definitions.Codec.{decodeFrames, encodeRecordIn, decodeRecordIn, encodeLogIn, decodeLogIn, encodeAreaIn, decodeAreaIn}
 use Rattle.model.specs.Definitions.WellFormed.{FrameOk, FramesOk, RecordOkIn, LogOkIn, AreaOkIn}
 use Rattle.model.specs.Laws.Lists.{each-imp}
 use Rattle.model.specs.Laws.Parts.{part-append-right, part-front, part-at, part-end, byteAt-append-right, length-encodeAll, decodeAll-encodeAll}
 use Rattle.model.specs.Laws.Parts.{decodeAll-encodeAll-all, ReadsBack}
+use Rattle.model.specs.Laws.Zeros.{zeros-length}
 
 -- ---- an entry of the directory
 
@@ -107,31 +108,28 @@ pub length-encodeRecords : {form : Form} (pages : ℕ) (rs : List Record) → Ea
 length-encodeRecords {form} pages rs ok =
     length-encodeAll (encodeRecordIn form) (slotSizeIn form) rs (each-imp rs (λ r h. length-encodeRecord form r (h .size)) ok)
 
-pub length-encodeLog : {form : Form} (pages : ℕ) (l : Log) → LogOkIn form pages l → length (encodeLogIn form l) ≡ slotsSizeIn form
-unfolding encodeLogIn
-length-encodeLog {form} pages l ok =
-    rw (length-append (encodeAll (encodeRecordIn form) (l .records)) (l .rest), length-encodeRecords pages (l .records) (ok .records)) (ok .slots)
+-- records fill no more than the slots
+pub records-in : {form : Form} {pages : ℕ} {rs : List Record} → LogOkIn form pages rs → length rs * slotSizeIn form ≤ slotsSizeIn form
+records-in {form} {rs} ok = mul-le-mul-right {m = length rs} {n = slotCount} (slotSizeIn form) (ok .count)
 
-pub decode-encodeLog : {form : Form} (pages : ℕ) (l : Log) → LogOkIn form pages l → decodeLogIn form (length (l .records)) (encodeLogIn form l) ≡ l
+pub length-encodeLog : {form : Form} (pages : ℕ) (rs : List Record) → LogOkIn form pages rs → length (encodeLogIn form rs) ≡ slotsSizeIn form
+unfolding encodeLogIn
+length-encodeLog {form} pages rs ok =
+    simp (length-append, length-encodeRecords pages rs (ok .records), zeros-length) (omega (arith, records-in ok))
+
+pub decode-encodeLog : {form : Form} (pages : ℕ) (rs : List Record) → LogOkIn form pages rs → decodeLogIn form (length rs) (encodeLogIn form rs) ≡ rs
 unfolding decodeLogIn encodeLogIn
-decode-encodeLog {form} pages l ok =
-    let n : ℕ = length (l .records) in
-    let bytes : List ℕ = encodeAll (encodeRecordIn form) (l .records) in
-    let a : decodeLogIn form n (encodeLogIn form l) .records ≡ l .records
-    = decodeAll-encodeAll (encodeRecordIn form) (decodeRecordIn form) (slotSizeIn form) n (l .records) (l .rest)
-    (each-imp (l .records) (record-back pages) (ok .records)) refl in
-    let b : decodeLogIn form n (encodeLogIn form l) .rest ≡ l .rest
-    = drop-at bytes (l .rest) (n * slotSizeIn form) (length-encodeRecords pages (l .records) (ok .records)) in
-    λ i. record { records = a i; rest = b i }
+decode-encodeLog {form} pages rs ok =
+    decodeAll-encodeAll (encodeRecordIn form) (decodeRecordIn form) (slotSizeIn form) (length rs) rs _ (each-imp rs (record-back pages) (ok .records)) refl
 
 -- ---- an area: where its fields stand
 
 -- an area's number and count
 abbrev pub areaHead : Area → List ℕ
-areaHead a = bytesOf numberSize (a .number) ++ (length (a .log .records) ∷ [])
+areaHead a = bytesOf numberSize (a .number) ++ (length (a .log) ∷ [])
 
 pub length-areaHead : (a : Area) → length (areaHead a) ≡ areaFramesAt
-length-areaHead a = rw (length-append (bytesOf numberSize (a .number)) (length (a .log .records) ∷ []), length-bytesOf)
+length-areaHead a = rw (length-append (bytesOf numberSize (a .number)) (length (a .log) ∷ []), length-bytesOf)
 
 pub encodeArea-split : (form : Form) (a : Area) → encodeAreaIn form a ≡ areaHead a ++ (encodeAll encodeFrame (a .frames) ++ encodeLogIn form (a .log))
 unfolding encodeAreaIn
@@ -147,11 +145,11 @@ module _ {form : Form} (pages : ℕ) (a : Area) (ok : AreaOkIn form pages a) whe
   unfolding encodeAreaIn
   area-number = part-front (bytesOf numberSize (a .number)) _ numberSize (length-bytesOf numberSize (a .number))
 
-  pub area-count : byteAt (encodeAreaIn form a) areaCountAt ≡ length (a .log .records)
+  pub area-count : byteAt (encodeAreaIn form a) areaCountAt ≡ length (a .log)
   unfolding encodeAreaIn byteAt
   area-count =
       byteAt-append-right (bytesOf numberSize (a .number))
-      (length (a .log .records) ∷ (encodeAll encodeFrame (a .frames) ++ encodeLogIn form (a .log)))
+      (length (a .log) ∷ (encodeAll encodeFrame (a .frames) ++ encodeLogIn form (a .log)))
       areaCountAt 0 (rw length-bytesOf)
 
   pub area-frames : part (encodeAreaIn form a) areaFramesAt (pages * frameSize) ≡ encodeAll encodeFrame (a .frames)

@@ -1,28 +1,28 @@
 -- Records, frames, entries and blocks at a general index: what is written at any index reads back, the others are as they were, and one
 -- changed element is one splice of the bytes. Instances of the laws of Parts. Assumes nothing.
 use mathlib.Core.Path.{_≡_, refl, sym, ap, _∙_}
-use Prim.Native.Nat.{ℕ, _+_, _*_, _≤_, _<_}
+use Prim.Native.Nat.{ℕ, _+_, _-_, _*_, _≤_, _<_}
 use native.Mathlib.Omega.{arith}
 use mathlib.Core.List.{List, [], _∷_, _++_, append-assoc}
-use lib.ListN.{length, getD, set, drop}
-use lib.Seq.{drop-drop}
+use lib.ListN.{length, getD, set, length-append}
 use Rattle.words.specs.Bytes.{Each}
 use Rattle.types.specs.declared.Frame.{Frame}
 use Rattle.types.specs.declared.Record.{Record}
-use Rattle.model.specs.Definitions.Parts.{part, splice, encodeAll}
+use Rattle.model.specs.Definitions.Parts.{part, splice, zeros, encodeAll}
 use Rattle.model.specs.Definitions.Layout.{slotCount, slotsSize, frameSize, slotSize, entrySize, blockSize, headSize, blocksAt, today}
-use Rattle.model.specs.Definitions.Bank.{Entry, Log, Board, Bank, emptyFrame, noBoard, boardAt, entryAt, frameAt, onBoard, onEntry, noEntry}
+use Rattle.model.specs.Definitions.Bank.{Entry, Board, Bank, emptyFrame, noBoard, boardAt, entryAt, frameAt, onBoard, onEntry, noEntry}
 use Rattle.model.specs.Definitions.Codec.{encodeEntry, encodeFrame, decodeFrame, encodeRecord, decodeRecord, encodeLog, decodeLog, decodeFrames}
 use Rattle.model.specs.Definitions.Codec.{encodeBoard, encode, encodeLogIn, decodeLogIn, encodeIn}
-use Rattle.model.specs.Definitions.WellFormed.{FrameOk, RecordOk, FramesOk}
+use Rattle.model.specs.Definitions.WellFormed.{FrameOk, RecordOk, LogOk, FramesOk}
 use Rattle.model.specs.Definitions.Steps.{appended}
 use Rattle.model.specs.Laws.Lists.{each-imp, update-set, length-update}
 use Rattle.model.specs.Laws.Parts.{Wide, part-part, index-in, each-all, getD-decodeAll, getD-decodeAll-part, decodeAll-snoc, decodeAll-write}
-use Rattle.model.specs.Laws.Parts.{encodeAll-set, encodeAll-snoc, drop-splice-after, splice-zero, splice-append-right, splice-amid, splice-behind}
+use Rattle.model.specs.Laws.Parts.{encodeAll-set, encodeAll-snoc, splice-zero, splice-front, splice-append-right, splice-amid, splice-behind}
+use Rattle.model.specs.Laws.Zeros.{zeros-length, zeros-append, zeros-drop}
 use Rattle.model.specs.Laws.CodecBank.{bankHead, length-encodeEntries}
 use Rattle.model.specs.Laws.CodecBack.{slot-in}
 use Rattle.model.specs.Laws.Codec.{length-encodeEntry, length-encodeFrame, decode-encodeFrame, length-encodeRecord, decode-encodeRecord}
-use Rattle.model.specs.Laws.Codec.{length-encodeRecords}
+use Rattle.model.specs.Laws.Codec.{length-encodeRecords, records-in}
 
 -- ---- frames: any page, in the bytes of the frames, or of frames that start at place a of a longer list
 
@@ -48,58 +48,61 @@ encode-setFrame pages fs p f all ok h =
 -- ---- records: any slot, in the bytes of a log, or of a log that starts at place a of a longer list
 
 pub record-read : (count : ℕ) (l : List ℕ) (i : ℕ) (d : Record) → i < count
-    → getD (decodeLog count l .records) i d ≡ decodeRecord (part l (i * slotSize) slotSize)
+    → getD (decodeLog count l) i d ≡ decodeRecord (part l (i * slotSize) slotSize)
 unfolding decodeLogIn
 record-read count l i d h = getD-decodeAll decodeRecord slotSize count l i d h
 
 pub record-read-at : (count : ℕ) (l : List ℕ) (a i : ℕ) (d : Record) → count ≤ slotCount → i < count
-    → getD (decodeLog count (part l a slotsSize) .records) i d ≡ decodeRecord (part l (a + i * slotSize) slotSize)
+    → getD (decodeLog count (part l a slotsSize)) i d ≡ decodeRecord (part l (a + i * slotSize) slotSize)
 record-read-at count l a i d n h =
     record-read count (part l a slotsSize) i d h ∙ ap decodeRecord (part-part l a slotsSize (i * slotSize) slotSize (slot-in today count i n h))
 
 -- "of a record at any slot": a record written into any slot below the count reads back, the other slots are as they were
 pub record-back : (pages count : ℕ) (l : List ℕ) (i : ℕ) (r : Record) → RecordOk pages r → i < count → count * slotSize ≤ length l
-    → decodeLog count (splice l (i * slotSize) (encodeRecord r))
-    ≡ record { records = set (decodeLog count l .records) i r; rest = decodeLog count l .rest }
+    → decodeLog count (splice l (i * slotSize) (encodeRecord r)) ≡ set (decodeLog count l) i r
 unfolding decodeLogIn
 record-back pages count l i r ok h k =
-    let v : List ℕ = encodeRecord r in
-    let e : length v ≡ slotSize = length-encodeRecord today r (ok .size) in
-    let m : i * slotSize + slotSize ≤ count * slotSize = index-in slotSize count i h in
-    let a : decodeLog count (splice l (i * slotSize) v) .records ≡ set (decodeLog count l .records) i r
-    = decodeAll-write encodeRecord decodeRecord slotSize count l i r (e, decode-encodeRecord pages r ok) h k in
-    let b : decodeLog count (splice l (i * slotSize) v) .rest ≡ decodeLog count l .rest
-    = drop-splice-after l (i * slotSize) v (count * slotSize) (omega arith) (omega arith) in
-    λ j. record { records = a j; rest = b j }
+    decodeAll-write encodeRecord decodeRecord slotSize count l i r (length-encodeRecord today r (ok .size), decode-encodeRecord pages r ok) h k
 
 -- a record written into the slot at the count, and the count raised: it is the last one
 pub decode-appended : (pages count : ℕ) (l : List ℕ) (r : Record) → RecordOk pages r → count * slotSize ≤ length l
     → decodeLog (count + 1) (splice l (count * slotSize) (encodeRecord r)) ≡ appended r (decodeLog count l)
 unfolding decodeLogIn appended
 decode-appended pages count l r ok k =
-    let v : List ℕ = encodeRecord r in
-    let e : length v ≡ slotSize = length-encodeRecord today r (ok .size) in
-    let m : (count + 1) * slotSize ≡ count * slotSize + slotSize = omega arith in
-    let a : decodeLog (count + 1) (splice l (count * slotSize) v) .records ≡ decodeLog count l .records ++ (r ∷ [])
-    = rw (decodeAll-snoc decodeRecord slotSize count l v e k, decode-encodeRecord pages r ok) in
-    let b : decodeLog (count + 1) (splice l (count * slotSize) v) .rest ≡ drop slotSize (decodeLog count l .rest)
-    = rw (drop-drop slotSize (count * slotSize) l, m) (drop-splice-after l (count * slotSize) v (count * slotSize + slotSize) (omega arith) k) in
-    λ j. record { records = a j; rest = b j }
+    rw (decodeAll-snoc decodeRecord slotSize count l (encodeRecord r) (length-encodeRecord today r (ok .size)) k, decode-encodeRecord pages r ok)
 
--- a record appended is one splice, at the count
-pub encode-appended : (pages : ℕ) (r : Record) (l : Log) → RecordOk pages r → Each (RecordOk pages) (l .records)
-    → encodeLog (appended r l) ≡ splice (encodeLog l) (length (l .records) * slotSize) (encodeRecord r)
+-- a record appended is one splice, at the count: it takes the first of the zero slots
+pub encode-appended : (pages : ℕ) (r : Record) (rs : List Record) → RecordOk pages r → Each (RecordOk pages) rs → length rs < slotCount
+    → encodeLog (appended r rs) ≡ splice (encodeLog rs) (length rs * slotSize) (encodeRecord r)
 unfolding encodeLogIn appended
-encode-appended pages r l ok all =
-    let rs : List ℕ = encodeAll encodeRecord (l .records) in
+encode-appended pages r rs ok all h =
+    let l : List ℕ = encodeAll encodeRecord rs in
     let v : List ℕ = encodeRecord r in
-    let e : length rs ≡ length (l .records) * slotSize = length-encodeRecords pages (l .records) all in
+    let e : length l ≡ length rs * slotSize = length-encodeRecords pages rs all in
+    let n : ℕ = slotsSize - length (rs ++ (r ∷ [])) * slotSize in
+    let m : slotsSize - length rs * slotSize ≡ slotSize + n = rw (length-append rs (r ∷ [])) (omega arith) in
     rw (
-      encodeAll-snoc encodeRecord slotSize (l .records) r,
-      append-assoc rs v (drop slotSize (l .rest)),
-      splice-append-right rs (l .rest) (length (l .records) * slotSize) 0 v (omega arith),
-      splice-zero (l .rest) v slotSize (length-encodeRecord today r (ok .size)),
+      encodeAll-snoc encodeRecord slotSize rs r,
+      append-assoc l v (zeros n),
+      m,
+      splice-append-right l (zeros (slotSize + n)) (length rs * slotSize) 0 v (omega arith),
+      splice-zero (zeros (slotSize + n)) v slotSize (length-encodeRecord today r (ok .size)),
+      zeros-drop slotSize n,
     )
+
+-- all slots zero, or those of the records: no record is left
+pub encode-noRecord : encodeLog [] ≡ zeros slotsSize
+unfolding encodeLogIn encodeAll
+encode-noRecord = refl
+
+pub encode-flushed : (pages : ℕ) (rs : List Record) → LogOk pages rs → splice (encodeLog rs) 0 (zeros (length rs * slotSize)) ≡ encodeLog []
+unfolding encodeLogIn encodeAll
+encode-flushed pages rs ok =
+    let n : ℕ = length rs * slotSize in
+    let m : n ≤ slotsSize = records-in ok in
+    let e : n + (slotsSize - n) ≡ slotsSize = omega arith in
+    splice-front (encodeAll encodeRecord rs) (zeros n) (zeros (slotsSize - n)) (length-encodeRecords pages rs (ok .records) ∙ sym (zeros-length n))
+    ∙ zeros-append n (slotsSize - n) ∙ ap zeros e
 
 -- ---- entries and blocks: any page, any board
 

@@ -1,7 +1,7 @@
--- What was read writes back, part by part, where the tests of Check pass: a frame, a record, a log, an area, a block.
+-- What was read writes back, part by part, where the tests of Check pass, also that of the slots past a count: a frame, a record, a log, an area, a block.
 -- Assumes nothing.
 use mathlib.Core.Path.{_≡_, refl, _∙_}
-use Prim.Native.Nat.{ℕ, zero, suc, _+_, _*_, _≤_, _<_}
+use Prim.Native.Nat.{ℕ, zero, suc, _+_, _-_, _*_, _≤_, _<_}
 use native.Mathlib.Omega.{arith}
 use mathlib.Core.Bool.{Bool, true, false, _&&_, _||_}
 use mathlib.Core.List.{List, [], _∷_, _++_, append-assoc}
@@ -14,7 +14,7 @@ use Rattle.words.specs.LittleEndianLaws.{bytesOf-numberOf}
 use Rattle.types.specs.declared.Right.the-variants.{Own}
 use Rattle.types.specs.declared.Kind.{Kind}
 use Rattle.types.specs.declared.State.the-variants.{Replaying}
-use Rattle.model.specs.Definitions.Parts.{part, byteAt, encodeAll}
+use Rattle.model.specs.Definitions.Parts.{part, byteAt, zeros, encodeAll}
 use Rattle.model.specs.Definitions.Layout.{rightAt, frameBytesAt, mark0At, mark1At, areaNumberAt, letterG, letterC, letterO, letterS, letterH, letterD}
 use Rattle.model.specs.Definitions.Layout.{letterR, pageSize, slotCount, frameSize, slotPageAt, slotPeerAt, fuseSize, numberSize, stateAt, selectorAt}
 use Rattle.model.specs.Definitions.Layout.{fuseAt, numberAt, sinceAt, areaCountAt, areaFramesAt, areaSlotsAt, slotBytesAtIn, slotSizeIn, slotsSizeIn}
@@ -121,47 +121,58 @@ pub record LogPasses (form : Form) (pages count : ℕ) (l : List ℕ) : Type 0 w
 pub slot-in : (form : Form) (count i : ℕ) → count ≤ slotCount → i < count → i * slotSizeIn form + slotSizeIn form ≤ slotsSizeIn form
 slot-in form count i n h = index-in (slotSizeIn form) slotCount i (omega arith)
 
-pub encode-decodeLog : {form : Form} (pages count : ℕ) (l : List ℕ) → LogPasses form pages count l → Bytes l → length l ≡ slotsSizeIn form
-    → encodeLogIn form (decodeLogIn form count l) ≡ l
+pub length-decodeLog : (form : Form) (count : ℕ) (l : List ℕ) → length (decodeLogIn form count l) ≡ count
+unfolding decodeLogIn
+length-decodeLog form count l = length-decodeAll (decodeRecordIn form) (slotSizeIn form) count l
+
+-- those behind them are zero
+abbrev pub LogClean : (form : Form) (count : ℕ) → List ℕ → Type 0
+LogClean form count l = drop (count * slotSizeIn form) l ≡ zeros (slotsSizeIn form - count * slotSizeIn form)
+
+pub encode-decodeLog : {form : Form} (pages count : ℕ) (l : List ℕ) → LogPasses form pages count l → LogClean form count l → Bytes l
+    → length l ≡ slotsSizeIn form → encodeLogIn form (decodeLogIn form count l) ≡ l
 unfolding encodeLogIn decodeLogIn
-encode-decodeLog {form} pages count l v b e =
-    rw (encodeAll-decodeAll (encodeRecordIn form) (decodeRecordIn form) (slotSizeIn form) count l
-    (λ i h.
-    let m : i * slotSizeIn form + slotSizeIn form ≤ slotsSizeIn form = slot-in form count i (v .few) h in
-    encode-decodeRecord form pages (part l (i * slotSizeIn form) (slotSizeIn form)) (v .slots i h)
-    (each-part l (i * slotSizeIn form) (slotSizeIn form) b) (length-part l (i * slotSizeIn form) (slotSizeIn form) (omega arith))))
+encode-decodeLog {form} pages count l v z b e =
+    rw (
+      length-decodeAll (decodeRecordIn form) (slotSizeIn form) count l,
+      encodeAll-decodeAll (encodeRecordIn form) (decodeRecordIn form) (slotSizeIn form) count l
+          (λ i h.
+          let m : i * slotSizeIn form + slotSizeIn form ≤ slotsSizeIn form = slot-in form count i (v .few) h in
+          encode-decodeRecord form pages (part l (i * slotSizeIn form) (slotSizeIn form)) (v .slots i h)
+          (each-part l (i * slotSizeIn form) (slotSizeIn form) b) (length-part l (i * slotSizeIn form) (slotSizeIn form) (omega arith))),
+      ← z,
+    )
     (take-append-drop (count * slotSizeIn form) l)
 
 -- ---- an area
 
-pub length-decodeLog : (form : Form) (count : ℕ) (l : List ℕ) → length (decodeLogIn form count l .records) ≡ count
-unfolding decodeLogIn
-length-decodeLog form count l = length-decodeAll (decodeRecordIn form) (slotSizeIn form) count l
-
 pub record AreaPasses (form : Form) (pages : ℕ) (l : List ℕ) : Type 0 where
   pub frames : FramesPass pages (part l areaFramesAt (pages * frameSize))
   pub log : LogPasses form pages (byteAt l areaCountAt) (part l (areaSlotsAt pages) (slotsSizeIn form))
+
+abbrev pub AreaClean : (form : Form) (pages : ℕ) → List ℕ → Type 0
+AreaClean form pages l = LogClean form (byteAt l areaCountAt) (part l (areaSlotsAt pages) (slotsSizeIn form))
 
 -- frames, and a log, read at any place of a longer list
 pub frames-part : (pages : ℕ) (l : List ℕ) (a : ℕ) → FramesPass pages (part l a (pages * frameSize)) → a + pages * frameSize ≤ length l
     → encodeAll encodeFrame (decodeFrames pages (part l a (pages * frameSize))) ≡ part l a (pages * frameSize)
 frames-part pages l a v h = encode-decodeFrames pages (part l a (pages * frameSize)) v (length-part l a (pages * frameSize) h)
 
-pub log-part : {form : Form} (pages count : ℕ) (l : List ℕ) (a : ℕ) → LogPasses form pages count (part l a (slotsSizeIn form)) → Bytes l
-    → a + slotsSizeIn form ≤ length l
+pub log-part : {form : Form} (pages count : ℕ) (l : List ℕ) (a : ℕ) → LogPasses form pages count (part l a (slotsSizeIn form))
+    → LogClean form count (part l a (slotsSizeIn form)) → Bytes l → a + slotsSizeIn form ≤ length l
     → encodeLogIn form (decodeLogIn form count (part l a (slotsSizeIn form))) ≡ part l a (slotsSizeIn form)
-log-part {form} pages count l a v b h =
-    encode-decodeLog pages count (part l a (slotsSizeIn form)) v (each-part l a (slotsSizeIn form) b) (length-part l a (slotsSizeIn form) h)
+log-part {form} pages count l a v z b h =
+    encode-decodeLog pages count (part l a (slotsSizeIn form)) v z (each-part l a (slotsSizeIn form) b) (length-part l a (slotsSizeIn form) h)
 
-pub encode-decodeArea : {form : Form} (pages : ℕ) (l : List ℕ) → AreaPasses form pages l → Bytes l → length l ≡ areaSizeIn form pages
+pub encode-decodeArea : {form : Form} (pages : ℕ) (l : List ℕ) → AreaPasses form pages l → AreaClean form pages l → Bytes l → length l ≡ areaSizeIn form pages
     → encodeAreaIn form (decodeAreaIn form pages l) ≡ l
 unfolding encodeAreaIn decodeAreaIn
-encode-decodeArea {form} pages l v b e =
+encode-decodeArea {form} pages l v z b e =
     rw (
       bytesOf-part l areaNumberAt numberSize b (omega arith),
       length-decodeLog form (byteAt l areaCountAt) (part l (areaSlotsAt pages) (slotsSizeIn form)),
       frames-part pages l areaFramesAt (v .frames) (omega arith),
-      log-part pages (byteAt l areaCountAt) l (areaSlotsAt pages) (v .log) b (omega arith),
+      log-part pages (byteAt l areaCountAt) l (areaSlotsAt pages) (v .log) z b (omega arith),
     )
     (rw (
       part-last l (areaSlotsAt pages) (slotsSizeIn form) e,
@@ -170,11 +181,11 @@ encode-decodeArea {form} pages l v b e =
     )
     (part-rest l areaNumberAt numberSize areaCountAt refl))
 
-pub area-part : {form : Form} (pages : ℕ) (l : List ℕ) (a : ℕ) → AreaPasses form pages (part l a (areaSizeIn form pages)) → Bytes l
-    → a + areaSizeIn form pages ≤ length l
+pub area-part : {form : Form} (pages : ℕ) (l : List ℕ) (a : ℕ) → AreaPasses form pages (part l a (areaSizeIn form pages))
+    → AreaClean form pages (part l a (areaSizeIn form pages)) → Bytes l → a + areaSizeIn form pages ≤ length l
     → encodeAreaIn form (decodeAreaIn form pages (part l a (areaSizeIn form pages))) ≡ part l a (areaSizeIn form pages)
-area-part {form} pages l a v b h =
-    encode-decodeArea pages (part l a (areaSizeIn form pages)) v (each-part l a (areaSizeIn form pages) b) (length-part l a (areaSizeIn form pages) h)
+area-part {form} pages l a v z b h =
+    encode-decodeArea pages (part l a (areaSizeIn form pages)) v z (each-part l a (areaSizeIn form pages) b) (length-part l a (areaSizeIn form pages) h)
 
 -- ---- a block
 
@@ -208,6 +219,12 @@ pub record Readable (form : Form) (pages : ℕ) (l : List ℕ) : Type 0 where
   pub log : LogPasses form pages (byteAt l (volatileCountAtIn form)) (part l (slotsAtIn form pages) (slotsSizeIn form))
   pub area0 : AreaPasses form pages (part l (areaAtIn form pages 0) (areaSizeIn form pages))
   pub area1 : AreaPasses form pages (part l (areaAtIn form pages 1) (areaSizeIn form pages))
+
+-- all slots past a count are zero
+pub record CleanBlock (form : Form) (pages : ℕ) (l : List ℕ) : Type 0 where
+  pub log : LogClean form (byteAt l (volatileCountAtIn form)) (part l (slotsAtIn form pages) (slotsSizeIn form))
+  pub area0 : AreaClean form pages (part l (areaAtIn form pages 0) (areaSizeIn form pages))
+  pub area1 : AreaClean form pages (part l (areaAtIn form pages 1) (areaSizeIn form pages))
 
 -- five pieces and what follows them
 regroup : (s f n c p r : List ℕ) → (s ++ (f ++ (n ++ (c ++ p)))) ++ r ≡ s ++ (f ++ (n ++ (c ++ (p ++ r))))
@@ -259,16 +276,16 @@ behind-fixed form pages l e =
     )
     (part-rest l (framesAtIn form) (pages * frameSize) (slotsAtIn form pages) refl)
 
-pub encode-decodeBoard : {form : Form} (pages : ℕ) (l : List ℕ) → Readable form pages l → Bytes l → length l ≡ blockSizeIn form pages
+pub encode-decodeBoard : {form : Form} (pages : ℕ) (l : List ℕ) → Readable form pages l → CleanBlock form pages l → Bytes l → length l ≡ blockSizeIn form pages
     → encodeBoardIn form (decodeBoardIn form pages l) ≡ l
 unfolding encodeBoardIn decodeBoardIn
-encode-decodeBoard {form} pages l r b e =
+encode-decodeBoard {form} pages l r z b e =
     rw (
       frames-part pages l (framesAtIn form) (r .frames) (omega arith),
-      log-part pages (byteAt l (volatileCountAtIn form)) l (slotsAtIn form pages) (r .log) b (omega arith),
+      log-part pages (byteAt l (volatileCountAtIn form)) l (slotsAtIn form pages) (r .log) (z .log) b (omega arith),
       encode-decodeStable form,
-      area-part pages l (areaAtIn form pages 0) (r .area0) b (omega arith),
-      area-part pages l (areaAtIn form pages 1) (r .area1) b (omega arith),
+      area-part pages l (areaAtIn form pages 0) (r .area0) (z .area0) b (omega arith),
+      area-part pages l (areaAtIn form pages 1) (r .area1) (z .area1) b (omega arith),
       behind-fixed form pages l e,
     )
     (fixed-back pages l r b (omega arith))

@@ -96,7 +96,7 @@ module _ (form : Form) (x : Board) where
 
   -- the last two bytes
   fixed-last : (a i : ℕ) → placeAtIn form + i ≡ a
-      → byteAt (encodeFixedIn form x) a ≡ byteAt (x .working .place ∷ length (x .working .log .records) ∷ []) i
+      → byteAt (encodeFixedIn form x) a ≡ byteAt (x .working .place ∷ length (x .working .log) ∷ []) i
   unfolding encodeFixedIn
   fixed-last a i e =
       byteAt-append-right (switches x) _ a (fuseSize + (numberSize + (form .sinceWidth + i))) (omega arith)
@@ -109,7 +109,7 @@ module _ (form : Form) (x : Board) where
   unfolding byteAt
   fixed-place = fixed-last (placeAtIn form) 0 (omega arith)
 
-  pub fixed-volatile : byteAt (encodeFixedIn form x) (volatileCountAtIn form) ≡ length (x .working .log .records)
+  pub fixed-volatile : byteAt (encodeFixedIn form x) (volatileCountAtIn form) ≡ length (x .working .log)
   unfolding byteAt
   fixed-volatile = fixed-last (volatileCountAtIn form) 1 (omega arith)
 

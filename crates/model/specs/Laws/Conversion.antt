@@ -1,75 +1,77 @@
--- Document 02, F-2: the claims of History/ConversionStatement. What a conversion leaves is the old bank, cleared, which is well formed; and it answers as the
--- old one, since a call looks at no slot past a count, and at the largest since in code 4's test alone. Assumes nothing.
+-- Document 02, F-2 and F-6: the claims of History/ConversionStatement. What a conversion leaves are today's bytes of the old bank, which are well
+-- formed; and it answers as the old one, since a call looks at the largest since in code 4's test alone. Assumes nothing.
 use mathlib.Core.Path.{_≡_, refl, sym, ap, _∙_}
-use mathlib.Core.Logic.{_≢_, inl, inr}
+use mathlib.Core.Logic.{inl, inr}
 use Prim.Native.Nat.{ℕ, _*_, _^_, _≤_, _<_}
 use native.Mathlib.Nat.{mul-comm, pow-le-pow-right}
 use native.Mathlib.Omega.{arith}
 use mathlib.Core.Bool.{Bool, true, false, _&&_}
 use mathlib.Core.List.{List, [], _∷_}
-use lib.ListN.{length, length-map}
+use lib.ListN.{length}
 use lib.Dec.{lit<, lit≤}
 use borrow.Author.Tests.{eqb-true, eq-eqb}
-use Rattle.types.specs.declared.Answer.the-variants.{Done, Malformed, HasRecords}
-use Rattle.types.specs.declared.State.{State}
-use Rattle.types.specs.declared.State.the-variants.{Up, Down, Replaying}
-use Rattle.model.specs.Definitions.Parts.{byteAt, zeros}
+use Rattle.types.specs.declared.Answer.the-variants.{Malformed, HasRecords}
+use Rattle.types.specs.declared.Record.{Record}
+use Rattle.model.specs.Definitions.Parts.{byteAt}
 use Rattle.model.specs.Definitions.Layout.{byteValues, Form, today, sinceSize, lastSince, boardsAt, pagesAt, blockSize, bankSize, blockSizeIn}
-use Rattle.model.specs.Definitions.Layout.{slotsSize}
-use Rattle.model.specs.Definitions.Bank.{Log, Area, Board, Bank, noBoard, boardAt, entryAt, logOver, areaOver, boardOver}
-use Rattle.model.specs.Definitions.Codec.{encode, decodeIn, decode}
-use Rattle.model.specs.Definitions.WellFormed.{AreaOkIn, FieldsOkIn, PlaceOk, BoardOkIn, WellFormedIn, LogOk, AreaOk}
-use Rattle.model.specs.Definitions.WellFormed.{FieldsOk, BoardOk, WellFormed, PeersOk}
-use Rattle.model.specs.Definitions.Check.{headValid, wellFormedIn, wellFormed}
+use Rattle.model.specs.Definitions.Bank.{Area, Board, Bank, noBoard, boardAt}
+use Rattle.model.specs.Definitions.Codec.{encode, decode}
+use Rattle.model.specs.Definitions.WellFormed.{AreaOkIn, FieldsOkIn, BoardOkIn, PeersOkIn, WellFormedIn, LogOk, AreaOk}
+use Rattle.model.specs.Definitions.WellFormed.{FieldsOk, WellFormed}
+use Rattle.model.specs.Definitions.Check.{wellFormedIn, headValid, slotsClean, formedIn, wellFormed}
 use Rattle.model.specs.Definitions.Answers.{code}
-use Rattle.model.specs.Definitions.Calls.{Call, Reply, callWithin, callBank, call, refused, replyOf}
+use Rattle.model.specs.Definitions.Calls.{Call, Reply, callWithin, callBank, call, refused, doneWith, replyOf}
 use Rattle.model.specs.Definitions.Older.{older, olderLastSince, olderWellFormed, olderBank, earlierWellFormed, logEmpty, boardEmpty, noRecords, adopt}
-use Rattle.model.specs.Definitions.Older.{clearedBoard, cleared, fitsTarget, convert}
-use Rattle.model.specs.Likeness.{SameBelowCounts, SameAnswer, BoardAlike}
+use Rattle.model.specs.Definitions.Older.{staleWellFormed, StandsForIn, fitsTarget, convert}
 use Rattle.model.specs.Laws.Logic.{byBool, byEq, and-left, and-right, and-both}
-use Rattle.words.specs.Bytes.{Each, each-nil}
-use Rattle.model.specs.Laws.Lists.{each-getD, each-map}
+use Rattle.words.specs.Bytes.{each-nil}
+use Rattle.model.specs.Laws.Lists.{each-getD}
 use Rattle.model.specs.Laws.Parts.{index-in}
-use Rattle.model.specs.Laws.Boards.{getD-map-below, boardAt-out, byBoard}
-use Rattle.model.specs.Laws.Fresh.{zeros-bytes, zeros-length}
-use Rattle.model.specs.Laws.CodecBank.{bank-boards, bank-pages, decode-encode}
-use Rattle.model.specs.Laws.CodecBankBack.{HeadOk, head-ok, bytes-ok, decode-boards, decode-pages, encode-decode}
-use Rattle.model.specs.Laws.WellFormedTest.{wellFormed-sound, wellFormed-iff, fields-of}
+use Rattle.model.specs.Laws.Boards.{boardAt-out, byBoard}
+use Rattle.model.specs.Laws.CodecBankBack.{HeadOk, head-ok, bytes-ok, decode-boards, decode-pages}
+use Rattle.model.specs.Laws.WellFormedTest.{stale-sound, stale-iff, stands-test, stands-read, wellFormed-iff}
+use Rattle.model.specs.Laws.Clean.{cleaned, slots-zero}
 use Rattle.model.specs.Laws.Tests.{Says, says-and, says-every, says-none}
-use Rattle.model.specs.Laws.Likeness.{pairs-mapped}
-use Rattle.model.specs.Laws.Likeness.Slots.{same-board, unread-slots, below}
 use Rattle.model.specs.Laws.LargestSince.{same-until-full}
 use Rattle.model.specs.Laws.SinceBound.{AtMost, call-atMost}
 use Rattle.model.specs.Laws.Moves.Calls.{call-keeps}
 use Rattle.model.specs.History.Statement.{runOf}
 use Rattle.model.specs.History.OnBytes.{decoded, call-encode}
-use Rattle.model.specs.History.ConversionStatement.{Converts, ConversionWrites, toldWithin, toldOn, SameUntilFull, ConvertedAnswers, ZeroPast}
-use Rattle.model.specs.History.ConversionStatement.{ZeroPastCounts, OlderWellFormed, EarlierWellFormed, BoardEmpty, NoRecords, ConvertsFrom, AdoptionTakes}
+use Rattle.model.specs.History.ConversionStatement.{Converts, ConversionWrites, toldWithin, SameUntilFull, ConvertedAnswers, olderToday, toldOlder}
+use Rattle.model.specs.History.CleanStatement.{toldBy, toldOn}
+use Rattle.model.specs.History.ConversionStatement.{OlderWellFormed, EarlierWellFormed, BoardEmpty, NoRecords, ConvertsFrom, AdoptionTakes}
 use Rattle.model.specs.History.ConversionStatement.{OlderRefused}
 
--- ---- a bank of a narrower form, cleared, is well formed today
+-- ---- a bank of a narrower form without a record is well formed today
 
 -- without a record nobody is named
-nobody-named : (n b : ℕ) (x : Board) → BoardEmpty x → PeersOk n b x
+nobody-named : {named : Bool} (n b : ℕ) (x : Board) → BoardEmpty x → PeersOkIn named n b x
 nobody-named n b x none =
     record { volatile = rw (none .volatile) each-nil; selected = rw (none .selected) each-nil; spare = rw (none .spare) each-nil }
+
+-- so it is well formed by either rule for names
+pub nobody-formed : {form : Form} {named : Bool} (named′ : Bool) (k : Bank) → WellFormedIn form named k → NoRecords k → WellFormedIn form named′ k
+unfolding boardAt
+nobody-formed named′ k w none =
+    record {
+      sizes = w .sizes;
+      directory = w .directory;
+      boards = w .boards;
+      peers = λ b h. nobody-named (length (k .boards)) b (boardAt k b) (each-getD (k .boards) b noBoard none h);
+    }
 
 module _ {form : Form} (narrow : form .sinceWidth ≤ sinceSize) where
   fits-wider : (n : ℕ) → n < byteValues ^ form .sinceWidth → n < byteValues ^ sinceSize
   fits-wider n h = let p : byteValues ^ form .sinceWidth ≤ byteValues ^ sinceSize = pow-le-pow-right (lit< tt) narrow in omega arith
 
-  log-cleared : (pages : ℕ) (l : Log) → l .records ≡ [] → LogOk pages (logOver (zeros slotsSize) l)
-  unfolding logOver
-  log-cleared pages l none =
-      record { records = rw none each-nil; bytes = zeros-bytes slotsSize; slots = rw (none, zeros-length slotsSize) (omega arith) }
+  log-wider : (pages : ℕ) (rs : List Record) → rs ≡ [] → LogOk pages rs
+  log-wider pages rs none = record { records = rw none each-nil; count = rw none (lit≤ tt) }
 
-  area-cleared : (pages : ℕ) (a : Area) → AreaOkIn form pages a → a .log .records ≡ [] → AreaOk pages (areaOver (zeros slotsSize) a)
-  unfolding areaOver
-  area-cleared pages a ok none = record { number = ok .number; frames = ok .frames; log = log-cleared pages (a .log) none }
+  area-wider : (pages : ℕ) (a : Area) → AreaOkIn form pages a → a .log ≡ [] → AreaOk pages a
+  area-wider pages a ok none = record { number = ok .number; frames = ok .frames; log = log-wider pages (a .log) none }
 
-  fields-cleared : (pages : ℕ) (x : Board) → FieldsOkIn form pages x → BoardEmpty x → FieldsOk pages (clearedBoard x)
-  unfolding clearedBoard boardOver
-  fields-cleared pages x ok none =
+  fields-wider : (pages : ℕ) (x : Board) → FieldsOkIn form pages x → BoardEmpty x → FieldsOk pages x
+  fields-wider pages x ok none =
       record {
         fuse = ok .fuse;
         working =
@@ -77,70 +79,33 @@ module _ {form : Form} (narrow : form .sinceWidth ≤ sinceSize) where
               number = ok .working .number;
               since = fits-wider (x .working .since) (ok .working .since);
               frames = ok .working .frames;
-              log = log-cleared pages (x .working .log) (none .volatile);
+              log = log-wider pages (x .working .log) (none .volatile);
             };
-        selected = area-cleared pages (x .stable .selected) (ok .selected) (none .selected);
-        spare = area-cleared pages (x .stable .spare) (ok .spare) (none .spare);
+        selected = area-wider pages (x .stable .selected) (ok .selected) (none .selected);
+        spare = area-wider pages (x .stable .spare) (ok .spare) (none .spare);
       }
 
-  -- the other clauses look at no slot past a count
-  place-cleared : (t : State) (x : Board) → PlaceOk t x → PlaceOk t (clearedBoard x)
-  unfolding PlaceOk clearedBoard boardOver areaOver logOver
-  place-cleared Up x h = h
-  place-cleared Down x h = h
-  place-cleared Replaying x h = h
-
-  board-cleared : (k : Bank) (b : ℕ) → b < length (k .boards) → BoardOkIn form k b → BoardEmpty (boardAt k b) → BoardOk (cleared k) b
-  unfolding boardAt entryAt cleared clearedBoard boardOver areaOver logOver
-  board-cleared k b h ok none =
-      let x : Board = boardAt k b in
-      let e : boardAt (cleared k) b ≡ clearedBoard x = getD-map-below clearedBoard (k .boards) b noBoard noBoard h in
+  -- the other clauses know no form
+  pub wider-formed : {named : Bool} (k : Bank) → WellFormedIn form named k → NoRecords k → WellFormed k
+  unfolding boardAt
+  wider-formed k w none =
       record {
-        fields = rw e (fields-cleared (length (k .directory)) x (ok .fields) none);
-        fuse = rw e (ok .fuse);
-        room = rw e (ok .room);
-        place = rw e (place-cleared (x .state) x (ok .place));
-        replaying = rw e (ok .replaying);
-        down = rw e (λ d. let v = ok .down d in record { number = v .number; since = v .since; volatile = v .volatile; frames = v .frames; fuse = v .fuse });
-        rights = rw e (ok .rights);
-        copies = rw e (ok .copies);
+        sizes = w .sizes;
+        directory = w .directory;
+        boards = λ b h.
+            let ok : BoardOkIn form k b = w .boards b h in
+            record {
+              fields = fields-wider (length (k .directory)) (boardAt k b) (ok .fields) (each-getD (k .boards) b noBoard none h);
+              fuse = ok .fuse;
+              room = ok .room;
+              place = ok .place;
+              replaying = ok .replaying;
+              down = ok .down;
+              rights = ok .rights;
+              copies = ok .copies;
+            };
+        peers = λ b h. nobody-named (length (k .boards)) b (boardAt k b) (each-getD (k .boards) b noBoard none h);
       }
-
-  peers-cleared : (k : Bank) (n b : ℕ) → b < length (k .boards) → BoardEmpty (boardAt k b) → PeersOk n b (boardAt (cleared k) b)
-  unfolding boardAt cleared clearedBoard boardOver areaOver logOver
-  peers-cleared k n b h none = rw (getD-map-below clearedBoard (k .boards) b noBoard noBoard h) (nobody-named n b (clearedBoard (boardAt k b)) (record { volatile = none .volatile; selected = none .selected; spare = none .spare }))
-
-  cleared-formed : {named : Bool} (k : Bank) → WellFormedIn form named k → NoRecords k → WellFormed (cleared k)
-  unfolding cleared boardAt
-  cleared-formed k w none =
-      let n : length (cleared k .boards) ≡ length (k .boards) = length-map (k .boards) clearedBoard in
-      record {
-        sizes = rw n (w .sizes);
-        directory = rw n (w .directory);
-        boards = λ b h. board-cleared k b (rw n at h) (w .boards b (rw n at h)) (each-getD (k .boards) b noBoard none (rw n at h));
-        peers = λ b h. peers-cleared k _ b (rw n at h) (each-getD (k .boards) b noBoard none (rw n at h));
-      }
-
--- ---- it is the same below the counts, and zero past them
-
-cleared-same : (k : Bank) → SameBelowCounts k (cleared k)
-unfolding cleared clearedBoard
-cleared-same k = record { directory = refl; boards = pairs-mapped (BoardAlike below) (λ x. same-board _ _ _ x) (k .boards) }
-
-slots-zero : (l : Log) → ZeroPast (logOver (zeros slotsSize) l)
-unfolding logOver
-slots-zero l = rw zeros-length
-
-cleared-zero : (k : Bank) → Each ZeroPastCounts (cleared k .boards)
-unfolding cleared clearedBoard boardOver areaOver
-cleared-zero k =
-    each-map clearedBoard (k .boards)
-    (λ x.
-    record {
-      volatile = slots-zero (x .working .log);
-      selected = slots-zero (x .stable .selected .log);
-      spare = slots-zero (x .stable .spare .log);
-    })
 
 -- ---- whether there is a record
 
@@ -148,8 +113,8 @@ says-board-empty : (x : Board) → Says (boardEmpty x) (BoardEmpty x)
 unfolding boardEmpty logEmpty
 says-board-empty x =
     let all =
-    says-and (says-none (x .working .log .records))
-    (says-and (says-none (x .stable .selected .log .records)) (says-none (x .stable .spare .log .records))) in (
+    says-and (says-none (x .working .log))
+    (says-and (says-none (x .stable .selected .log)) (says-none (x .stable .spare .log))) in (
       λ h. let q = all .0 h in record { volatile = q .0; selected = q .1 .0; spare = q .1 .1 },
       λ h. all .1 (h .volatile, (h .selected, h .spare)),
     )
@@ -173,8 +138,8 @@ module _ (old new : List ℕ) where
   from-test t =
       let v : olderWellFormed old ≡ true = and-left _ (fitsTarget old new) t in
       record {
-        formed = wellFormed-sound old v;
-        bytes = encode-decode older false old v;
+        formed = stale-sound old v;
+        bytes = stands-test old (bytes-ok old v);
         target =
             rw (decode-boards older old, decode-pages older old)
             (eqb-true (length new) _ (and-right (olderWellFormed old) _ t));
@@ -183,13 +148,14 @@ module _ (old new : List ℕ) where
   test-from : (k : Bank) → ConvertsFrom k old new → readable ≡ true
   unfolding fitsTarget
   test-from k c =
+      let e : olderBank old ≡ k = stands-read k old (c .formed) (c .bytes) in
       let n : length new ≡ bankSize (byteAt old boardsAt) (byteAt old pagesAt) =
-      rw (← c .bytes, bank-boards older k, bank-pages older k) (c .target) in
-      and-both (wellFormed-iff old .1 (k, c .formed, c .bytes)) (eq-eqb (length new) _ n)
+      rw (← decode-boards older old, ← decode-pages older old, e) (c .target) in
+      and-both (stale-iff old .1 (k, c .formed, c .bytes)) (eq-eqb (length new) _ n)
 
   -- the bank is the one that was read
   bank-from : (k : Bank) → ConvertsFrom k old new → olderBank old ≡ k
-  bank-from k c = ap (decodeIn older) (sym (c .bytes)) ∙ decode-encode k (fields-of k (c .formed))
+  bank-from k c = stands-read k old (c .formed) (c .bytes)
 
   -- it is done where both tests pass
   passes : Converts old new → (readable ≡ true) × (noRecords (olderBank old) ≡ true)
@@ -201,11 +167,11 @@ module _ (old new : List ℕ) where
       (λ t. let z : _≡_ {A = ℕ} 1 0 = cc in absurd (omega arith))
 
   converted : readable ≡ true → noRecords (olderBank old) ≡ true
-      → convert old new ≡ record { outcome = record { answer = Done 0; stores = 0 }; bytes = encode (cleared (olderBank old)); given = [] }
+      → convert old new ≡ doneWith (encode (olderBank old))
   unfolding convert
   converted t u = cc
 
-  writes : Converts old new → convert old new .bytes ≡ encode (cleared (olderBank old))
+  writes : Converts old new → convert old new .bytes ≡ encode (olderBank old)
   writes h = ap (λ (y : Reply). y .bytes) (converted (passes h .0) (passes h .1))
 
   refuses : readable ≡ false → convert old new ≡ refused Malformed new
@@ -216,11 +182,11 @@ module _ (old new : List ℕ) where
   unfolding convert
   refuses-records t u = cc
 
-  converted-formed : Converts old new → WellFormed (cleared (olderBank old))
-  converted-formed h = cleared-formed older-narrow (olderBank old) (from-test (passes h .0) .formed) (says-empty (olderBank old) .0 (passes h .1))
+  converted-formed : Converts old new → WellFormed (olderBank old)
+  converted-formed h = wider-formed older-narrow (olderBank old) (from-test (passes h .0) .formed) (says-empty (olderBank old) .0 (passes h .1))
 
-  read-back : (h : Converts old new) → decode (convert old new .bytes) ≡ cleared (olderBank old)
-  read-back h = rw (writes h) (decoded (cleared (olderBank old)) (converted-formed h))
+  read-back : (h : Converts old new) → decode (convert old new .bytes) ≡ olderBank old
+  read-back h = rw (writes h) (decoded (olderBank old) (converted-formed h))
 
   pub conversion-writes : ConversionWrites old new
   unfolding code
@@ -230,10 +196,10 @@ module _ (old new : List ℕ) where
           λ h. (olderBank old, from-test (passes h .0), says-empty (olderBank old) .0 (passes h .1)),
           λ h. rw (converted (test-from (h .0) (h .1)) (rw (bank-from (h .0) (h .1)) (says-empty (h .0) .1 (h .2)))),
         );
-        bytes = λ k c h. writes h ∙ ap (λ (j : Bank). encode (cleared j)) (bank-from k c);
-        formed = λ h. (cleared (olderBank old), converted-formed h, sym (writes h));
-        kept = λ k c h. rw (read-back h, bank-from k c) (cleared-same k);
-        zero = λ h. rw (read-back h) (cleared-zero (olderBank old));
+        bytes = λ k c h. writes h ∙ ap encode (bank-from k c);
+        formed = λ h. (olderBank old, converted-formed h, sym (writes h));
+        kept = λ k c h. read-back h ∙ bank-from k c;
+        zero = λ h. slots-zero (convert old new .bytes) (wellFormed-iff (convert old new .bytes) .1 (olderBank old, converted-formed h, sym (writes h)));
         answer = λ h. ap (λ (y : Reply). y .outcome) (converted (passes h .0) (passes h .1));
         malformed = λ h. byBool (olderWellFormed old && fitsTarget old new) (λ t. absurd (h (olderBank old) (from-test t))) refuses;
         records = λ k c some.
@@ -245,42 +211,45 @@ module _ (old new : List ℕ) where
 -- ---- what it answers later
 
 -- no since of the old bank is above its largest
-older-atMost : (k : Bank) → OlderWellFormed k → AtMost olderLastSince (cleared k)
-unfolding boardAt cleared clearedBoard boardOver noBoard
+older-atMost : (k : Bank) → OlderWellFormed k → AtMost olderLastSince k
+unfolding boardAt noBoard
 older-atMost k w c =
     byBoard k c
-    (λ h. rw (getD-map-below clearedBoard (k .boards) c noBoard noBoard h) (omega (arith, w .boards c h .fields .working .since)))
-    (λ out. rw (boardAt-out (cleared k) c (rw (length-map (k .boards) clearedBoard) out)) (omega arith))
+    (λ h. omega (arith, w .boards c h .fields .working .since))
+    (λ out. rw (boardAt-out k c out) (omega arith))
 
--- one call, where the old one doesn't answer 4: the same answer, and banks that still differ in no more than slots past a count
-same-call : (c : Call) {k j : Bank} → SameBelowCounts k j → AtMost olderLastSince j → code (callWithin olderLastSince c k .answer) ≢ 4
-    → (SameAnswer SameBelowCounts (callWithin olderLastSince c k) (callBank c j)) × AtMost olderLastSince (callBank c j .run .bank)
-unfolding callBank
-same-call c {k} {j} same low not-full =
-    let s : SameAnswer SameBelowCounts (callWithin olderLastSince c k) (callWithin olderLastSince c j) = unread-slots olderLastSince c same in
-    let e : callWithin olderLastSince c j ≡ callWithin lastSince c j =
-    same-until-full olderLastSince lastSince c j (λ b a i. λ f. omega (arith, low b, f)) (λ f. not-full (ap code (sym (s .answer)) ∙ f)) in
-    (rw e at s, rw e at (call-atMost olderLastSince c j low))
-
-same-calls : (cs : List Call) (k j : Bank) → SameBelowCounts k j → AtMost olderLastSince j → WellFormed j
-    → SameUntilFull (toldWithin olderLastSince cs k) (toldOn cs (encode j))
-unfolding SameUntilFull toldWithin toldOn runOf replyOf
-same-calls [] k j same low w = tt
-same-calls (c ∷ cs) k j same low w =
+-- call by call: where the old one doesn't answer 4, both do the same
+same-calls : (cs : List Call) (k : Bank) → AtMost olderLastSince k → WellFormed k → SameUntilFull (toldWithin olderLastSince cs k) (toldOn cs (encode k))
+unfolding SameUntilFull toldWithin toldOn toldBy runOf replyOf callBank
+same-calls [] k low w = tt
+same-calls (c ∷ cs) k low w =
     byEq (code (callWithin olderLastSince c k .answer)) 4 inl
     (λ not-full.
-    let t = same-call c same low not-full in
-    inr (rw (call-encode c j w) (
-      λ i. record { outcome = record { answer = t .0 .answer i; stores = t .0 .stores i }; given = t .0 .given i },
-      same-calls cs (callWithin olderLastSince c k .run .bank) (callBank c j .run .bank) (t .0 .bank) (t .1) (call-keeps c j w),
+    let e : callWithin olderLastSince c k ≡ callWithin lastSince c k =
+    same-until-full olderLastSince lastSince c k (λ b a i. λ f. omega (arith, low b, f)) not-full in
+    inr (rw (call-encode c k w, e) (
+      refl,
+      same-calls cs (callWithin lastSince c k .run .bank) (rw e at (call-atMost olderLastSince c k low)) (call-keeps c k w),
     )))
+
+-- by the rules of the day it is well formed: it has no record to name a board
+older-today : (old new : List ℕ) → Converts old new → slotsClean older old ≡ true → olderToday old ≡ true
+unfolding wellFormedIn
+older-today old new h clean =
+    let k : Bank = olderBank old in
+    let c : ConvertsFrom k old new = from-test old new (passes old new h .0) in
+    and-both (stale-iff old .1 (k, nobody-formed true k (c .formed) (says-empty k .0 (passes old new h .1)), c .bytes)) clean
+
+told-older : (cs : List Call) (old : List ℕ) → olderToday old ≡ true → toldOlder cs old ≡ toldWithin olderLastSince cs (olderBank old)
+unfolding toldOlder
+told-older cs old t = cc
 
 -- "a converted bank answers every later call as the old one would until its first code 4"
 pub converted-answers : (old new : List ℕ) → ConvertedAnswers old new
-converted-answers old new h cs =
+converted-answers old new h clean cs =
     let v : OlderWellFormed (olderBank old) = from-test old new (passes old new h .0) .formed in
-    rw (writes old new h)
-    (same-calls cs (olderBank old) (cleared (olderBank old)) (cleared-same (olderBank old)) (older-atMost (olderBank old) v) (converted-formed old new h))
+    rw (told-older cs old (older-today old new h clean), writes old new h)
+    (same-calls cs (olderBank old) (older-atMost (olderBank old) v) (converted-formed old new h))
 
 -- ---- what it is until then
 
@@ -291,7 +260,7 @@ lengths-differ n p h =
     rw (mul-comm n (blockSizeIn older p), mul-comm n (blockSize p)) (omega (arith, index-in n (blockSize p) (blockSizeIn older p) b))
 
 pub older-refused : (old : List ℕ) → OlderRefused old
-unfolding call wellFormedIn
+unfolding call wellFormedIn formedIn
 older-refused old v c =
     let head : HeadOk older old = bytes-ok old v .head in
     let n : ℕ = byteAt old boardsAt in
@@ -306,7 +275,7 @@ older-refused old v c =
 
 module _ (s : List ℕ) where
   pub adopted : earlierWellFormed s ≡ true → noRecords (decode s) ≡ true
-      → adopt s ≡ record { outcome = record { answer = Done 0; stores = 0 }; bytes = s; given = [] }
+      → adopt s ≡ doneWith s
   unfolding adopt
   adopted t u = cc
 
@@ -318,39 +287,32 @@ module _ (s : List ℕ) where
   unfolding adopt
   adopt-records t u = cc
 
-  earlier-back : (k : Bank) → EarlierWellFormed k → encode k ≡ s → (earlierWellFormed s ≡ true) × (decode s ≡ k)
-  earlier-back k w e = (wellFormed-iff s .1 (k, w, e), ap decode (sym e) ∙ decode-encode k (fields-of k w))
+  earlier-back : (k : Bank) → EarlierWellFormed k → StandsForIn today k s → (earlierWellFormed s ≡ true) × (decode s ≡ k)
+  earlier-back k w e = (stale-iff s .1 (k, w, e), stands-read k s w e)
 
-  -- the same clauses of each board, and nobody is named
-  earlier-formed : (k : Bank) → EarlierWellFormed k → NoRecords k → WellFormed k
-  unfolding boardAt
-  earlier-formed k w none =
-      record {
-        sizes = w .sizes;
-        directory = w .directory;
-        boards = w .boards;
-        peers = λ b h. nobody-named (length (k .boards)) b (boardAt k b) (each-getD (k .boards) b noBoard none h);
-      }
+  -- what passes over stands for a bank that is well formed today
+  earlier-stands : code (adopt s .outcome .answer) ≡ 0 → (adopt s .bytes ≡ s) × (staleWellFormed s ≡ true)
+  unfolding refused code
+  earlier-stands d =
+      byBool (earlierWellFormed s)
+      (λ t.
+      byBool (noRecords (decode s))
+      (λ u. (
+        ap (λ (y : Reply). y .bytes) (adopted t u),
+        stale-iff s .1 (decode s, nobody-formed true (decode s) (stale-sound s t) (says-empty (decode s) .0 u), stands-test s (bytes-ok s t)),
+      ))
+      (λ u. let z : _≡_ {A = ℕ} 11 0 = rw (adopt-records t u) at d in absurd (omega arith)))
+      (λ t. let z : _≡_ {A = ℕ} 1 0 = rw (adopt-malformed t) at d in absurd (omega arith))
 
   pub adoption-takes : AdoptionTakes s
-  unfolding refused code
+  unfolding wellFormedIn code
   adoption-takes =
       record {
         done = λ k w e none. let b = earlier-back k w e in adopted (b .0) (rw (b .1) (says-empty k .1 none));
         records = λ k w e some.
             let b = earlier-back k w e in
             byBool (noRecords (decode s)) (λ u. absurd (some (rw (b .1) at (says-empty (decode s) .0 u)))) (adopt-records (b .0));
-        malformed = λ no.
-            byBool (earlierWellFormed s)
-            (λ t. absurd (no (decode s) (wellFormed-sound s t) (encode-decode today false s t)))
-            adopt-malformed;
-        formed = λ d.
-            byBool (earlierWellFormed s)
-            (λ t.
-            byBool (noRecords (decode s))
-            (λ u.
-            rw (ap (λ (y : Reply). y .bytes) (adopted t u))
-            (decode s, earlier-formed (decode s) (wellFormed-sound s t) (says-empty (decode s) .0 u), encode-decode today false s t))
-            (λ u. let z : _≡_ {A = ℕ} 11 0 = rw (adopt-records t u) at d in absurd (omega arith)))
-            (λ t. let z : _≡_ {A = ℕ} 1 0 = rw (adopt-malformed t) at d in absurd (omega arith));
+        malformed = λ no. byBool (earlierWellFormed s) (λ t. absurd (no (decode s) (stale-sound s t) (stands-test s (bytes-ok s t)))) adopt-malformed;
+        cleans = λ d. let e = earlier-stands d in rw (e .0, cleaned s (e .1)) refl;
+        formed = λ d z. let e = earlier-stands d in rw (e .0) (wellFormed-iff s .0 (and-both (e .1) z));
       }

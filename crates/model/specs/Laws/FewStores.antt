@@ -73,10 +73,10 @@ noted-few b kind peer bytes r m l =
     byOption (r .lost)
     (λ n.
     let y : Board = boardAt (step f r .bank) b in
-    let e : length (y .working .log .records) ≡ length (boardAt (r .bank) b .working .log .records) + 1 =
-    ap (λ (k : Bank). length (boardAt k b .working .log .records)) (step-going f r n)
-    ∙ ap (λ (x : Board). length (x .working .log .records)) (boardAt-same b g (r .bank) l)
-    ∙ length-append (boardAt (r .bank) b .working .log .records) _ in
+    let e : length (y .working .log) ≡ length (boardAt (r .bank) b .working .log) + 1 =
+    ap (λ (k : Bank). length (boardAt k b .working .log)) (step-going f r n)
+    ∙ ap (λ (x : Board). length (x .working .log)) (boardAt-same b g (r .bank) l)
+    ∙ length-append (boardAt (r .bank) b .working .log) _ in
     omega (arith, m n, e, storeAll-few b (recordStores y) (step f r), length-recordStores y, step-stores f r))
     (λ c e. rw (follows-note-flush b kind peer bytes r .lost c e) (omega arith))
 

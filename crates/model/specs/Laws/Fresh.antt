@@ -5,45 +5,37 @@ use Prim.Native.Nat.{ℕ, _+_, _*_, _%_, _≤_, _<_}
 use native.Mathlib.Nat.{mod-lt, one-le-pow}
 use native.Mathlib.Omega.{arith}
 use mathlib.Core.Bool.{true}
-use mathlib.Core.List.{List}
-use lib.ListN.{length, length-replicate}
+use mathlib.Core.List.{List, []}
+use lib.ListN.{length}
 use lib.Dec.{eqb, lit<, lit≤}
-use Rattle.words.specs.Bytes.{Each, each-nil, Bytes}
+use Rattle.words.specs.Bytes.{Each, each-nil}
 use Rattle.types.specs.declared.Frame.{Frame}
 use Rattle.types.specs.declared.Right.{Right}
 use Rattle.types.specs.declared.Right.the-variants.{None, Own}
 use Rattle.types.specs.declared.Answer.the-variants.{Done}
 use Rattle.model.specs.Definitions.Parts.{zeros}
-use Rattle.model.specs.Definitions.Layout.{mostBoards, mostPages, pageSize, slotsSize, bankSize, blockSize}
-use Rattle.model.specs.Definitions.Bank.{emptyFrame, emptyLog, zeroArea, zeroWorking, noBoard, boardAt, entryAt, frameAt, freshFrames, freshBoard, fresh}
+use Rattle.model.specs.Definitions.Layout.{mostBoards, mostPages, pageSize, bankSize, blockSize}
+use Rattle.model.specs.Definitions.Bank.{emptyFrame, zeroArea, zeroWorking, noBoard, boardAt, entryAt, frameAt, freshFrames, freshBoard, fresh}
 use Rattle.model.specs.Definitions.WellFormed.{SizesOk, FrameOk, LogOk, FramesOk, AreaOk, FieldsOk, PlaceOk, rightIn, BoardOk, EntryOk, WellFormed}
 use Rattle.model.specs.Definitions.WellFormed.{WorkingOk, PeersOk}
 use Rattle.model.specs.Definitions.Check.{wellFormed, sizesAllowed}
 use Rattle.model.specs.Definitions.Codec.{encode}
 use Rattle.model.specs.Definitions.Calls.{Reply, refused, make}
 use Rattle.model.specs.Laws.Logic.{cases, byBool}
-use Rattle.model.specs.Laws.Lists.{length-tabulate, getD-tabulate, each-tabulate, each-replicate}
+use Rattle.model.specs.Laws.Lists.{length-tabulate, getD-tabulate, each-tabulate}
+use Rattle.model.specs.Laws.Zeros.{zeros-bytes, zeros-length}
 use Rattle.model.specs.Laws.Sets.{member-none}
 use Rattle.model.specs.Laws.Tests.{says-and, says-lt, says-le}
 use Rattle.model.specs.Laws.WellFormedTest.{wellFormed-complete}
 
 -- ---- the parts of a fresh board
 
-pub zeros-bytes : (n : ℕ) → Bytes (zeros n)
-unfolding zeros
-zeros-bytes n = each-replicate n 0 (lit< tt)
-
-pub zeros-length : (n : ℕ) → length (zeros n) ≡ n
-unfolding zeros
-zeros-length n = length-replicate n 0
-
 -- under any right: the bytes are zero
 zeroFrame-ok : (r : Right) → FrameOk (record { right = r; bytes = zeros pageSize })
 zeroFrame-ok r = record { size = zeros-length pageSize; bytes = zeros-bytes pageSize; empty = λ _. refl }
 
-pub emptyLog-ok : (pages : ℕ) → LogOk pages emptyLog
-unfolding emptyLog
-emptyLog-ok pages = record { records = each-nil; bytes = zeros-bytes slotsSize; slots = rw (zeros-length slotsSize) }
+pub noRecord-ok : (pages : ℕ) → LogOk pages []
+noRecord-ok pages = record { records = each-nil; count = lit≤ tt }
 
 freshFrames-ok : (boards pages b : ℕ) → FramesOk pages (freshFrames boards pages b)
 unfolding freshFrames emptyFrame
@@ -54,10 +46,10 @@ freshFrames-ok boards pages b =
     }
 
 pub zeroArea-ok : {pages : ℕ} {fs : List Frame} → FramesOk pages fs → AreaOk pages (zeroArea fs)
-zeroArea-ok {pages} h = record { number = lit≤ tt; frames = h; log = emptyLog-ok pages }
+zeroArea-ok {pages} h = record { number = lit≤ tt; frames = h; log = noRecord-ok pages }
 
 pub zeroWorking-ok : {pages : ℕ} {fs : List Frame} → FramesOk pages fs → WorkingOk pages (zeroWorking fs)
-zeroWorking-ok {pages} h = record { number = lit≤ tt; since = lit≤ tt; frames = h; log = emptyLog-ok pages }
+zeroWorking-ok {pages} h = record { number = lit≤ tt; since = lit≤ tt; frames = h; log = noRecord-ok pages }
 
 freshBoard-fields : (boards pages b : ℕ) → FieldsOk pages (freshBoard boards pages b)
 unfolding freshBoard
@@ -90,7 +82,7 @@ fresh-right n p b q h =
     rw getD-tabulate (byBool (eqb (q % n) b) (λ t. cc) (λ t. cc (member-none b)))
 
 fresh-ok : (n p b : ℕ) → b < n → BoardOk (fresh n p) b
-unfolding PlaceOk freshBoard emptyLog
+unfolding PlaceOk freshBoard
 fresh-ok n p b h =
     let e : boardAt (fresh n p) b ≡ freshBoard n p b = fresh-board n p b h in
     record {
@@ -106,7 +98,7 @@ fresh-ok n p b h =
 
 -- without a record nobody is named
 fresh-peers : (n p b : ℕ) → b < n → PeersOk n b (boardAt (fresh n p) b)
-unfolding freshBoard emptyLog
+unfolding freshBoard
 fresh-peers n p b h = rw (fresh-board n p b h) (record { volatile = each-nil; selected = each-nil; spare = each-nil })
 
 fresh-directory : (n p : ℕ) → 0 < n → Each (EntryOk n) (fresh n p .directory)

@@ -1,10 +1,10 @@
--- Banks that are alike stay alike: here tests, lists and the parts of a bank; then every step, every move, every access, every call; last the slots that no
--- call reads. Assumes nothing.
+-- Banks that are alike stay alike: here tests, lists and the parts of a bank; then every step, every move, every access, every call; last the names
+-- that only one call reads. Assumes nothing.
 pub mod Steps
 pub mod Moves
 pub mod Accesses
 pub mod Calls
-pub mod Slots
+pub mod Names
 use mathlib.Core.Path.{_≡_, refl, ap}
 use Prim.Native.Nat.{ℕ, zero, suc}
 use mathlib.Core.Bool.{Bool, true, false}
@@ -14,9 +14,9 @@ use lib.ListN.{length, getD, set, drop, replicate}
 use Rattle.types.specs.declared.Frame.{Frame}
 use Rattle.model.specs.Definitions.Parts.{zeros, update, eachFrom, each}
 use Rattle.model.specs.Definitions.Layout.{pageSize}
-use Rattle.model.specs.Definitions.Bank.{Entry, Area, Working, Board, Bank, emptyFrame, emptyLog, noBoard, boardAt, entryAt, frameAt, onBoard, onEntry}
+use Rattle.model.specs.Definitions.Bank.{Entry, Area, Working, Board, Bank, emptyFrame, noBoard, boardAt, entryAt, frameAt, onBoard, onEntry}
 use Rattle.model.specs.Definitions.Bank.{onWorking, onSpare}
-use Rattle.model.specs.Likeness.{EachPair, pairs-nil, pairs-cons, FrameAlike, FramesAlike, LogAlike, AreaAlike, WorkingAlike, BoardAlike, Alike, Change}
+use Rattle.model.specs.Likeness.{EachPair, pairs-nil, pairs-cons, FrameAlike, FramesAlike, AreaAlike, WorkingAlike, BoardAlike, Alike, Change}
 
 -- ---- the same test on both sides
 
@@ -76,24 +76,6 @@ module _ {A : Type 0} (R : A → A → Type 0) where
   unfolding each
   pairs-each r ps = pairs-eachFrom 0 r ps
 
-  pairs-overFrom : (i : ℕ) {g : ℕ → A → A} → ((j : ℕ) (x : A) → R x (g j x)) → (xs : List A) → EachPair R xs (eachFrom i g xs)
-  unfolding eachFrom
-  pairs-overFrom i r [] = pairs-nil
-  pairs-overFrom i r (x ∷ xs) = pairs-cons (r i x) (pairs-overFrom (suc i) r xs)
-
-  -- a list and what becomes of it
-  pub pairs-over : {g : ℕ → A → A} → ((j : ℕ) (x : A) → R x (g j x)) → (xs : List A) → EachPair R xs (each g xs)
-  unfolding each
-  pairs-over r xs = pairs-overFrom 0 r xs
-
-  pub pairs-mapped : {g : A → A} → ((x : A) → R x (g x)) → (xs : List A) → EachPair R xs (map g xs)
-  pairs-mapped r [] = pairs-nil
-  pairs-mapped r (x ∷ xs) = pairs-cons (r x) (pairs-mapped r xs)
-
-  pub pairs-same : ((x : A) → R x x) → (xs : List A) → EachPair R xs xs
-  pairs-same r [] = pairs-nil
-  pairs-same r (x ∷ xs) = pairs-cons (r x) (pairs-same r xs)
-
   pub pairs-map : {g h : A → A} {xs ys : List A} → Preserve g h → EachPair R xs ys → EachPair R (map g xs) (map h ys)
   pairs-map r pairs-nil = pairs-nil
   pairs-map r (pairs-cons p ps) = pairs-cons (r _ _ p) (pairs-map r ps)
@@ -134,18 +116,14 @@ module _ (f : Change) (z : f .bytes 0 ≡ 0) where
 -- ---- one part of a bank read or changed
 
 module _ (f : Change) where
-  pub alike-emptyLog : LogAlike f emptyLog emptyLog
-  unfolding emptyLog
-  alike-emptyLog = record { records = pairs-nil }
-
   alike-noBoard : BoardAlike f noBoard noBoard
   unfolding noBoard
   alike-noBoard =
-      let area : AreaAlike f (noBoard .stable .spare) (noBoard .stable .spare) = record { number = refl; frames = pairs-nil; log = alike-emptyLog } in
+      let area : AreaAlike f (noBoard .stable .spare) (noBoard .stable .spare) = record { number = refl; frames = pairs-nil; log = pairs-nil } in
       record {
         state = refl;
         fuse = refl;
-        working = record { number = refl; since = refl; place = refl; frames = pairs-nil; log = alike-emptyLog };
+        working = record { number = refl; since = refl; place = refl; frames = pairs-nil; log = pairs-nil };
         stable = record { second = refl; selected = area; spare = area };
       }
 

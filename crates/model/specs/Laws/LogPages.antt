@@ -14,8 +14,7 @@ use Rattle.types.specs.declared.Answer.{Answer}
 use Rattle.types.specs.declared.Answer.the-variants.{Compared}
 use Rattle.types.specs.declared.Kind.{Kind}
 use Rattle.types.specs.declared.Record.{Record}
-use Rattle.model.specs.Definitions.Layout.{today}
-use Rattle.model.specs.Definitions.Bank.{Bank}
+use Rattle.model.specs.Definitions.Bank.{Bank, boardAt}
 use Rattle.model.specs.Definitions.Codec.{pageOf, decode}
 use Rattle.model.specs.Definitions.Check.{wellFormed}
 use Rattle.model.specs.Definitions.Steps.{start}
@@ -24,8 +23,8 @@ use Rattle.model.specs.Definitions.Calls.{Result, unless, firstOf, compa
 use Rattle.model.specs.History.PeersStatement.{Said, said}
 use Rattle.model.specs.History.LogsStatement.{MatchedAt, IsFirstUnmatched, AllMatched, Finds, givenByLower, givenByHigher, nowhere}
 use Rattle.model.specs.History.LogsStatement.{LeavesAll, ComparesLogs}
+use Rattle.model.specs.Laws.WellFormedTest.{wellFormed-back}
 use Rattle.model.specs.Laws.Logic.{cases, byBool}
-use Rattle.model.specs.Laws.CodecBankBack.{encode-decode}
 use Rattle.model.specs.Laws.Codes.Order.{never}
 use Rattle.model.specs.Laws.Codes.Cases.{compare-cases}
 
@@ -129,6 +128,12 @@ ordered-either b c k n =
     (λ t. let u : ltb c b ≡ false = le-ltb c b (omega (arith, ltb-true b c t)) in cc)
     (λ t. let u : ltb c b ≡ true = lt-ltb c b (omega (arith, ltb-false b c t, n)) in cc)
 
+-- "the stored logs of their selected areas": what the two boards have not stored, and all other boards, change nothing
+pub unmatched-by-stable : (x y : ℕ) (k j : Bank) → boardAt j x .stable ≡ boardAt k x .stable → boardAt j y .stable ≡ boardAt k y .stable
+    → unmatchedIn x y j ≡ unmatchedIn x y k
+unfolding unmatchedIn
+unmatched-by-stable x y k j e f = cc (e, f)
+
 compare-either : (b c : ℕ) (k : Bank) → compareBank c b k ≡ compareBank b c k
 unfolding compareBank unless firstOf
 compare-either b c k =
@@ -152,8 +157,8 @@ module _ (lower higher : ℕ) (s : List ℕ) where
       cases (LeavesAll s) (wellFormed s)
       (λ t.
       compare-cases (λ (r : Result). LeavesAll s (replyOf r)) lower higher (decode s)
-      (λ x h i. record { bytes = encode-decode today true s t; stores = refl; given = refl })
-      (λ i d. record { bytes = encode-decode today true s t; stores = refl; given = refl }))
+      (λ x h i. record { bytes = wellFormed-back s t; stores = refl; given = refl })
+      (λ i d. record { bytes = wellFormed-back s t; stores = refl; given = refl }))
       (λ t. record { bytes = refl; stores = refl; given = refl })
 
   compare-finds : wellFormed s ≡ true → lower < higher → higher < length (decode s .boards)

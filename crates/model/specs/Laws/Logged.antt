@@ -66,8 +66,8 @@ recorded-adds : (kind : Kind) (peer : ℕ) (bytes : List ℕ) (x : Board)
     → Adds (record { kind = kind; peer = peer } ∷ []) x (onWorking (recorded kind peer bytes) x)
 unfolding saidBy recordsOf onWorking recorded appended
 recorded-adds kind peer bytes x =
-    let stored : List Record = x .stable .selected .log .records in
-    let volatile : List Record = x .working .log .records in
+    let stored : List Record = x .stable .selected .log in
+    let volatile : List Record = x .working .log in
     let new : List Record = record { count = x .working .since; kind = kind; peer = peer; bytes = bytes } ∷ [] in
     ap (map said) (sym (append-assoc stored volatile new)) ∙ map-append said (stored ++ volatile) new
 

@@ -16,7 +16,7 @@ use Rattle.types.specs.declared.Record.{Record}
 use Rattle.types.specs.declared.State.the-variants.{Up, Down}
 use Rattle.model.specs.Definitions.Parts.{zeros}
 use Rattle.model.specs.Definitions.Layout.{pageSize, lastSince}
-use Rattle.model.specs.Definitions.Bank.{Working, Board, Bank, noBoard, emptyLog, boardAt, onBoard, onWorking, onSpare, onFrames}
+use Rattle.model.specs.Definitions.Bank.{Working, Board, Bank, noBoard, boardAt, onBoard, onWorking, onSpare, onFrames}
 use Rattle.model.specs.Definitions.WellFormed.{isGot, isReplaying}
 use Rattle.model.specs.Definitions.Steps.{Run, start, step, poweredOff, powerOff, withFuse, burnt, storeAll, appended, recorded, note}
 use Rattle.model.specs.Definitions.Steps.{movedRecord, storedRecord, recordStores, flush, storedFrame, storedHead, storedSelector, restedWorking}
@@ -42,13 +42,13 @@ use Rattle.model.specs.Laws.LogPages.{pages-append}
 
 -- a power loss empties the volatile log
 stores-lost : (b : ℕ) (fs : List (Board → Board)) (r : Run) (c : ℕ) → b < length (r .bank .boards) → r .lost ≡ none → storeAll b fs r .lost ≡ some c
-    → boardAt (storeAll b fs r .bank) b .working .log .records ≡ []
-unfolding storeAll poweredOff emptyLog
+    → boardAt (storeAll b fs r .bank) b .working .log ≡ []
+unfolding storeAll poweredOff
 stores-lost b [] r c l n e = lost-not n e
 stores-lost b (f ∷ fs) r c l n e =
     let k : Bank = onBoard b burnt (onBoard b f (r .bank)) in
     let m : b < length (k .boards) = rw (boards-onBoard b burnt (onBoard b f (r .bank)), boards-onBoard b f (r .bank)) l in
-    store-cases (λ s. storeAll b fs s .lost ≡ some c → boardAt (storeAll b fs s .bank) b .working .log .records ≡ []) b f r
+    store-cases (λ s. storeAll b fs s .lost ≡ some c → boardAt (storeAll b fs s .bank) b .working .log ≡ []) b f r
     (λ d z. lost-not n z)
     (λ z y i.
     let s : Run = record { bank = powerOff b k; stores = r .stores + 1; lost = some b } in
@@ -56,8 +56,8 @@ stores-lost b (f ∷ fs) r c l n e =
     (λ z y. stores-lost b fs _ c m refl)
     e
 
-flush-leaves-none : (b : ℕ) (r : Run) → r .lost ≡ none → boardAt (flush b r .bank) b .working .log .records ≡ []
-unfolding flush noBoard emptyLog
+flush-leaves-none : (b : ℕ) (r : Run) → r .lost ≡ none → boardAt (flush b r .bank) b .working .log ≡ []
+unfolding flush noBoard
 flush-leaves-none b r n =
     byBoard (r .bank) b
     (λ l.
@@ -70,7 +70,7 @@ flush-leaves-none b r n =
 
 -- no shown is volatile
 abbrev pub NoneShown : Board → Type 0
-NoneShown x = Each (λ r. isShown (r .kind) ≡ false) (x .working .log .records)
+NoneShown x = Each (λ r. isShown (r .kind) ≡ false) (x .working .log)
 
 none-same : (x y : Board) → y .working .log ≡ x .working .log → NoneShown x → NoneShown y
 none-same x y e h = rw e h
@@ -103,8 +103,8 @@ pages-noted : (such : Kind → Bool) (t : ℕ) (kind : Kind) (peer : ℕ) (bytes
     → pagesNaming such t (recordsOf (onWorking (recorded kind peer bytes) x)) ≡ pagesNaming such t (recordsOf x)
 unfolding recordsOf onWorking recorded appended pagesNaming
 pages-noted such t kind peer bytes x other =
-    let stored : List Record = x .stable .selected .log .records in
-    let volatile : List Record = x .working .log .records in
+    let stored : List Record = x .stable .selected .log in
+    let volatile : List Record = x .working .log in
     let new : List Record = record { count = x .working .since; kind = kind; peer = peer; bytes = bytes } ∷ [] in
     let none-new : pagesNaming such t new ≡ [] = cc in
     ap (pagesNaming such t) (sym (append-assoc stored volatile new))
@@ -199,14 +199,14 @@ module _ (k : Bank) (d : ℕ) where
 
   none-noted : (kind : Kind) (peer : ℕ) (bytes : List ℕ) (x : Board) → isShown kind ≡ false → NoneShown x → NoneShown (onWorking (recorded kind peer bytes) x)
   unfolding onWorking recorded appended
-  none-noted kind peer bytes x e h = each-append (x .working .log .records) _ h (each-cons e each-nil)
+  none-noted kind peer bytes x e h = each-append (x .working .log) _ h (each-cons e each-nil)
 
   none-stored : (x : Board) → NoneShown x → NoneShown (storedRecord x)
   unfolding movedRecord
   none-stored x h = storedRecord-cases NoneShown x (λ e. h) (λ r rs e. each-tail (rw e at h))
 
   log-lasts : Lasts d LogKept
-  unfolding noBoard poweredOff emptyLog dropped withFrame onFrames onWorking onSpare storedFrame storedHead storedSelector restedWorking settled loaded
+  unfolding noBoard poweredOff dropped withFrame onFrames onWorking onSpare storedFrame storedHead storedSelector restedWorking settled loaded
       withFuse isShown
   log-lasts =
       record {

@@ -11,7 +11,7 @@ use lib.Seq.{length-take-le, take-all, take-nil, take-take, take-add, drop-cons,
 use lib.Seq.{take-at, drop-at, getD-append-add, getD-take, getD-drop, set-split}
 use Rattle.model.specs.Definitions.Parts.{part, splice, byteAt, encodeAll, decodeAll}
 use Rattle.words.specs.Bytes.{Each, each-nil, each-cons}
-use Rattle.model.specs.Laws.Lists.{each-head, each-tail, each-take, each-drop}
+use Rattle.model.specs.Laws.Lists.{each-head, each-tail, each-append, each-take, each-drop}
 
 module _ {ℓ} {A : Type ℓ} where
   -- ---- parts: lengths, joined lists
@@ -113,6 +113,10 @@ module _ {ℓ} {A : Type ℓ} where
   pub splice-front : (u v q : List A) → length u ≡ length v → splice (u ++ q) 0 v ≡ v ++ q
   splice-front u v q e = splice-zero (u ++ q) v (length v) refl ∙ rw (drop-at u q (length v) e)
 
+  -- of the whole list
+  pub splice-all : (l v : List A) → length l ≡ length v → splice l 0 v ≡ v
+  splice-all l v e = simp append-nil at (splice-front l v [] e)
+
   pub splice-at : (p u v q : List A) (a : ℕ) → length p ≡ a → length u ≡ length v → splice (p ++ (u ++ q)) a v ≡ p ++ (v ++ q)
   splice-at p u v q a e f = splice-append-right p (u ++ q) a 0 v (omega arith) ∙ ap (λ (r : List A). p ++ r) (splice-front u v q f)
 
@@ -151,6 +155,13 @@ module _ {ℓ} {A : Type ℓ} where
   pub part-splice-after : (l : List A) (a : ℕ) (v : List A) (b n : ℕ) → a + length v ≤ b → a ≤ length l → part (splice l a v) b n ≡ part l b n
   unfolding part
   part-splice-after l a v b n h k = rw (drop-splice-after l a v b h k)
+
+  -- a part of what it wrote
+  pub part-splice-inside : (l : List A) (a : ℕ) (v : List A) (b n : ℕ) → b + n ≤ length v → a ≤ length l → part (splice l a v) (a + b) n ≡ part v b n
+  unfolding splice
+  part-splice-inside l a v b n h k =
+      part-append-right (take a l) (v ++ drop (a + length v) l) (a + b) b n (rw (length-take-le a l k))
+      ∙ part-append-left v (drop (a + length v) l) b n h
 
   -- ---- a splice inside a part
 
@@ -239,7 +250,7 @@ unfolding byteAt
 byte-rest l a h = let e : a + 1 ≡ suc a = omega arith in rw e (sym (drop-cons l a 0 h))
 
 -- two lists agree at a byte where they have the same part
-same-byte : (l m : List ℕ) (i : ℕ) → part l i 1 ≡ part m i 1 → byteAt l i ≡ byteAt m i
+pub same-byte : (l m : List ℕ) (i : ℕ) → part l i 1 ≡ part m i 1 → byteAt l i ≡ byteAt m i
 same-byte l m i e = byteAt-first l i 1 (omega arith) ∙ rw e (sym (byteAt-first m i 1 (omega arith)))
 
 -- one byte before the part that follows it
@@ -247,8 +258,10 @@ pub byte-part : (l : List ℕ) (a b n m : ℕ) → a < length l → a + 1 ≡ b 
 unfolding part
 byte-part l a b n m h e f = rw (← e, ← f, add-one n, ← byte-rest l a h)
 
-pub byteAt-splice-before : (l : List ℕ) (a : ℕ) (v : List ℕ) (i : ℕ) → i < a → a ≤ length l → byteAt (splice l a v) i ≡ byteAt l i
-byteAt-splice-before l a v i h k = same-byte (splice l a v) l i (part-splice-before l a v i 1 (omega arith) k)
+pub byteAt-splice-left : (l : List ℕ) (a : ℕ) (v : List ℕ) (i : ℕ) → i < a → i < length l → byteAt (splice l a v) i ≡ byteAt l i
+unfolding splice byteAt
+byteAt-splice-left l a v i h k =
+    byteAt-append-left (take a l) (v ++ drop (a + length v) l) i (rw (length-take a l) (omega arith)) ∙ getD-take a l i 0 h
 
 -- ==== what holds of every element
 
@@ -260,6 +273,10 @@ pub each-all : {A : Type 0} {P : A → Type 0} (xs : List A) → ((x : A) → P 
 each-all [] f = each-nil
 each-all (x ∷ xs) f = each-cons (f x) (each-all xs f)
 
+pub each-splice : {A : Type 0} {P : A → Type 0} (l : List A) (a : ℕ) (v : List A) → Each P l → Each P v → Each P (splice l a v)
+unfolding splice
+each-splice l a v e f = each-append (take a l) _ (each-take a l e) (each-append v _ f (each-drop (a + length v) l e))
+
 -- ==== elements of one width, side by side
 
 -- the element at index i is inside
@@ -270,7 +287,7 @@ index-in w n i h = rw (suc-mul i w) at (mul-le-mul-right {m = suc i} {n = n} w h
 next-at : (i w : ℕ) → suc i * w ≡ w + i * w
 next-at i w = rw suc-mul (omega arith)
 
-next-part : (l : List ℕ) (i w : ℕ) → part (drop w l) (i * w) w ≡ part l (suc i * w) w
+pub next-part : (l : List ℕ) (i w : ℕ) → part (drop w l) (i * w) w ≡ part l (suc i * w) w
 next-part l i w = part-drop l w (i * w) w ∙ rw (next-at i w)
 
 module _ {A : Type 0} (enc : A → List ℕ) (w : ℕ) where
@@ -413,6 +430,15 @@ module _ {A : Type 0} (enc : A → List ℕ) (dec : List ℕ → A) (w : ℕ) wh
       let h : enc (dec (take w l)) ≡ take w l = rw zero-mul at (f 0 (omega arith)) in
       rw (h, next-at n w, take-add w (n * w) l)
       (ap (λ (r : List ℕ). take w l ++ r) (encodeAll-decodeAll n (drop w l) (λ i b. rw (next-part l i w) (f (suc i) (omega arith)))))
+
+  -- or is written in another way, each element by itself
+  pub encodeAll-decodeAll-by : (f : List ℕ → List ℕ) (n : ℕ) (l : List ℕ) → ((i : ℕ) → i < n → enc (dec (part l (i * w) w)) ≡ f (part l (i * w) w))
+      → encodeAll enc (decodeAll dec w n l) ≡ encodeAll f (decodeAll (λ r. r) w n l)
+  unfolding decodeAll encodeAll part
+  encodeAll-decodeAll-by f zero l h = refl
+  encodeAll-decodeAll-by f (suc n) l h =
+      let e : enc (dec (take w l)) ≡ f (take w l) = rw zero-mul at (h 0 (omega arith)) in
+      rw e (ap (λ (r : List ℕ). f (take w l) ++ r) (encodeAll-decodeAll-by f n (drop w l) (λ i b. rw (next-part l i w) (h (suc i) (omega arith)))))
 
   pub encodeAll-decodeAll-all : (n : ℕ) (l : List ℕ) → ((i : ℕ) → i < n → WritesBack (part l (i * w) w)) → length l ≡ n * w
       → encodeAll enc (decodeAll dec w n l) ≡ l

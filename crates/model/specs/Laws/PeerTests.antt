@@ -38,18 +38,18 @@ module _ (form : Form) (named : Bool) (boards b : ℕ) where
   abbrev SlotsPeer : ℕ → List ℕ → Type 0
   SlotsPeer count l = (i : ℕ) → i < count → slotPeerValid named boards b (part l (i * slotSizeIn form) (slotSizeIn form)) ≡ true
 
-  peers-read : (count : ℕ) (l : List ℕ) → SlotsPeer count l → Each (PeerOk named boards b) (decodeLogIn form count l .records)
+  peers-read : (count : ℕ) (l : List ℕ) → SlotsPeer count l → Each (PeerOk named boards b) (decodeLogIn form count l)
   unfolding decodeLogIn
   peers-read count l h =
       each-decodeAll (decodeRecordIn form) (slotSizeIn form) count l (λ i m. says-peer form named boards b _ .0 (h i m))
 
-  read-peers : (count : ℕ) (l : List ℕ) → Each (PeerOk named boards b) (decodeLogIn form count l .records) → SlotsPeer count l
+  read-peers : (count : ℕ) (l : List ℕ) → Each (PeerOk named boards b) (decodeLogIn form count l) → SlotsPeer count l
   unfolding decodeLogIn
   read-peers count l h i m =
       let none : Record = decodeRecordIn form [] in
       says-peer form named boards b (part l (i * slotSizeIn form) (slotSizeIn form))
       .1 (rw (getD-decodeAll (decodeRecordIn form) (slotSizeIn form) count l i none m)
-      at (each-getD (decodeLogIn form count l .records) i none h (rw (length-decodeLog form count l) m)))
+      at (each-getD (decodeLogIn form count l) i none h (rw (length-decodeLog form count l) m)))
 
   -- the logs of a block, as the board has them: an area's slots stand in the area, and either area may be the selected one
   module _ (pages : ℕ) (l : List ℕ) where
@@ -57,11 +57,11 @@ module _ (form : Form) (named : Bool) (boards b : ℕ) where
     area n = decodeAreaIn form pages (part l (areaAtIn form pages n) (areaSizeIn form pages))
 
     stored-read : (n : ℕ) → SlotsPeer (areaCount form pages n l) (part l (areaAtIn form pages n + areaSlotsAt pages) (slotsSizeIn form))
-        → Each (PeerOk named boards b) (area n .log .records)
+        → Each (PeerOk named boards b) (area n .log)
     unfolding decodeAreaIn
     stored-read n h = rw (count-place form pages n l, slots-place form pages n l) (peers-read _ _ h)
 
-    read-stored : (n : ℕ) → Each (PeerOk named boards b) (area n .log .records)
+    read-stored : (n : ℕ) → Each (PeerOk named boards b) (area n .log)
         → SlotsPeer (areaCount form pages n l) (part l (areaAtIn form pages n + areaSlotsAt pages) (slotsSizeIn form))
     unfolding decodeAreaIn
     read-stored n h = read-peers _ _ (rw (count-place form pages n l, slots-place form pages n l) at h)
@@ -88,7 +88,7 @@ module _ (form : Form) (named : Bool) (boards b : ℕ) where
         let test : List ℕ → Bool = slotPeerValid named boards b in
         let few : (stored 0 ≤ slotCount) × (stored 1 ≤ slotCount) =
         (rw (count-place form pages 0 l) at (r .area0 .log .few), rw (count-place form pages 1 l) at (r .area1 .log .few)) in
-        let names : Area → Type 0 = λ a. Each (PeerOk named boards b) (a .log .records) in
+        let names : Area → Type 0 = λ a. Each (PeerOk named boards b) (a .log) in
         let all =
         says-below slotCount (slotsPass form test pages l)
         (λ i h.

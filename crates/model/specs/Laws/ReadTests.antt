@@ -2,11 +2,10 @@
 -- WrittenTests has the other way. Assumes nothing.
 use mathlib.Core.Path.{_≡_}
 use Prim.Native.Nat.{ℕ, suc, _+_, _*_, _^_, _≤_, _<_}
-use native.Mathlib.Nat.{mul-le-mul-right}
 use native.Mathlib.Omega.{arith}
 use mathlib.Core.Bool.{Bool, true, false, _&&_}
 use mathlib.Core.List.{List, []}
-use lib.ListN.{length, length-drop}
+use lib.ListN.{length}
 use lib.Dec.{eqb, leb, lit≤}
 use borrow.Author.Tests.{ltb-true}
 use Rattle.words.specs.Bytes.{Each, Bytes}
@@ -15,7 +14,8 @@ use Rattle.words.specs.LittleEndianLaws.{numberOf-below}
 use Rattle.types.specs.declared.Right.the-variants.{Own}
 use Rattle.model.specs.Definitions.Parts.{part, byteAt, decodeAll}
 use Rattle.model.specs.Definitions.Layout.{byteValues, pageSize, slotCount, rightAt, frameBytesAt, frameSize, letterG, letterC, mark0At, mark1At}
-use Rattle.model.specs.Definitions.Layout.{slotPageAt, slotPeerAt, fuseSize, numberSize, noFuse, lastNumber, areaNumberAt, areaCountAt, areaFramesAt, areaSlotsAt}
+use Rattle.model.specs.Definitions.Layout.{slotPageAt, slotPeerAt, fuseSize, numberSize, noFuse, lastNumber, areaNumberAt, areaCountAt, areaFramesAt}
+use Rattle.model.specs.Definitions.Layout.{areaSlotsAt}
 use Rattle.model.specs.Definitions.Layout.{selectorAt, fuseAt, numberAt, sinceAt, slotBytesAtIn, slotSizeIn, slotsSizeIn, areaSizeIn, volatileCountAtIn}
 use Rattle.model.specs.Definitions.Layout.{framesAtIn, slotsAtIn, areaAtIn, blockSizeIn, Form, recordCountAt}
 use Rattle.model.specs.Definitions.Bank.{Area}
@@ -24,7 +24,7 @@ use Rattle.model.specs.Definitions.Codec.{decodeAreaIn, decodeBoardIn}
 use Rattle.model.specs.Definitions.WellFormed.{FrameOk, isGot, FramesOk, RecordOkIn, LogOkIn, AreaOkIn, FieldsOkIn}
 use Rattle.model.specs.Definitions.Check.{isZero, frameValid, gotMark, markFits, slotValid, bareMark}
 use Rattle.model.specs.Laws.Logic.{byBool, clash, and-left, and-right}
-use Rattle.model.specs.Laws.Lists.{each-drop, each-getD, each-of-getD}
+use Rattle.model.specs.Laws.Lists.{each-getD, each-of-getD}
 use Rattle.model.specs.Laws.Parts.{each-part, length-part, length-decodeAll, getD-decodeAll, index-in}
 use Rattle.model.specs.Laws.CodecBack.{FramesPass, LogPasses, AreaPasses, Readable, pageOf-kindOf, slot-in}
 use Rattle.model.specs.Laws.Tests.{says-zero, says-clear}
@@ -120,10 +120,7 @@ log-ok {form} pages count l e b v =
           (length-part l (i * slotSizeIn form) (slotSizeIn form) (omega (arith, slot-in form count i c h)))
           (each-part l (i * slotSizeIn form) (slotSizeIn form) b)
           (v .slots i h));
-      bytes = each-drop (count * slotSizeIn form) l b;
-      slots =
-          rw (length-decodeAll (decodeRecordIn form) (slotSizeIn form) count l, length-drop (count * slotSizeIn form) l)
-          (omega (arith, mul-le-mul-right {m = count} {n = slotCount} (slotSizeIn form) c));
+      count = rw (length-decodeAll (decodeRecordIn form) (slotSizeIn form) count l) c;
     }
 
 -- ---- an area

@@ -4,13 +4,12 @@ use mathlib.Core.Path.{_≡_, refl, sym, ap, _∙_}
 use mathlib.Core.Logic.{_≢_, _⊎_, inl, inr}
 use Prim.Native.Nat.{ℕ, _+_, _≤_}
 use native.Mathlib.Omega.{arith}
-use mathlib.Core.Bool.{true}
 use mathlib.Core.Option.{none}
 use mathlib.Core.List.{List, [], _∷_}
 use lib.ListN.{length}
 use lib.Dec.{eqb}
 use Rattle.types.specs.declared.State.the-variants.{Replaying}
-use Rattle.model.specs.Definitions.Layout.{bankSize, today}
+use Rattle.model.specs.Definitions.Layout.{bankSize}
 use Rattle.model.specs.Definitions.Bank.{Board, Bank, boardAt, entryAt, onBoard, onWorking}
 use Rattle.model.specs.Definitions.Codec.{encode, decode}
 use Rattle.model.specs.Definitions.Check.{wellFormed, sizesAllowed}
@@ -19,8 +18,8 @@ use Rattle.model.specs.Definitions.Steps.{Run, start, step, store, store
 use Rattle.model.specs.Definitions.Replay.{tookDue, settled, settle, endReplay}
 use Rattle.model.specs.Definitions.Calls.{Result, finished, refused, Call, Accessing, Checkpointing, Fusing, Restarting, Comparing, callBank, Reply}
 use Rattle.model.specs.Definitions.Calls.{replyOf, call, make}
+use Rattle.model.specs.Laws.WellFormedTest.{wellFormed-back}
 use Rattle.model.specs.Laws.Logic.{cases, casesOption}
-use Rattle.model.specs.Laws.CodecBankBack.{encode-decode}
 use Rattle.model.specs.Laws.Runs.{lost-not, step-none, step-stores, store-cases, follows-none, follows-storeAll, length-checkpointStores}
 use Rattle.model.specs.Laws.Codes.Statement.{OfAccess, boardNamed, afterReplay}
 use Rattle.model.specs.Laws.Codes.{answerTo}
@@ -125,7 +124,7 @@ refusal-keeps c s =
     (λ w p u.
     let e : callBank c k .run ≡ start k = kept-run (boardNamed c) k (LateIn c k) (callBank c k) (late-replaying c k) (call-ended c k) p u in
     record {
-      bytes = ap (λ (r : Run). encode (r .bank)) e ∙ encode-decode today true s w;
+      bytes = ap (λ (r : Run). encode (r .bank)) e ∙ wellFormed-back s w;
       stores = ap (λ (r : Run). r .stores) e;
     })
     (λ w p u. record { bytes = refl; stores = refl })

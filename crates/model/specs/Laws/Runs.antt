@@ -80,9 +80,9 @@ step-stores f r = step-cases (λ s. s .stores ≡ r .stores) f r (λ c e. refl) 
 
 -- ---- the stores of a flush and of a checkpoint
 
-pub length-recordStores : (x : Board) → length (recordStores x) ≡ length (x .working .log .records)
+pub length-recordStores : (x : Board) → length (recordStores x) ≡ length (x .working .log)
 unfolding recordStores
-length-recordStores x = length-replicate (length (x .working .log .records)) storedRecord
+length-recordStores x = length-replicate (length (x .working .log)) storedRecord
 
 pub length-checkpointStores : (pages : ℕ) → length (checkpointStores pages) ≡ pages + 2
 unfolding checkpointStores spareStores
@@ -94,7 +94,7 @@ length-checkpointStores pages =
 module _ {P : (Board → Board) → Type 0} where
   pub each-recordStores : P storedRecord → (x : Board) → Each P (recordStores x)
   unfolding recordStores
-  each-recordStores h x = each-replicate (length (x .working .log .records)) storedRecord h
+  each-recordStores h x = each-replicate (length (x .working .log)) storedRecord h
 
   pub each-spareStores : ((p : ℕ) → P (storedFrame p)) → P storedHead → (pages : ℕ) → Each P (spareStores pages)
   unfolding spareStores

@@ -6,8 +6,8 @@ use Prim.Native.Nat.{ℕ, _+_, _≤_, _<_}
 use native.Mathlib.Omega.{arith}
 use native.Mathlib.Decide.{decLt}
 use mathlib.Core.Bool.{Bool, true, false}
-use mathlib.Core.List.{List, [], _∷_, _++_, map}
-use lib.ListN.{length, set, length-append, length-drop, length-map, length-set}
+use mathlib.Core.List.{List, [], _∷_, map}
+use lib.ListN.{length, set, length-append, length-map, length-set}
 use lib.Seq.{set-out}
 use Rattle.words.specs.Bytes.{Each, each-nil, each-cons}
 use Rattle.types.specs.declared.Right.{Right}
@@ -18,19 +18,17 @@ use Rattle.types.specs.declared.Kind.{Kind}
 use Rattle.types.specs.declared.Kind.the-variants.{Got}
 use Rattle.types.specs.declared.Record.{Record}
 use Rattle.model.specs.Definitions.Parts.{zeros, each}
-use Rattle.model.specs.Definitions.Layout.{byteValues, mostPages, pageSize, slotCount, slotSize, lastSince, lastNumber}
-use Rattle.model.specs.Definitions.Bank.{Log, Area, Working, emptyFrame, frameAt, withAreaNumber, withAreaFrames, withAreaLog, withNumber, withSince}
+use Rattle.model.specs.Definitions.Layout.{byteValues, pageSize, slotCount, lastSince, lastNumber}
+use Rattle.model.specs.Definitions.Bank.{Area, Working, emptyFrame, frameAt, withAreaNumber, withAreaFrames, withAreaLog, withNumber, withSince}
 use Rattle.model.specs.Definitions.Bank.{withPlace, withFrames, withLog}
-use Rattle.model.specs.Definitions.Codec.{pageOf, encodeLog}
+use Rattle.model.specs.Definitions.Codec.{pageOf}
 use Rattle.model.specs.Definitions.WellFormed.{FrameOk, isGot, RecordOk, LogOk, FramesOk, AreaOk, WorkingOk}
 use Rattle.model.specs.Definitions.Steps.{appended, Cell, withByte, withBytes, withRecord}
 use Rattle.model.specs.Definitions.Replay.{used, settledFrame}
 use Rattle.model.specs.Contracts.{Recordable}
 use Rattle.model.specs.Laws.Logic.{byEq, clash}
-use Rattle.model.specs.Laws.Lists.{each-head, each-tail, each-getD-any, each-set, each-imp, each-append, each-drop, each-map, each-each, length-each}
-use Rattle.model.specs.Laws.Codec.{length-encodeLog}
-use Rattle.model.specs.Laws.WrittenTests.{bytes-log}
-use Rattle.model.specs.Laws.Fresh.{zeros-bytes, zeros-length}
+use Rattle.model.specs.Laws.Lists.{each-head, each-tail, each-getD-any, each-set, each-imp, each-append, each-map, each-each, length-each}
+use Rattle.model.specs.Laws.Zeros.{zeros-bytes, zeros-length}
 use Rattle.model.specs.Laws.Boards.{frameAt-same, frameAt-other}
 
 -- ---- frames
@@ -127,30 +125,19 @@ framesOk-withBytes (w ∷ ws) fs h e =
 
 -- ---- logs
 
-module _ {pages : ℕ} {l : Log} where
+module _ {pages : ℕ} {l : List Record} where
   -- one record more takes a slot
-  pub logOk-appended : {r : Record} → LogOk pages l → RecordOk pages r → length (l .records) < slotCount → LogOk pages (appended r l)
+  pub logOk-appended : {r : Record} → LogOk pages l → RecordOk pages r → length l < slotCount → LogOk pages (appended r l)
   unfolding appended
   logOk-appended {r} h v m =
       record {
-        records = each-append (l .records) (r ∷ []) (h .records) (each-cons v each-nil);
-        bytes = each-drop slotSize (l .rest) (h .bytes);
-        slots = rw (length-append (l .records) (r ∷ []), length-drop slotSize (l .rest)) (omega (arith, h .slots));
+        records = each-append l (r ∷ []) (h .records) (each-cons v each-nil);
+        count = rw (length-append l (r ∷ [])) (omega arith);
       }
 
-  -- the first record taken away gives its slot back, zero
-  pub logOk-moved : (r : Record) (rs : List Record) → l .records ≡ r ∷ rs → LogOk pages l
-      → LogOk pages (record { records = rs; rest = zeros slotSize ++ l .rest })
-  logOk-moved r rs e h =
-      record {
-        records = each-tail (rw e at (h .records));
-        bytes = each-append (zeros slotSize) (l .rest) (zeros-bytes slotSize) (h .bytes);
-        slots = rw (length-append (zeros slotSize) (l .rest), zeros-length slotSize) (omega (arith, h .slots, ap length e));
-      }
-
-  -- the count becomes 0, the slots stay as they are
-  pub logOk-old : pages ≤ mostPages → LogOk pages l → LogOk pages (record { records = []; rest = encodeLog l })
-  logOk-old m h = record { records = each-nil; bytes = bytes-log pages m l h; slots = omega (arith, length-encodeLog pages l h) }
+  -- the first record taken away
+  pub logOk-moved : (r : Record) (rs : List Record) → l ≡ r ∷ rs → LogOk pages l → LogOk pages rs
+  logOk-moved r rs e h = record { records = each-tail (rw e at (h .records)); count = omega (arith, h .count, ap length e) }
 
 -- ---- what a record may hold
 
@@ -174,10 +161,10 @@ module _ {pages : ℕ} {a : Area} (ok : AreaOk pages a) where
   pub areaOk-frames : {fs : List Frame} → FramesOk pages fs → AreaOk pages (withAreaFrames fs a)
   areaOk-frames h = record { number = ok .number; frames = h; log = ok .log }
 
-  pub areaOk-log : {l : Log} → LogOk pages l → AreaOk pages (withAreaLog l a)
+  pub areaOk-log : {l : List Record} → LogOk pages l → AreaOk pages (withAreaLog l a)
   areaOk-log h = record { number = ok .number; frames = ok .frames; log = h }
 
-  pub areaOk-record : {r : Record} → RecordOk pages r → length (a .log .records) < slotCount → AreaOk pages (withRecord r a)
+  pub areaOk-record : {r : Record} → RecordOk pages r → length (a .log) < slotCount → AreaOk pages (withRecord r a)
   areaOk-record v h = areaOk-log (logOk-appended (ok .log) v h)
 
 -- ---- a working memory, field by field
@@ -195,7 +182,7 @@ module _ {pages : ℕ} {w : Working} (ok : WorkingOk pages w) where
   pub workingOk-frames : {fs : List Frame} → FramesOk pages fs → WorkingOk pages (withFrames fs w)
   workingOk-frames h = record { number = ok .number; since = ok .since; frames = h; log = ok .log }
 
-  pub workingOk-log : {l : Log} → LogOk pages l → WorkingOk pages (withLog l w)
+  pub workingOk-log : {l : List Record} → LogOk pages l → WorkingOk pages (withLog l w)
   workingOk-log h = record { number = ok .number; since = ok .since; frames = ok .frames; log = h }
 
 -- a stored record used

@@ -7,8 +7,8 @@ use native.Mathlib.Omega.{arith}
 use mathlib.Core.Bool.{Bool, true, false}
 use mathlib.Core.List.{List, [], _∷_}
 use lib.ListN.{length, getD}
-use lib.Dec.{ltb, lit<, lit≤}
-use borrow.Author.Tests.{le-leb, lt-ltb, ltb-true, ltb-false}
+use lib.Dec.{lit<, lit≤}
+use borrow.Author.Tests.{le-leb, lt-ltb}
 use Rattle.words.specs.Bytes.{Each, each-nil, each-cons, Bytes}
 use Rattle.words.specs.LittleEndian.{bytesOf}
 use Rattle.words.specs.LittleEndianLaws.{bytes-bytesOf}
@@ -22,16 +22,17 @@ use Rattle.types.specs.declared.Record.{Record}
 use Rattle.types.specs.declared.State.{State}
 use Rattle.types.specs.declared.State.the-variants.{Up, Down, Replaying}
 use Rattle.model.specs.Definitions.Parts.{part, byteAt, encodeAll}
-use Rattle.model.specs.Definitions.Layout.{byteValues, pageSize, slotCount, frameSize, numberSize, fuseSize, stateAt, selectorAt, mostBoards, mostPages}
+use Rattle.model.specs.Definitions.Layout.{byteValues, pageSize, frameSize, numberSize, fuseSize, stateAt, selectorAt, mostBoards, mostPages}
 use Rattle.model.specs.Definitions.Layout.{slotBytesAtIn, slotSizeIn, volatileCountAtIn, Form}
-use Rattle.model.specs.Definitions.Bank.{Entry, Log, Area, Board, emptyFrame}
+use Rattle.model.specs.Definitions.Bank.{Entry, Area, Board, emptyFrame}
 use Rattle.model.specs.Definitions.Codec.{rightByte, stateByte, selectorByte, mark0, mark1, pageOf, encodeFrame, encodeEntry, encodeRecordIn}
 use Rattle.model.specs.Definitions.Codec.{decodeRecordIn, encodeLogIn, encodeAreaIn, encodeFixedIn, encodeBoardIn}
 use Rattle.model.specs.Definitions.WellFormed.{FrameOk, FramesOk, EntryOk, isGot, RecordOkIn, LogOkIn, AreaOkIn, FieldsOkIn}
 use Rattle.model.specs.Definitions.Check.{frameValid, gotMark, bareMark, markFits, slotValid}
-use Rattle.model.specs.Laws.Logic.{byBool, and-both}
+use Rattle.model.specs.Laws.Logic.{and-both}
 use Rattle.model.specs.Laws.Lists.{each-imp, each-head, each-tail, each-getD, each-append}
 use Rattle.model.specs.Laws.Parts.{part-encodeAll, part-append-left, index-in}
+use Rattle.model.specs.Laws.Zeros.{zeros-bytes}
 use Rattle.model.specs.Laws.Codec.{length-encodeFrame, decode-encodeFrame, length-encodeRecord, decode-encodeRecord, length-encodeRecords, area-count}
 use Rattle.model.specs.Laws.Codec.{area-frames, area-slots}
 use Rattle.model.specs.Laws.CodecBank.{area0, area1, area0-ok, area1-ok, encodeStable-split, fixed-state, fixed-selector, fixed-volatile, board-byte}
@@ -79,29 +80,21 @@ slot-valid {form} pages r ok =
 
 -- ---- a log
 
-pub log-count : {form : Form} (pages : ℕ) (l : Log) → LogOkIn form pages l → length (l .records) ≤ slotCount
-log-count {form} pages l ok =
-    byBool (ltb slotCount (length (l .records)))
-    (λ t.
-    let more : slotCount < length (l .records) = ltb-true slotCount (length (l .records)) t in
-    absurd (omega (arith, ok .slots, index-in (slotSizeIn form) (length (l .records)) slotCount more)))
-    (λ t. ltb-false slotCount (length (l .records)) t)
-
-log-slot : {form : Form} (pages : ℕ) (l : Log) → LogOkIn form pages l → (i : ℕ) (d : Record) → i < length (l .records)
-    → part (encodeLogIn form l) (i * slotSizeIn form) (slotSizeIn form) ≡ encodeRecordIn form (getD (l .records) i d)
+log-slot : {form : Form} (pages : ℕ) (l : List Record) → LogOkIn form pages l → (i : ℕ) (d : Record) → i < length l
+    → part (encodeLogIn form l) (i * slotSizeIn form) (slotSizeIn form) ≡ encodeRecordIn form (getD l i d)
 unfolding encodeLogIn
 log-slot {form} pages l ok i d h =
-    part-append-left (encodeAll (encodeRecordIn form) (l .records)) (l .rest) (i * slotSizeIn form) (slotSizeIn form)
-    (rw (length-encodeRecords pages (l .records) (ok .records)) (index-in (slotSizeIn form) (length (l .records)) i h))
-    ∙ part-encodeAll (encodeRecordIn form) (slotSizeIn form) (l .records) i d
-    (each-imp (l .records) (λ r o. length-encodeRecord form r (o .size)) (ok .records)) h
+    part-append-left (encodeAll (encodeRecordIn form) l) _ (i * slotSizeIn form) (slotSizeIn form)
+    (rw (length-encodeRecords pages l (ok .records)) (index-in (slotSizeIn form) (length l) i h))
+    ∙ part-encodeAll (encodeRecordIn form) (slotSizeIn form) l i d
+    (each-imp l (λ r o. length-encodeRecord form r (o .size)) (ok .records)) h
 
-pub log-valid : {form : Form} (pages : ℕ) (l : Log) → LogOkIn form pages l → LogPasses form pages (length (l .records)) (encodeLogIn form l)
+pub log-valid : {form : Form} (pages : ℕ) (l : List Record) → LogOkIn form pages l → LogPasses form pages (length l) (encodeLogIn form l)
 log-valid {form} pages l ok =
     let none : Record = decodeRecordIn form [] in
     record {
-      few = log-count pages l ok;
-      slots = λ i h. rw (log-slot pages l ok i none h) (slot-valid pages (getD (l .records) i none) (each-getD (l .records) i none (ok .records) h));
+      few = ok .count;
+      slots = λ i h. rw (log-slot pages l ok i none h) (slot-valid pages (getD l i none) (each-getD l i none (ok .records) h));
     }
 
 -- ---- an area
@@ -183,17 +176,17 @@ module _ (pages : ℕ) (few : pages ≤ mostPages) where
       (byte (pageOf (r .kind)) (omega (arith, ok .page))
       (byte (r .peer) (ok .peer) (each-append (bytesOf (form .sinceWidth) (r .count)) (r .bytes) (bytes-bytesOf (form .sinceWidth) (r .count)) (ok .bytes)))))
 
-  pub bytes-log : {form : Form} (l : Log) → LogOkIn form pages l → Bytes (encodeLogIn form l)
+  pub bytes-log : {form : Form} (l : List Record) → LogOkIn form pages l → Bytes (encodeLogIn form l)
   unfolding encodeLogIn
   bytes-log {form} l ok =
-      each-append (encodeAll (encodeRecordIn form) (l .records)) (l .rest)
-      (bytes-encodeAll (encodeRecordIn form) (l .records) (ok .records) bytes-record) (ok .bytes)
+      each-append (encodeAll (encodeRecordIn form) l) _
+      (bytes-encodeAll (encodeRecordIn form) l (ok .records) bytes-record) (zeros-bytes _)
 
   bytes-area : {form : Form} (a : Area) → AreaOkIn form pages a → Bytes (encodeAreaIn form a)
   unfolding encodeAreaIn
   bytes-area {form} a ok =
       each-append (bytesOf numberSize (a .number)) _ (bytes-bytesOf numberSize (a .number))
-      (byte (length (a .log .records)) (omega (arith, log-count pages (a .log) (ok .log)))
+      (byte (length (a .log)) (omega (arith, ok .log .count))
       (each-append (encodeAll encodeFrame (a .frames)) (encodeLogIn form (a .log))
       (bytes-encodeAll encodeFrame (a .frames) (ok .frames .frames) bytes-frame) (bytes-log (a .log) (ok .log))))
 
@@ -206,7 +199,7 @@ module _ (pages : ℕ) (few : pages ≤ mostPages) where
       (each-append (bytesOf numberSize (x .working .number)) _ (bytes-bytesOf numberSize (x .working .number))
       (each-append (bytesOf (form .sinceWidth) (x .working .since)) _ (bytes-bytesOf (form .sinceWidth) (x .working .since))
       (byte (x .working .place) h
-      (byte (length (x .working .log .records)) (omega (arith, log-count pages (x .working .log) (ok .working .log))) each-nil))))))
+      (byte (length (x .working .log)) (omega (arith, ok .working .log .count)) each-nil))))))
 
   pub bytes-board : {form : Form} (x : Board) → FieldsOkIn form pages x → x .working .place < byteValues → Bytes (encodeBoardIn form x)
   unfolding encodeBoardIn

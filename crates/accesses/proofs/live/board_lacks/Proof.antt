@@ -1,5 +1,5 @@
 -- `accesses::live::board_lacks` meets its contract: the rights are read in the board's block, which is lent. Assumes nothing.
-use Rattle.exchange.specs.Banks.{lent-of}
+use Rattle.copies.specs.Banks.{lent-of}
 use Rattle.steps.specs.BankBlocks.{LentBlock, lent-in, lent-block, lent-board}
 use Rattle.model.specs.Definitions.Steps.{lacksPage}
 use Rattle.model.specs.Definitions.Codec.{decode}

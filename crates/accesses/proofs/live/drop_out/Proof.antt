@@ -1,7 +1,7 @@
 -- `accesses::live::drop_out` meets its contract: the ones of the copy-set are counted. Assumes nothing.
 use Rattle.accesses.specs.Prepared.{out-none, out-some, copies-none, copies-some}
-use Rattle.exchange.specs.Directory.{entry-at, copies-told}
-use Rattle.exchange.specs.Banks.{of-holds}
+use Rattle.copies.specs.Directory.{entry-at, copies-told}
+use Rattle.copies.specs.Banks.{of-holds}
 use Rattle.model.specs.Definitions.Codec.{decode}
 use native.Mathlib.Omega.{arith}
 use lib.Count.{ones}

@@ -1,6 +1,6 @@
 -- `accesses::live::giver_missing` meets its contract. Assumes nothing.
 use mathlib.Core.Path.{sym, _∙_}
-use Rattle.exchange.specs.Directory.{of-owner}
+use Rattle.copies.specs.Directory.{of-owner}
 use borrow.Author.Needs.{needs}
 use Rattle.accesses.proofs.live.giver_missing.Statement.{statement}
 use Rattle.accesses.proofs.live.giver_missing.Tie as tie

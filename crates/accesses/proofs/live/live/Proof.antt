@@ -31,7 +31,7 @@ proceed-requires c κs =
     let goes = start .pre .2 .1 in
     let lacking = c .before .before .before .before .before .before .board-lacks .ensures a (goes .stands) in
     let told = c .before .before .before .before .live-verdict in
-    let z : told .result ≡ Pass = cc in (
+    let z : told .result ≡ Pass = c .before .before .enum-told .given .1 in (
       record { bank = asks .bank; count = refl; formed = asks .formed },
       start .pre .1,
       (a, record { lacking = lacking; can = goes .can; passed = sym (rw z at (told .ensures a lacking)) }),
@@ -45,7 +45,7 @@ unfolding refusal
 returns c =
     let start = c .before .before .before .before .before .before .before .before .before .before in
     let told = c .before .before .before .live-verdict in
-    let z : told .result ≡ Refuse (c .before .verdict .given .0 .0) = cc in (
+    let z : told .result ≡ Refuse (c .before .verdict .given .0 .0) = c .before .verdict .given .1 in (
       λ a goes read n.
           live-refused _ a (running n (decode (start .args .bank .now))) _ _
           (rw z at (told .ensures a (c .before .before .before .before .before .board-lacks .ensures a (goes .stands))))
@@ -64,7 +64,7 @@ unfolding refusal
 returns-2 c =
     let start = c .before .before .before .before .before .before .before .before .before .before .before .before .before .before .before .before in
     let told = c .before .before .before .before .before .before .before .before .before .live-verdict in
-    let z : told .result ≡ Pass = cc in
+    let z : told .result ≡ Pass = c .before .before .before .before .before .before .before .enum-told .given .1 in
     let did = c .before .before .before .before .proceed .ensures in (
       λ a goes read n.
           let lacking = c .before .before .before .before .before .before .before .before .before .before .before .board-lacks .ensures a (goes .stands) in

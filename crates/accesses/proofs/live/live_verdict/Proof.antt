@@ -4,7 +4,7 @@ use Prim.Native.Nat.{ℕ}
 use native.Mathlib.Omega.{arith}
 use borrow.Author.Tests.{not-true}
 use Rattle.model.specs.Definitions.Codec.{decode}
-use Rattle.exchange.specs.Directory.{entry-at, owner-told}
+use Rattle.copies.specs.Directory.{entry-at, owner-told}
 use Rattle.accesses.specs.Asks.{Lacking}
 use Rattle.accesses.specs.Results.{refusal}
 use Rattle.accesses.specs.Prepared.{refuses-owner, refuses-short, refuses-none, passes-idle}

@@ -4,7 +4,7 @@ use lib.Count.{ones}
 use Rattle.model.specs.Definitions.Steps.{ownerUp}
 use Rattle.model.specs.Definitions.Calls.{nobodyGives}
 use Rattle.steps.specs.Asked.{got}
-use Rattle.exchange.specs.Directory.{entry-at, owner-told, copies-told}
+use Rattle.copies.specs.Directory.{entry-at, owner-told, copies-told}
 use Rattle.accesses.specs.Prepared.{given-up, copies-counted}
 use borrow.Author.Needs.{needs}
 use Rattle.accesses.proofs.live.nobody_gives.Statement.{statement}

@@ -1,5 +1,5 @@
 -- `accesses::live::perform_at` meets its contract: the access is done on the board's block, which is lent. Assumes nothing.
-use Rattle.exchange.specs.Banks.{lent-of, lent-holds}
+use Rattle.copies.specs.Banks.{lent-of, lent-holds}
 use Rattle.steps.specs.BankBlocks.{LentBlock, lent-in, lent-fields, lent-block, lent-board}
 use Rattle.accesses.specs.Asks.{performed-fields}
 use Rattle.model.specs.Definitions.Steps.{cellsAsked, cellByte, accessed, access}

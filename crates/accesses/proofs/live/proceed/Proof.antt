@@ -30,7 +30,7 @@ perform-at-requires c κs =
     let a = start .pre .2 .0 in
     let way = start .pre .2 .1 in
     let came = c .before .before .before .before .before .before .prepare .ensures .0 a (way .lacking) 0 in
-    let z : c .before .before .before .before .before .before .prepare .result .loss ≡ Nobody = cc in (
+    let z : c .before .before .before .before .before .before .prepare .result .loss ≡ Nobody = c .before .before .enum-told .given .1 in (
       ahead-of _ a 0 _ (asks .formed) (way .can) (way .passed) (came .bytes) _ (asks .bank .count),
       start .pre .1,
       (a, way .lacking .stands, ahead-ready _ a 0 _ (asks .formed) (way .can) (way .passed) (came .bytes) (rw z at (came .lost))),
@@ -43,7 +43,7 @@ returns : tie.Need-returns
 returns c =
     let start = c .before .before .before .before .before .before .before .before .before .before in
     let went = c .before .before .before .before .before .prepare in (
-      λ a way read n. answered-lost _ a n _ (start .pre .0 .formed) (way .can) (way .passed) _ _ _ (cc) (went .ensures .0 a (way .lacking) n),
+      λ a way read n. answered-lost _ a n _ (start .pre .0 .formed) (way .can) (way .passed) _ _ _ (c .before .loss .given .1) (went .ensures .0 a (way .lacking) n),
       went .ensures .1,
     )
 
@@ -60,7 +60,7 @@ returns-2 c =
     let asks = start .pre .0 in
     let went = c .before .before .before .before .before .before .before .before .before .before .before .prepare in
     let did = c .before .before .before .before .perform-at in
-    let z : went .result .loss ≡ Nobody = cc in (
+    let z : went .result .loss ≡ Nobody = c .before .before .before .before .before .before .before .enum-told .given .1 in (
       λ a way read n.
           let came = went .ensures .0 a (way .lacking) n in
           let ready = ahead-ready _ a n _ (asks .formed) (way .can) (way .passed) (came .bytes) (rw z at (came .lost)) in

@@ -1,7 +1,7 @@
 -- `accesses::need::page_need` meets its contract: a fetch, an own write, another page's, or none. Assumes nothing.
 use mathlib.Core.Path.{sym, _∙_}
 use native.Mathlib.Omega.{arith}
-use Rattle.exchange.specs.Directory.{entry-at, copies-told, of-owner}
+use Rattle.copies.specs.Directory.{entry-at, copies-told, of-owner}
 use Rattle.accesses.specs.Needs.{need-fetch, need-own-write, need-other-page, need-nothing}
 use borrow.Author.Needs.{needs}
 use Rattle.accesses.proofs.need.page_need.Statement.{statement}

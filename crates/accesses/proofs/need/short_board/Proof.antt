@@ -7,7 +7,7 @@ use Rattle.model.specs.Definitions.Parts.{firstFrom, firstBelow}
 use Rattle.model.specs.Definitions.Codec.{decode}
 use Rattle.model.specs.Definitions.Steps.{Access}
 use Rattle.model.specs.Definitions.Calls.{short}
-use Rattle.exchange.specs.Directory.{of-board}
+use Rattle.copies.specs.Directory.{of-board}
 use Rattle.accesses.specs.Asks.{Lacking}
 use Rattle.accesses.specs.Needs.{found-at, found-none, search-on, search-begins, search-of}
 use Rattle.accesses.proofs.need.short_board.Statement.{statement}

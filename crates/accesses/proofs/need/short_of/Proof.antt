@@ -1,6 +1,6 @@
 -- `accesses::need::short_of` meets its contract: the counts are read in the board's block, which is lent. Assumes nothing.
 use Rattle.accesses.specs.Needs.{room-short, room-kept}
-use Rattle.exchange.specs.Banks.{lent-of}
+use Rattle.copies.specs.Banks.{lent-of}
 use Rattle.steps.specs.BankBlocks.{LentBlock, lent-in, lent-block, lent-board}
 use Rattle.model.specs.Definitions.Codec.{decode}
 use Rattle.model.specs.Definitions.Bank.{boardAt}

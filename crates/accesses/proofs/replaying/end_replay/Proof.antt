@@ -1,9 +1,9 @@
 -- `accesses::replaying::end_replay` meets its contract: the end of replay in the board's block, which is lent, and the directory where power was lost. Assumes
 -- nothing.
 use Rattle.accesses.specs.Ends.{endReplay-told}
+use Rattle.copies.specs.Banks.{lent-of}
 use Rattle.exchange.specs.LentRuns.{run-of, run-going, run-lost}
 use Rattle.exchange.specs.Progress.{running}
-use Rattle.exchange.specs.Banks.{lent-of}
 use Rattle.stores.specs.Lifted.{lifted}
 use Rattle.stores.specs.RunFields.{checkpointOn-fields}
 use Rattle.steps.specs.BankBlocks.{LentBlock, lent-in, lent-fields, lent-block}

@@ -1,6 +1,6 @@
 -- `accesses::replaying::owned_pages` meets its contract: the loop goes from the highest page down, and a page's bit comes in at the bottom. Assumes nothing.
 use Rattle.accesses.specs.Ends.{setFrom, set-none, set-in, set-out, set-fits}
-use Rattle.exchange.specs.Directory.{entry-at, owner-told}
+use Rattle.copies.specs.Directory.{entry-at, owner-told}
 use Rattle.model.specs.Definitions.Codec.{decode}
 use Rattle.model.specs.Definitions.Bank.{entryAt}
 use borrow.Author.Needs.{needs}

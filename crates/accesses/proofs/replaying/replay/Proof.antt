@@ -10,7 +10,7 @@ use Rattle.model.specs.Definitions.Steps.{start, Cell, Access, cellByte, readFr
 use Rattle.model.specs.Definitions.Replay.{tookDue}
 use Rattle.model.specs.Laws.Boards.{boards-onBoard, directory-onBoard}
 use Rattle.model.specs.Laws.Keeps.Entered.{taken-inReplay, live-can, replayed-keeps}
-use Rattle.exchange.specs.Banks.{Holds, OfBank, holds-decode, holds-of}
+use Rattle.copies.specs.Banks.{Holds, OfBank, holds-decode, holds-of}
 use Rattle.accesses.specs.Asks.{GoesOn, Enters}
 use Rattle.accesses.specs.BlockReplay.{Repeats, replayedBoard, replayedTo}
 use Rattle.accesses.specs.Repeated.{frames, last-over, going-on, repeated-live, repeated-on, replaying-live, replaying-last, replaying-going}

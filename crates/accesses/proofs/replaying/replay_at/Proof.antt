@@ -3,7 +3,7 @@ use mathlib.Core.Path.{ap, _∙_}
 use native.Mathlib.Omega.{arith}
 use Rattle.model.specs.Definitions.Codec.{decode}
 use Rattle.steps.specs.BankBlocks.{LentBlock, lent-in, lent-fields, lent-block, lent-board}
-use Rattle.exchange.specs.Banks.{lent-of, lent-holds}
+use Rattle.copies.specs.Banks.{lent-of, lent-holds}
 use Rattle.accesses.specs.BlockReplay.{replayedBoard, replayedTo, replayed-fields}
 use borrow.Author.Needs.{needs}
 use Rattle.accesses.proofs.replaying.replay_at.Statement.{statement}

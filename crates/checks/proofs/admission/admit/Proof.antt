@@ -3,7 +3,7 @@ use mathlib.Core.Path.{ap, _∙_}
 use native.Mathlib.Omega.{arith}
 use Rattle.model.specs.Definitions.Codec.{decode}
 use Rattle.steps.specs.BankBlocks.{LentBlock, lent-in, lent-block, lent-board}
-use Rattle.exchange.specs.Banks.{lent-of}
+use Rattle.copies.specs.Banks.{lent-of}
 use Rattle.checks.specs.Admission.{admissionOf}
 use borrow.Author.Needs.{needs}
 use Rattle.checks.proofs.admission.admit.Statement.{statement}

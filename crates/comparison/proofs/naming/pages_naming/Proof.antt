@@ -16,7 +16,7 @@ use Rattle.comparison.proofs.naming.pages_naming.Tie as tie
 
 abbrev Inv-loop : tie.InvT-loop
 Inv-loop block pages shown peer out₀ stored n₀ i₀ out n i =
-    (i ≤ stored) × (length out ≡ slotCount) × NamedTo (wanted shown) peer (boardOf pages block .stable .selected .log .records) i n out
+    (i ≤ stored) × (length out ≡ slotCount) × NamedTo (wanted shown) peer (boardOf pages block .stable .selected .log) i n out
 
 abbrev μ-loop : tie.MeasureT-loop
 μ-loop block pages shown peer out₀ stored n₀ i₀ out n i = stored - i
@@ -27,7 +27,7 @@ start c = c .before .before .before .before
 
 -- the records that are stored; as many as are counted, and no more than there are slots
 abbrev records : tie.At-loop Inv-loop μ-loop → List Record
-records c = boardOf (start c .args .pages) (start c .args .block .now) .stable .selected .log .records
+records c = boardOf (start c .args .pages) (start c .args .block .now) .stable .selected .log
 
 counted : (c : tie.At-loop Inv-loop μ-loop) → c .before .read-stored-count .result ≡ length (records c)
 counted c = c .before .read-stored-count .ensures ∙ stored-count (start c .pre .0)

@@ -1,17 +1,18 @@
 -- `conversion::bank::write_converted` meets its contract: head and directory, then the blocks. Assumes nothing.
 use mathlib.Core.Path.{_∙_}
 use native.Mathlib.Omega.{arith}
-use Rattle.conversion.specs.Banks.{few-pages, size, bank-written}
+use Rattle.conversion.specs.Formed.{few-pages, size}
+use Rattle.conversion.specs.Banks.{bank-written}
 use borrow.Author.Needs.{needs}
 use Rattle.conversion.proofs.bank.write_converted.Statement.{statement}
 use Rattle.conversion.proofs.bank.write_converted.Tie as tie
 
 blocks-at-requires : tie.Need-blocks-at-requires
-blocks-at-requires c κs = few-pages (c .before .before .before .pre .0)
+blocks-at-requires c κs = few-pages (c .before .before .before .pre .0 .bank)
 
 copy-requires : tie.Need-copy-requires
 copy-requires c κs = (
-  omega (arith, size (c .before .before .before .before .pre .0), c .blocks-at .ensures),
+  omega (arith, size (c .before .before .before .before .pre .0 .bank), c .blocks-at .ensures),
   omega
       (arith, c .before .before .before .before .pre .1, c .blocks-at .ensures),
 )

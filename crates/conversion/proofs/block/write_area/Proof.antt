@@ -7,7 +7,7 @@ use lib.ListN.{length}
 use Rattle.model.specs.Definitions.Parts.{part, zeros}
 use Rattle.model.specs.Definitions.Layout.{areaSlotsAt, slotsSize}
 use Rattle.model.specs.Laws.Parts.{length-part}
-use Rattle.model.specs.Laws.Fresh.{zeros-length}
+use Rattle.model.specs.Laws.Zeros.{zeros-length}
 use Rattle.fields.proofs.Lent.{lent-cleared}
 use Rattle.fields.proofs.Splices.{splice-pair}
 use Rattle.conversion.specs.Blocks.{area-written}

@@ -8,7 +8,7 @@ use Rattle.model.specs.Definitions.Codec.{encodeArea, decodeAreaIn}
 use Rattle.model.specs.Definitions.Older.{older}
 use Rattle.model.specs.Laws.CodecBack.{area-inside}
 use Rattle.fields.proofs.Lent.{lent-written}
-use Rattle.conversion.specs.Blocks.{clearedArea, lent-area, lent-widened}
+use Rattle.conversion.specs.Blocks.{lent-area, lent-widened}
 use borrow.Author.Needs.{needs}
 use Rattle.conversion.proofs.block.write_area_at.Statement.{statement}
 use Rattle.conversion.proofs.block.write_area_at.Tie as tie
@@ -97,7 +97,7 @@ returns c =
     let wrote = c .before .before .write-area in
     let part = take (from .result + wide .result - from .result) (drop (from .result) old) in
     lent-written (start .args .new .now) (wrote .last .1 .0) (at .result) (c .before .before .before .before .before .area-size .result)
-    (λ _. encodeArea (clearedArea (decodeAreaIn older pages part)))
+    (λ _. encodeArea (decodeAreaIn older pages part))
     (omega (arith, area-inside today pages area (start .pre .2), start .pre .1)) (wrote .kept .1 .0) (wrote .ensures)
     ∙ rw (at .ensures, lent-widened pages area old (from .ensures) (wide .ensures))
 

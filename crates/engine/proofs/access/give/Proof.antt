@@ -1,7 +1,7 @@
 -- `engine::access::give` meets its contract: the bytes of a done call are copied, and of no other. Assumes nothing.
 use mathlib.Core.Path.{sym, ap, _∙_}
 use Rattle.model.specs.Definitions.Parts.{splice}
-use Rattle.model.specs.Laws.BlockFields.{splice-all}
+use Rattle.model.specs.Laws.Parts.{splice-all}
 use Rattle.model.specs.Laws.Parts.{part-all}
 use Rattle.engine.specs.Cells.{when-done, when-other}
 use borrow.Author.Needs.{needs}

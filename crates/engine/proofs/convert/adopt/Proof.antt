@@ -1,29 +1,28 @@
 -- `engine::convert::adopt` meets its contract: each return is one way through the call. Assumes nothing.
-use mathlib.Core.Path.{_≡_, sym}
-use mathlib.Core.Bool.{true, false}
+use mathlib.Core.Path.{_≡_, refl}
+use mathlib.Core.Bool.{true}
 use Rattle.model.specs.Definitions.Layout.{today}
 use Rattle.model.specs.Definitions.Older.{earlierWellFormed}
-use Rattle.model.specs.Laws.CodecBankBack.{encode-decode}
-use Rattle.model.specs.Laws.Conversion.{adopt-malformed, adopt-records}
+use Rattle.model.specs.Laws.Conversion.{adopted, adopt-malformed, adopt-records}
 use Rattle.validity.specs.Search.{failed, passed}
-use Rattle.engine.specs.Replies.{refused-replied, done-replied}
-use Rattle.engine.specs.Converting.{adopt-done, formed-head}
+use Rattle.engine.specs.Replies.{refused-replied, left-replied}
+use Rattle.engine.specs.Converting.{formed-head}
 use borrow.Author.Needs.{needs}
 use Rattle.engine.proofs.convert.adopt.Statement.{statement}
 use Rattle.engine.proofs.convert.adopt.Tie as tie
 
 -- what the first test says, once it passed
 formed : (c : tie.Else1) → earlierWellFormed (c .before .before .before .args .bank .now) ≡ true
-formed c = passed (c .before .well-formed-in .ensures) (c .if1 .left)
+formed c = passed (c .before .formed-in .ensures) (c .if1 .left)
 
-well-formed-in-requires : tie.Need-well-formed-in-requires
-well-formed-in-requires c κs = search needs
+formed-in-requires : tie.Need-formed-in-requires
+formed-in-requires c κs = search needs
 
 refuse-requires : tie.Need-refuse-requires
 refuse-requires c κs = search needs
 
 returns : tie.Need-returns
-returns c = refused-replied (adopt-malformed _ (failed (c .before .before .well-formed-in .ensures) (c .before .if1 .taken))) (c .refuse .ensures)
+returns c = refused-replied (adopt-malformed _ (failed (c .before .before .formed-in .ensures) (c .before .if1 .taken))) (c .refuse .ensures)
 
 no-records-requires : tie.Need-no-records-requires
 no-records-requires c κs = (search needs, formed-head today _ (formed c))
@@ -39,14 +38,13 @@ returns-2 c =
 returns-3 : tie.Need-returns-3
 returns-3 c =
     let tested = c .before in
-    let f = formed (tested .before) in
-    done-replied _ (adopt-done _ f (passed (tested .no-records .ensures) (c .if2 .left))) (sym (encode-decode today false _ f))
+    left-replied (adopted _ (formed (tested .before)) (passed (tested .no-records .ensures) (c .if2 .left))) refl
 
 pub adopt-spec : {M : Type 1} → statement M
 adopt-spec =
     tie.close
     (tie.spec
-    well-formed-in-requires
+    formed-in-requires
     refuse-requires
     returns
     no-records-requires

@@ -1,7 +1,7 @@
 -- `engine::convert::convert` meets its contract: each return is one way through the call. Assumes nothing.
 use mathlib.Core.Path.{_≡_, sym, _∙_}
 use native.Mathlib.Omega.{arith}
-use mathlib.Core.Bool.{true}
+use mathlib.Core.Bool.{true, false}
 use mathlib.Core.List.{List}
 use lib.ListN.{length}
 use lib.Dec.{eqb}
@@ -12,7 +12,7 @@ use Rattle.model.specs.Definitions.Layout.{boardsAt, pagesAt, bankSize}
 use Rattle.validity.specs.Search.{failed, passed}
 use Rattle.conversion.specs.Banks.{OlderBank}
 use Rattle.engine.specs.Replies.{refused-replied, done-replied}
-use Rattle.engine.specs.Converting.{convert-malformed, convert-length, convert-records, convert-done, formed-head, older-head}
+use Rattle.engine.specs.Converting.{convert-malformed, convert-length, convert-records, convert-done, formed-head, head-inside}
 use borrow.Author.Needs.{needs}
 use Rattle.engine.proofs.convert.convert.Statement.{statement}
 use Rattle.engine.proofs.convert.convert.Tie as tie
@@ -21,7 +21,7 @@ use Rattle.model.specs.Laws.CodecBankBack.{bytes-ok}
 
 -- what the test of the old bank says, once it passed, and then the numbers that were read
 formed : (c : tie.Else1) → olderWellFormed (c .before .before .before .before .args .old .now) ≡ true
-formed c = passed (c .before .well-formed-in .ensures) (c .if1 .left)
+formed c = passed (c .before .formed-in .ensures) (c .if1 .left)
 
 module _ (c : tie.After-wide2) where
   abbrev old : List ℕ
@@ -38,7 +38,7 @@ module _ (c : tie.After-wide2) where
 
   -- without a record it is one to convert
   known : noRecords (olderBank old) ≡ true → OlderBank (c .before .before .wide .result) (c .wide2 .result) old
-  known e = record { formed = good; empty = e; boards = boards; pages = pages }
+  known e = record { bank = record { formed = good; boards = boards; pages = pages }; empty = e }
 
 -- the target is as long as it should be, and then no record was found
 as-long : (c : tie.Else2)
@@ -49,23 +49,23 @@ as-long c = eq-eqb _ _ (c .if2 .left ∙ c .before .bank-size .ensures)
 none : (c : tie.Else3) → noRecords (olderBank (old (c .before .before .before .before))) ≡ true
 none c = passed (c .before .no-records .ensures) (c .if3 .left)
 
-well-formed-in-requires : tie.Need-well-formed-in-requires
-well-formed-in-requires c κs = search needs
+formed-in-requires : tie.Need-formed-in-requires
+formed-in-requires c κs = search needs
 
 refuse-requires : tie.Need-refuse-requires
 refuse-requires c κs = search needs
 
 returns : tie.Need-returns
-returns c = refused-replied (convert-malformed _ _ (failed (c .before .before .well-formed-in .ensures) (c .before .if1 .taken))) (c .refuse .ensures)
+returns c = refused-replied (convert-malformed _ _ (failed (c .before .before .formed-in .ensures) (c .before .if1 .taken))) (c .refuse .ensures)
 
 get-requires : tie.Need-get-requires
-get-requires c κs = omega (arith, older-head _ (formed c))
+get-requires c κs = omega (arith, head-inside older false _ (formed c))
 
 wide-requires : tie.Need-wide-requires
 wide-requires c κs = search needs
 
 get-requires-2 : tie.Need-get-requires-2
-get-requires-2 c κs = omega (arith, older-head _ (formed (c .before .before)))
+get-requires-2 c κs = omega (arith, head-inside older false _ (formed (c .before .before)))
 
 wide-requires-2 : tie.Need-wide-requires-2
 wide-requires-2 c κs = search needs
@@ -118,7 +118,7 @@ pub convert-spec : {M : Type 1} → statement M
 convert-spec =
     tie.close
     (tie.spec
-    well-formed-in-requires
+    formed-in-requires
     refuse-requires
     returns
     get-requires

@@ -8,7 +8,7 @@ use Rattle.model.specs.Definitions.Codec.{encode, decode}
 use Rattle.model.specs.Definitions.Steps.{withFuse, fuseBoard}
 use Rattle.model.specs.Laws.BoardFields.{withFuse-fields}
 use Rattle.steps.specs.BankBlocks.{LentBlock, lent-in, lent-fields, lent-block, lent-step}
-use Rattle.exchange.specs.Banks.{lent-of}
+use Rattle.copies.specs.Banks.{lent-of}
 use borrow.Author.Needs.{needs}
 use Rattle.engine.proofs.fuse.fuse_board.Statement.{statement}
 use Rattle.engine.proofs.fuse.fuse_board.Tie as tie

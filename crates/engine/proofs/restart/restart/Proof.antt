@@ -6,7 +6,7 @@ use Rattle.model.specs.Definitions.Calls.{Restarting}
 use Rattle.model.specs.Laws.Codes.Statement.{boardNamed}
 use Rattle.model.specs.Laws.Keeps.Clauses.{isDown-down}
 use Rattle.validity.specs.Search.{failed, passed}
-use Rattle.exchange.specs.Banks.{holds-decode}
+use Rattle.copies.specs.Banks.{holds-decode}
 use Rattle.checks.specs.Findings.{OnBoard, on-bank, on-formed, on-small, board-says}
 use Rattle.engine.specs.Replies.{refused-replied, found-replied}
 use Rattle.engine.specs.Restarts.{resumed-inReplay, resumed-of, restart-refused, goes-replied, ends-replied}

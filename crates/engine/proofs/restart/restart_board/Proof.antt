@@ -5,7 +5,7 @@ use Rattle.model.specs.Definitions.Bank.{Board}
 use Rattle.model.specs.Definitions.Codec.{decode}
 use Rattle.model.specs.Definitions.Replay.{replayOver}
 use Rattle.steps.specs.BankBlocks.{LentBlock, lent-in, lent-fields, lent-block, lent-board}
-use Rattle.exchange.specs.Banks.{lent-of, lent-holds}
+use Rattle.copies.specs.Banks.{lent-of, lent-holds}
 use Rattle.engine.specs.Restarts.{restarted, restarted-fields}
 use borrow.Author.Needs.{needs}
 use Rattle.engine.proofs.restart.restart_board.Statement.{statement}

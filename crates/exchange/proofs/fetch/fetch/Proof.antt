@@ -2,7 +2,7 @@
 use native.Mathlib.Omega.{arith}
 use Rattle.model.specs.Definitions.Steps.{fetch}
 use Rattle.steps.specs.Asked.{got}
-use Rattle.exchange.specs.Directory.{of-owner}
+use Rattle.copies.specs.Directory.{of-owner}
 use Rattle.exchange.specs.Fetching.{one-page}
 use borrow.Author.Needs.{needs}
 use Rattle.exchange.proofs.fetch.fetch.Statement.{statement}

@@ -5,9 +5,9 @@ use Prim.Native.Nat.{_-_, _<_}
 use native.Mathlib.Omega.{arith}
 use lib.ListN.{length}
 use Rattle.model.specs.Definitions.Codec.{decode}
+use Rattle.copies.specs.Directory.{of-board, of-owner}
 use Rattle.exchange.specs.Progress.{lostBy, lossOf}
 use Rattle.steps.specs.Asked.{got}
-use Rattle.exchange.specs.Directory.{of-board, of-owner}
 use Rattle.exchange.specs.ReadFetches.{Showing, showing-first, showing-skip, show-giver, show-can, showing-lost, showing-on, showing-last}
 use borrow.Author.Needs.{needs}
 use Rattle.exchange.proofs.fetch.show_all.Statement.{statement}

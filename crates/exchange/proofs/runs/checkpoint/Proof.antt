@@ -7,7 +7,7 @@ use Rattle.model.specs.Definitions.BoardRuns.{checkpointOn}
 use Rattle.steps.specs.BankBlocks.{LentBlock, lent-in, lent-fields, lent-block}
 use Rattle.stores.specs.RunFields.{checkpointOn-fields}
 use Rattle.stores.specs.Lifted.{checkpoint-lifted}
-use Rattle.exchange.specs.Banks.{lent-of}
+use Rattle.copies.specs.Banks.{lent-of}
 use Rattle.exchange.specs.LentRuns.{run-of, run-going, run-lost}
 use borrow.Author.Needs.{needs}
 use Rattle.exchange.proofs.runs.checkpoint.Statement.{statement}

@@ -8,7 +8,7 @@ use Rattle.model.specs.Definitions.BoardRuns.{loggedOn}
 use Rattle.steps.specs.BankBlocks.{LentBlock, lent-in, lent-fields, lent-block, lent-board}
 use Rattle.stores.specs.RunFields.{loggedOn-fields}
 use Rattle.stores.specs.Lifted.{logged-lifted}
-use Rattle.exchange.specs.Banks.{lent-of}
+use Rattle.copies.specs.Banks.{lent-of}
 use Rattle.exchange.specs.LentRuns.{run-of, run-going, run-lost}
 use borrow.Author.Needs.{needs}
 use Rattle.exchange.proofs.runs.log_through.Statement.{statement}

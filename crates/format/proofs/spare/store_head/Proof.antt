@@ -1,9 +1,6 @@
 -- `format::spare::store_head` meets its contract: the spare area is lent. Assumes nothing.
 use native.Mathlib.Omega.{arith}
-use mathlib.Core.List.{[], _∷_, _++_}
-use Rattle.words.specs.LittleEndian.{bytesOf}
-use Rattle.model.specs.Definitions.Layout.{numberSize, areaNumberAt}
-use Rattle.model.specs.Definitions.Parts.{splice}
+use Rattle.format.specs.Areas.{headStored}
 use Rattle.format.proofs.LentArea.{lent-area-written}
 use borrow.Author.Needs.{needs}
 use Rattle.format.proofs.spare.store_head.Statement.{statement}
@@ -39,7 +36,7 @@ returns c =
     let wrote = c .before .before .store-head in
     lent-area-written (start .args .block .now) _ _ _ _ (c .before .before .before .before .before .spare-at .ensures .0)
     (c .before .before .before .before .area-size .ensures)
-    (wrote .last .0) (λ a. splice a areaNumberAt (bytesOf numberSize (start .args .number) ++ (0 ∷ [])))
+    (wrote .last .0) (headStored (start .args .pages) (start .args .number))
     (omega arith) (wrote .kept .0) (wrote .ensures)
 
 pub store-head-spec : {M : Type 1} → statement M

@@ -4,7 +4,7 @@ use Prim.Native.Nat.{_-_, _%_}
 use native.Mathlib.Nat.{mod-eq-of-lt}
 use native.Mathlib.Omega.{arith}
 use Rattle.model.specs.Definitions.Layout.{blockSize}
-use Rattle.model.specs.Laws.Fresh.{zeros-length}
+use Rattle.model.specs.Laws.Zeros.{zeros-length}
 use Rattle.fresh.specs.Rights.{own-again}
 use Rattle.fresh.specs.Block.{blockBelow, below-length, below-first, below-next, below-last}
 use Rattle.fresh.proofs.block.write_block.Statement.{statement}

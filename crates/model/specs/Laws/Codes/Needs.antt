@@ -156,7 +156,7 @@ module _ (b : ℕ) (a : Access) (k : Bank) (c : ℕ) (below : c < mostBoards) wh
       (λ u. omega (arith, needs-most 0 pages (u .0) (u .1), u .2))
       (says-lt
       slotCount
-      (length (boardAt k c .stable .selected .log .records) + length (boardAt k c .working .log .records) + need b a k c))
+      (length (boardAt k c .stable .selected .log) + length (boardAt k c .working .log) + need b a k c))
 
 module _ (b : ℕ) (a : Access) (k : Bank) where
   module _ (boards : length (k .boards) ≤ mostBoards) where

@@ -125,7 +125,7 @@ module _ (b : ℕ) (a : Access) (k : Bank) (boards : length (k .boards) ≤ most
   judgedOn-replayed : LastDue a (boardAt k b) → afterReplay b k .lost ≡ none → JudgedOn b a k (afterReplay b k .bank)
   judgedOn-replayed d l = record { live = replayEnded s (d .2) (d .3) l; only = λ i o. live-replayed i o .2; boards = ended-boards }
 
-  replaying-judged : b < length (k .boards) → boardAt k b .working .place < length (boardAt k b .stable .selected .log .records)
+  replaying-judged : b < length (k .boards) → boardAt k b .working .place < length (boardAt k b .stable .selected .log)
       → ¬ ReplayOther a (boardAt k b) → Judged Ran (liveRows b a k) (replaying b a k .answer)
   unfolding replaying liveAfterEnd afterReplay code
   replaying-judged h p n =
@@ -160,7 +160,7 @@ unfolding AccessOut
 in-range b a k n = lt-of-not-le (λ h. n (inl h))
 
 replaying-place : (k : Bank) (b : ℕ) → WellFormed k → b < length (k .boards) → boardAt k b .state ≡ Replaying
-    → boardAt k b .working .place < length (boardAt k b .stable .selected .log .records)
+    → boardAt k b .working .place < length (boardAt k b .stable .selected .log)
 unfolding PlaceOk
 replaying-place k b w h e = rw e at (w .boards b h .place)
 

@@ -175,7 +175,7 @@ pub data Together : ℕ → List Record → List Record → Type 0 where
 
 -- "A got record is due when it is next and its count equals since." rs are the gots that are due together, if any, and what is left stands behind them.
 pub record Due (x : Board) (rs behind : List Record) : Type 0 where
-  pub next : drop (x .working .place) (x .stable .selected .log .records) ≡ rs ++ behind
+  pub next : drop (x .working .place) (x .stable .selected .log) ≡ rs ++ behind
   pub group : Together (x .working .since) rs behind
 
 -- "an access that needs it: its page, a read with right none for copy, a write without right own for own"; "It needs them if their pages rise and it lacks

@@ -202,7 +202,7 @@ in-gots n (r ∷ rs) behind (got f c d) =
 pub due-found : (x : Board) → (behind : List Record) × Due x (due x) behind
 unfolding due recordsLeft
 due-found x =
-    let d = gots-in (drop (x .working .place) (x .stable .selected .log .records)) (x .working .since) in
+    let d = gots-in (drop (x .working .place) (x .stable .selected .log)) (x .working .since) in
     (d .behind, record { next = d .next; group = d .group })
 
 pub due-same : (x : Board) (rs behind : List Record) → Due x rs behind → due x ≡ rs
@@ -256,11 +256,11 @@ no-more (x ∷ xs) h = absurd (omega arith)
 
 module _ (x : Board) (rs behind : List Record) (d : Due x rs behind) where
   -- the records that replay has left, counted
-  left-count : length (x .stable .selected .log .records) - x .working .place ≡ length rs + length behind
+  left-count : length (x .stable .selected .log) - x .working .place ≡ length rs + length behind
   left-count =
-      let e : length (drop (x .working .place) (x .stable .selected .log .records)) ≡ length (rs ++ behind) = ap length (d .next) in
-      let f : length (drop (x .working .place) (x .stable .selected .log .records)) ≡ length (x .stable .selected .log .records) - x .working .place =
-      length-drop (x .working .place) (x .stable .selected .log .records) in
+      let e : length (drop (x .working .place) (x .stable .selected .log)) ≡ length (rs ++ behind) = ap length (d .next) in
+      let f : length (drop (x .working .place) (x .stable .selected .log)) ≡ length (x .stable .selected .log) - x .working .place =
+      length-drop (x .working .place) (x .stable .selected .log) in
       omega (arith, length-append rs behind)
 
   -- replay is over with the due gots where no record is behind them
@@ -271,7 +271,7 @@ module _ (x : Board) (rs behind : List Record) (d : Due x rs behind) where
       says-iff
       (λ l. no-more behind (omega (arith, left-count)))
       (λ e. let z : length behind ≡ 0 = ap length e in omega (arith, left-count))
-      (says-le (length (x .stable .selected .log .records)) (tookGots (due x) (x .working) .place))
+      (says-le (length (x .stable .selected .log)) (tookGots (due x) (x .working) .place))
 
   -- the access lacks a page that none of the due gots brings
   abbrev OtherPage : Access → Type 0
@@ -316,7 +316,7 @@ replay-other a x = (
 abbrev pub LastDue : Access → Board → Type 0
 LastDue a x = (r : Record) × (rs : List Record) × Due x (r ∷ rs) [] × NeedsGots a (x .working .frames) (r ∷ rs)
 
-last-found : (a : Access) (x : Board) (rs : List Record) → x .working .place < length (x .stable .selected .log .records)
+last-found : (a : Access) (x : Board) (rs : List Record) → x .working .place < length (x .stable .selected .log)
     → Due x rs [] → ¬ ReplayOther a x → LastDue a x
 last-found a x [] h d o = absurd (omega (arith, left-count x [] [] d))
 last-found a x (r ∷ rs) h d o =
@@ -325,7 +325,7 @@ last-found a x (r ∷ rs) h d o =
     (λ t. (r, rs, d, needs .0 t))
     (λ t. absurd (o (r ∷ rs, [], d, inl (fails needs t))))
 
-pub last-due : (a : Access) (x : Board) → x .working .place < length (x .stable .selected .log .records) → ¬ ReplayOther a x
+pub last-due : (a : Access) (x : Board) → x .working .place < length (x .stable .selected .log) → ¬ ReplayOther a x
     → Says (replayOver (tookDue x)) (LastDue a x)
 last-due a x h o = (
   λ t.

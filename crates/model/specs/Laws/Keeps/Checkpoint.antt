@@ -7,7 +7,7 @@ use mathlib.Core.List.{List}
 use lib.ListN.{length}
 use Rattle.types.specs.declared.State.the-variants.{Replaying}
 use Rattle.model.specs.Definitions.Layout.{mostPages, slotCount}
-use Rattle.model.specs.Definitions.Bank.{Entry, Area, Board, emptyLog, onWorking, onSpare}
+use Rattle.model.specs.Definitions.Bank.{Entry, Area, Board, onWorking, onSpare}
 use Rattle.model.specs.Definitions.WellFormed.{FieldsOk, Blank}
 use Rattle.model.specs.Definitions.Steps.{storedFrame, storedHead, storedSelector, restedWorking}
 use Rattle.model.specs.Laws.Keeps.Clauses.{place-idle, blank-same, fits-kept}
@@ -37,11 +37,11 @@ storedFrame-fits d b p x h = onSpare-fits d b _ x h (storedFrame-fields (length 
 
 pub storedHead-fits : (d : List Entry) (b : ℕ) (x : Board) → length d ≤ mostPages → Fits d b x → Fits d b (storedHead x)
 unfolding storedHead
-storedHead-fits d b x m h = onSpare-fits d b _ x h (storedHead-fields (length d) x (h .alone .fields) m)
+storedHead-fits d b x m h = onSpare-fits d b _ x h (storedHead-fields (length d) x (h .alone .fields))
 
 -- the two areas change places: the records of the spare one must leave room for the volatile ones, and no replay may go by the selected one
 pub storedSelector-fits : (d : List Entry) (b : ℕ) (x : Board) → Fits d b x → x .state ≢ Replaying
-    → length (x .stable .spare .log .records) + length (x .working .log .records) ≤ slotCount → Fits d b (storedSelector x)
+    → length (x .stable .spare .log) + length (x .working .log) ≤ slotCount → Fits d b (storedSelector x)
 unfolding storedSelector
 storedSelector-fits d b x h u m =
     record {
@@ -59,7 +59,7 @@ storedSelector-fits d b x h u m =
 
 -- "then since is 0 and the volatile log is emptied and zeroed"
 pub rested-fits : (d : List Entry) (b : ℕ) (x : Board) → Fits d b x → Fits d b (onWorking restedWorking x)
-unfolding onWorking restedWorking emptyLog
+unfolding onWorking restedWorking
 rested-fits d b x h =
     fits-kept x (onWorking restedWorking x) h
     (record {

@@ -67,7 +67,7 @@ up-left Replaying n h = clash refl h
 
 -- a step that leaves the place alone and takes no stored record away
 pub place-kept : (s : State) (x y : Board) → PlaceOk s x → y .working .place ≡ x .working .place
-    → length (x .stable .selected .log .records) ≤ length (y .stable .selected .log .records) → PlaceOk s y
+    → length (x .stable .selected .log) ≤ length (y .stable .selected .log) → PlaceOk s y
 unfolding PlaceOk
 place-kept Up x y h e l = omega arith
 place-kept Down x y h e l = omega arith
@@ -80,13 +80,13 @@ place-idle Up x y u h e = omega arith
 place-idle Down x y u h e = omega arith
 place-idle Replaying x y u h e = absurd (u refl)
 
-pub place-replaying : (s : State) (x : Board) → s ≡ Replaying → x .working .place < length (x .stable .selected .log .records) → PlaceOk s x
+pub place-replaying : (s : State) (x : Board) → s ≡ Replaying → x .working .place < length (x .stable .selected .log) → PlaceOk s x
 unfolding PlaceOk
 place-replaying Up x e h = up-not-replaying refl e
 place-replaying Down x e h = down-not-replaying refl e
 place-replaying Replaying x e h = h
 
-pub replaying-place : (s : State) (x : Board) → s ≡ Replaying → PlaceOk s x → x .working .place < length (x .stable .selected .log .records)
+pub replaying-place : (s : State) (x : Board) → s ≡ Replaying → PlaceOk s x → x .working .place < length (x .stable .selected .log)
 unfolding PlaceOk
 replaying-place Up x e h = up-not-replaying refl e
 replaying-place Down x e h = down-not-replaying refl e
@@ -97,7 +97,7 @@ blank-same x y h w f =
     record {
       number = ap (λ (v : Working). v .number) w ∙ h .number;
       since = ap (λ (v : Working). v .since) w ∙ h .since;
-      volatile = ap (λ (v : Working). v .log .records) w ∙ h .volatile;
+      volatile = ap (λ (v : Working). v .log) w ∙ h .volatile;
       frames = rw w (h .frames);
       fuse = f ∙ h .fuse;
     }
@@ -108,7 +108,7 @@ alone-up u v f r = record { fields = v; fuse = f; room = r; replaying = λ e. up
 
 -- a step that leaves state, place and frames alone and takes no stored record away
 pub fits-kept : {d : List Entry} {b : ℕ} (x y : Board) → Fits d b x → Alone (length d) y → y .state ≡ x .state → y .working .place ≡ x .working .place
-    → y .working .frames ≡ x .working .frames → length (x .stable .selected .log .records) ≤ length (y .stable .selected .log .records) → Fits d b y
+    → y .working .frames ≡ x .working .frames → length (x .stable .selected .log) ≤ length (y .stable .selected .log) → Fits d b y
 fits-kept x y h a s p f l =
     record {
       alone = a;

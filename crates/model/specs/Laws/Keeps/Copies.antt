@@ -267,7 +267,7 @@ module _ (b p : ℕ) (ps : List ℕ) (k : Bank) (c : CanTake b (p ∷ ps) k) (ri
             (omega (
               arith,
               c .room,
-              length-append (boardAt k b .working .log .records)
+              length-append (boardAt k b .working .log)
                   (record { count = boardAt k b .working .since; kind = Got GotCopy p; peer = from; bytes = frameOf k from p .bytes } ∷ []),
             ));
         rights =

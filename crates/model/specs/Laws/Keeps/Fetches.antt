@@ -36,9 +36,9 @@ use Rattle.model.specs.Laws.Keeps.Rights.{or-cases, or-none}
 -- ---- rooms
 
 -- stored and volatile records counted together
-length-records : (x : Board) → length (recordsOf x) ≡ length (x .stable .selected .log .records) + length (x .working .log .records)
+length-records : (x : Board) → length (recordsOf x) ≡ length (x .stable .selected .log) + length (x .working .log)
 unfolding recordsOf
-length-records x = length-append (x .stable .selected .log .records) (x .working .log .records)
+length-records x = length-append (x .stable .selected .log) (x .working .log)
 
 -- a record noted takes one slot of the room, a flush takes none
 pub room-noted : (n : ℕ) (kind : Kind) (peer : ℕ) (bytes : List ℕ) (x y : Board) → FlushedWith kind peer bytes x y → RoomFor (n + 1) x → RoomFor n y
@@ -49,7 +49,7 @@ room-noted n kind peer bytes x y f m =
       ap length (f .records),
       length-records y,
       length-records (onWorking (recorded kind peer bytes) x),
-      length-append (x .working .log .records) (record { count = x .working .since; kind = kind; peer = peer; bytes = bytes } ∷ []),
+      length-append (x .working .log) (record { count = x .working .since; kind = kind; peer = peer; bytes = bytes } ∷ []),
     )
 
 -- room for fewer

@@ -25,7 +25,7 @@ unfolding onWorking recorded appended
 recorded-fits d b kind peer bytes x h u m v =
     fits-kept x (onWorking (recorded kind peer bytes) x) h
     (alone-up u (recorded-fields (h .alone .fields) kind peer bytes v (omega arith)) (h .alone .fuse)
-    (rw (length-append (x .working .log .records) (record { count = x .working .since; kind = kind; peer = peer; bytes = bytes } ∷ [])) (omega arith)))
+    (rw (length-append (x .working .log) (record { count = x .working .since; kind = kind; peer = peer; bytes = bytes } ∷ [])) (omega arith)))
     refl refl refl (omega arith)
 
 -- "Record: ..", by an up board with room for one more, of another board
@@ -39,12 +39,12 @@ note-keeps b kind peer bytes k w u m v o =
 -- ---- a record stored
 
 -- stored and volatile together stay as many
-movedRecord-fits : (d : List Entry) (b : ℕ) (r : Record) (rs : List Record) (x : Board) → x .working .log .records ≡ r ∷ rs → Fits d b x
+movedRecord-fits : (d : List Entry) (b : ℕ) (r : Record) (rs : List Record) (x : Board) → x .working .log ≡ r ∷ rs → Fits d b x
     → Fits d b (movedRecord r rs x)
 unfolding movedRecord appended
 movedRecord-fits d b r rs x e h =
-    let n : length (x .working .log .records) ≡ suc (length rs) = ap length e in
-    let m : length (x .stable .selected .log .records ++ (r ∷ [])) ≡ _ = length-append (x .stable .selected .log .records) (r ∷ []) in
+    let n : length (x .working .log) ≡ suc (length rs) = ap length e in
+    let m : length (x .stable .selected .log ++ (r ∷ [])) ≡ _ = length-append (x .stable .selected .log) (r ∷ []) in
     fits-kept x (movedRecord r rs x) h
     (record {
       fields = movedRecord-fields (h .alone .fields) r rs e (h .alone .room);

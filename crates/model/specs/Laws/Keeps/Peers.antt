@@ -11,7 +11,7 @@ use Rattle.words.specs.Bytes.{Each, each-nil, each-cons}
 use Rattle.types.specs.declared.Frame.{Frame}
 use Rattle.types.specs.declared.Kind.{Kind}
 use Rattle.types.specs.declared.Record.{Record}
-use Rattle.model.specs.Definitions.Bank.{Working, Board, emptyFrame, emptyLog, onWorking, onFrames, onSpare}
+use Rattle.model.specs.Definitions.Bank.{Working, Board, emptyFrame, onWorking, onFrames, onSpare}
 use Rattle.model.specs.Definitions.WellFormed.{PeerOk, PeersOk}
 use Rattle.model.specs.Definitions.Steps.{poweredOff, withFuse, burnt, appended, recorded, movedRecord, storedRecord, storedFrame, storedHead}
 use Rattle.model.specs.Definitions.Steps.{storedSelector, restedWorking, Access, accessed, withFrame, dropped}
@@ -89,11 +89,11 @@ module _ {n b : ℕ} where
   -- ---- records gone
 
   pub poweredOff-peers : (x : Board) → PeersOk n b x → PeersOk n b (poweredOff x)
-  unfolding poweredOff emptyLog
+  unfolding poweredOff
   poweredOff-peers x h = record { volatile = each-nil; selected = h .selected; spare = h .spare }
 
   pub rested-peers : (x : Board) → PeersOk n b x → PeersOk n b (onWorking restedWorking x)
-  unfolding onWorking restedWorking emptyLog
+  unfolding onWorking restedWorking
   rested-peers x h = record { volatile = each-nil; selected = h .selected; spare = h .spare }
 
   pub storedHead-peers : (x : Board) → PeersOk n b x → PeersOk n b (storedHead x)
@@ -118,7 +118,7 @@ module _ {n b : ℕ} where
       let all : Each (PeerOk _ n b) (r ∷ rs) = rw e at (h .volatile) in
       record {
         volatile = each-tail all;
-        selected = each-append (x .stable .selected .log .records) (r ∷ []) (h .selected) (each-cons (each-head all) each-nil);
+        selected = each-append (x .stable .selected .log) (r ∷ []) (h .selected) (each-cons (each-head all) each-nil);
         spare = h .spare;
       })
 
@@ -129,7 +129,7 @@ module _ {n b : ℕ} where
     unfolding onWorking recorded appended PeerOk
     recorded-peers kind bytes h =
         record {
-          volatile = each-append (x .working .log .records) _ (h .volatile) (each-cons (inside, other) each-nil);
+          volatile = each-append (x .working .log) _ (h .volatile) (each-cons (inside, other) each-nil);
           selected = h .selected;
           spare = h .spare;
         }

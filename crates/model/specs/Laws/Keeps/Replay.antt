@@ -21,7 +21,7 @@ use Rattle.types.specs.declared.State.the-variants.{Down, Replaying}
 use Rattle.words.specs.Bytes.{Each}
 use Rattle.model.specs.Definitions.Parts.{member}
 use Rattle.model.specs.Definitions.Layout.{lastSince, lastNumber}
-use Rattle.model.specs.Definitions.Bank.{Entry, Log, Working, Board, Bank, emptyFrame, boardAt, entryAt, frameAt, onWorking, entryIn}
+use Rattle.model.specs.Definitions.Bank.{Entry, Working, Board, Bank, emptyFrame, boardAt, entryAt, frameAt, onWorking, entryIn}
 use Rattle.model.specs.Definitions.Codec.{pageOf}
 use Rattle.model.specs.Definitions.WellFormed.{isGot, RecordOk, FramesOk, PlaceOk, rightIn, WellFormed, WorkingOk}
 use Rattle.model.specs.Definitions.Steps.{Access, cellsWritten, accessed}
@@ -93,7 +93,7 @@ useUp-used {pages} (r ∷ rs) w v =
 
 -- the working memory of a replaying board replaced: fewer records are left, and no right is looked at before the end
 inReplay-used : (d : List Entry) (b : ℕ) (x : Board) (v : Working) → InReplay d b x
-    → Used (length d) (length (x .stable .selected .log .records) - x .working .place) (x .working) v → InReplay d b (onWorking (λ w. v) x)
+    → Used (length d) (length (x .stable .selected .log) - x .working .place) (x .working) v → InReplay d b (onWorking (λ w. v) x)
 unfolding onWorking
 inReplay-used d b x v h u =
     record {
@@ -102,7 +102,7 @@ inReplay-used d b x v h u =
             fields = onWorking-fields (h .alone .fields) (λ w. v) (u .ok);
             fuse = h .alone .fuse;
             room = rw (u .log) (h .alone .room);
-            replaying = λ e. ap (λ (l : Log). l .records) (u .log) ∙ h .alone .replaying e;
+            replaying = λ e. (u .log) ∙ h .alone .replaying e;
             down = λ e. down-not-replaying e (h .state);
           };
       state = h .state;
@@ -114,7 +114,7 @@ inReplay-used d b x v h u =
 pub usedUp-inReplay : (d : List Entry) (b : ℕ) (x : Board) → InReplay d b x → InReplay d b (usedUp x)
 unfolding usedUp recordsLeft onWorking
 usedUp-inReplay d b x h =
-    let rs : List Record = x .stable .selected .log .records in
+    let rs : List Record = x .stable .selected .log in
     let n : length (drop (x .working .place) rs) ≡ length rs - x .working .place = length-drop (x .working .place) rs in
     inReplay-used d b x (useUp (recordsLeft x) (x .working)) h
     (rw n at (useUp-used (recordsLeft x) (x .working) (h .alone .fields .working)))
@@ -153,7 +153,7 @@ took-used {pages} (r ∷ rs) since w e v =
 pub tookDue-inReplay : (d : List Entry) (b : ℕ) (x : Board) → InReplay d b x → InReplay d b (tookDue x)
 unfolding tookDue due recordsLeft onWorking
 tookDue-inReplay d b x h =
-    let rs : List Record = x .stable .selected .log .records in
+    let rs : List Record = x .stable .selected .log in
     let n : length (drop (x .working .place) rs) ≡ length rs - x .working .place = length-drop (x .working .place) rs in
     inReplay-used d b x (tookGots (due x) (x .working)) h
     (rw n at (took-used (recordsLeft x) (x .working .since) (x .working)

@@ -12,13 +12,12 @@ use borrow.Author.Tests.{eqb-false}
 use Rattle.types.specs.declared.State.the-variants.{Down}
 use Rattle.model.specs.Definitions.Parts.{member, withoutMember}
 use Rattle.model.specs.Definitions.Layout.{noFuse}
-use Rattle.model.specs.Definitions.Bank.{Entry, Board, Bank, emptyFrame, emptyLog, boardAt, onBoard, noEntry, entryIn}
+use Rattle.model.specs.Definitions.Bank.{Entry, Board, Bank, emptyFrame, boardAt, onBoard, noEntry, entryIn}
 use Rattle.model.specs.Definitions.WellFormed.{PlaceOk, EntryOk, WellFormed, FieldsOk}
 use Rattle.model.specs.Definitions.Steps.{Run, step, poweredOff, forgotten, powerOff, withFuse, burnt, store}
 use Rattle.model.specs.Laws.Logic.{byEq, cases}
 use Rattle.model.specs.Laws.Lists.{each-map}
 use Rattle.model.specs.Laws.Sets.{member-without-same, member-without-other, without-le}
-use Rattle.model.specs.Laws.WrittenTests.{log-count}
 use Rattle.model.specs.Laws.Boards.{getD-map-below, each-map-of, rightIn-same, boardAt-same, boards-powerOff, boardAt-powerOff-same}
 use Rattle.model.specs.Laws.Boards.{boardAt-powerOff-other, powerOff-onBoard}
 use Rattle.model.specs.Laws.Runs.{step-cases, store-cases}
@@ -54,14 +53,14 @@ forgotten-same b c e n =
 -- a board without power, in a directory that lists no copy of it
 poweredOff-fits : (d d′ : List Entry) (b : ℕ) (x : Board) → length d′ ≡ length d → FieldsOk (length d) x
     → ((p : ℕ) → p < length d′ → member b (entryIn d′ p .copies) ≡ false) → Fits d′ b (poweredOff x)
-unfolding poweredOff emptyLog emptyFrame PlaceOk
+unfolding poweredOff emptyFrame PlaceOk
 poweredOff-fits d d′ b x l h absent =
     record {
       alone =
           record {
             fields = rw l (poweredOff-fields h);
             fuse = omega arith;
-            room = omega (arith, log-count (length d) (x .stable .selected .log) (h .selected .log));
+            room = omega (arith, h .selected .log .count);
             replaying = λ e. refl;
             down =
                 λ e.

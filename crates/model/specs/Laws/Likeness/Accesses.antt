@@ -55,14 +55,14 @@ module _ (f : Change) where
 
   sameOver : {x y : Board} → BoardAlike f x y → replayOver y ≡ replayOver x
   unfolding replayOver
-  sameOver e = rw (pairs-length (RecordAlike f) (e .stable .selected .log .records), e .working .place)
+  sameOver e = rw (pairs-length (RecordAlike f) (e .stable .selected .log), e .working .place)
 
 module _ (f : Change) (z : f .bytes 0 ≡ 0) where
   alike-flush : (b : ℕ) {r s : Run} → RunAlike f r s → RunAlike f (flush b r) (flush b s)
   unfolding flush storeAll recordStores does mapped
   alike-flush b {r} {s} e =
-      let n : ℕ = length (boardAt (r .bank) b .working .log .records) in
-      let i : length (boardAt (s .bank) b .working .log .records) ≡ n = pairs-length (RecordAlike f) (alike-boardAt f b (e .bank) .working .log .records) in
+      let n : ℕ = length (boardAt (r .bank) b .working .log) in
+      let i : length (boardAt (s .bank) b .working .log) ≡ n = pairs-length (RecordAlike f) (alike-boardAt f b (e .bank) .working .log) in
       rw i (foldl-both (RunAlike f) _ (replicate n storedRecord) (each-replicate n storedRecord (λ r s d. moves-alike f z (StoreRecord b) d)) r s e)
 
   pub alike-checkpoint : (b : ℕ) {r s : Run} → RunAlike f r s → RunAlike f (checkpoint b r) (checkpoint b s)
@@ -261,7 +261,7 @@ module _ (f : Change) (z : f .bytes 0 ≡ 0) (b : ℕ) (a : Access) {k j : Bank}
   sameShort c =
       let x : BoardAlike f (boardAt k c) (boardAt j c) = alike-boardAt f c e in
       rw
-      (pairs-length (RecordAlike f) (x .stable .selected .log .records), pairs-length (RecordAlike f) (x .working .log .records), sameNeed c)
+      (pairs-length (RecordAlike f) (x .stable .selected .log), pairs-length (RecordAlike f) (x .working .log), sameNeed c)
 
   sameShortBoard : shortBoard b (mappedAccess (f .bytes) a) j ≡ shortBoard b a k
   unfolding shortBoard

@@ -72,8 +72,8 @@ module _ (f : Change) (z : f .bytes 0 ≡ 0) where
     unfolding unmatchedIn
     alike-unmatched x y e =
         cc (
-          alike-pages isGot x (alike-boardAt f y e .stable .selected .log .records),
-          alike-pages isShown y (alike-boardAt f x e .stable .selected .log .records),
+          alike-pages isGot x (alike-boardAt f y e .stable .selected .log),
+          alike-pages isShown y (alike-boardAt f x e .stable .selected .log),
         )
 
     alike-compared : (b c : ℕ) {k j : Bank} → Alike f k j → comparedLogs b c j ≡ comparedLogs b c k

@@ -47,7 +47,7 @@ module _ (f : Change) (z : f .bytes 0 ≡ 0) where
   alike-recordsLeft : {x y : Board} → BoardAlike f x y → EachPair (RecordAlike f) (recordsLeft x) (recordsLeft y)
   unfolding recordsLeft
   alike-recordsLeft {x} e =
-      rw (e .working .place) (pairs-drop (RecordAlike f) (x .working .place) (e .stable .selected .log .records))
+      rw (e .working .place) (pairs-drop (RecordAlike f) (x .working .place) (e .stable .selected .log))
 
   alike-used : {fs gs : List Frame} {x y : Working} → FramesAlike f fs gs → WorkingAlike f x y → WorkingAlike f (used fs x) (used gs y)
   unfolding used

@@ -12,7 +12,7 @@ use Rattle.types.specs.declared.Kind.the-variants.{Got, Shown, Dropped}
 use Rattle.types.specs.declared.Record.{Record}
 use Rattle.model.specs.Definitions.Parts.{zeros, withMember}
 use Rattle.model.specs.Definitions.Layout.{pageSize, noFuse}
-use Rattle.model.specs.Definitions.Bank.{Log, Board, Bank, frameAt, onBoard, onFrames}
+use Rattle.model.specs.Definitions.Bank.{Board, Bank, frameAt, onBoard, onFrames}
 use Rattle.model.specs.Definitions.Steps.{Run, step, poweredOff, powerOff, withFuse, burnt, store, appended, recorded, note, movedRecord, storedRecord}
 use Rattle.model.specs.Definitions.Steps.{storedFrame, storedHead, storedSelector, restedWorking, Access, Read, Write, ReadCells, Cell, cellsWritten}
 use Rattle.model.specs.Definitions.Steps.{withByte, withBytes, accessed, access, withFrame, frameOf, giveCopy, dropped, dropAt, dropCopies}
@@ -20,7 +20,7 @@ use Rattle.model.specs.Definitions.Steps.{passOwnership}
 use Rattle.model.specs.Likeness.{EachPair, pairs-nil, pairs-cons, FrameAlike, RecordAlike, FramesAlike, LogAlike, AreaAlike, WorkingAlike, BoardAlike}
 use Rattle.model.specs.Likeness.{Alike, RunAlike, mappedAccess, Change}
 use Rattle.model.specs.Laws.Likeness.{Preserve, perhaps-same, casesBoth, optionsBoth, pairs-set, pairs-each, pairs-map, pairs-append, map-set, map-zeros}
-use Rattle.model.specs.Laws.Likeness.{alike-emptyFrame, alike-frameAt, alike-emptyLog, alike-boardAt, alike-entryAt, alike-onBoard, alike-onEntry}
+use Rattle.model.specs.Laws.Likeness.{alike-emptyFrame, alike-frameAt, alike-boardAt, alike-entryAt, alike-onBoard, alike-onEntry}
 use Rattle.model.specs.Laws.Likeness.{alike-onWorking, alike-onSpare}
 
 -- ==== whatever f is
@@ -46,9 +46,9 @@ module _ (f : Change) where
 
   -- ---- records
 
-  alike-appended : {r s : Record} {l m : Log} → RecordAlike f r s → LogAlike f l m → LogAlike f (appended r l) (appended s m)
+  alike-appended : {r s : Record} {l m : List Record} → RecordAlike f r s → LogAlike f l m → LogAlike f (appended r l) (appended s m)
   unfolding appended
-  alike-appended i e = record { records = pairs-append (RecordAlike f) (e .records) (pairs-cons i pairs-nil) }
+  alike-appended i e = pairs-append (RecordAlike f) e (pairs-cons i pairs-nil)
 
   alike-recorded : (kind : Kind) (peer : ℕ) (l m : List ℕ) → m ≡ map (f .bytes) l → Preserve (WorkingAlike f) (recorded kind peer l) (recorded kind peer m)
   unfolding recorded
@@ -74,7 +74,7 @@ module _ (f : Change) where
       record {
         state = e .state;
         fuse = e .fuse;
-        working = record { number = w .number; since = w .since; place = w .place; frames = w .frames; log = record { records = is } };
+        working = record { number = w .number; since = w .since; place = w .place; frames = w .frames; log = is };
         stable =
             record {
               second = e .stable .second;
@@ -85,7 +85,7 @@ module _ (f : Change) where
 
   pub alike-storedRecord : Preserve (BoardAlike f) storedRecord storedRecord
   unfolding storedRecord
-  alike-storedRecord x y e = go (e .working .log .records)
+  alike-storedRecord x y e = go (e .working .log)
     where
       go : {l m : List Record} → EachPair (RecordAlike f) l m
           → BoardAlike f (elim l [ [] ↦ x | r ∷ rs ↦ movedRecord r rs x ]) (elim m [ [] ↦ y | s ∷ ss ↦ movedRecord s ss y ])
@@ -97,7 +97,7 @@ module _ (f : Change) where
   pub alike-storedHead : Preserve (BoardAlike f) storedHead storedHead
   unfolding storedHead
   alike-storedHead x y e =
-      alike-onSpare f (λ a c i. record { number = e .working .number; frames = i .frames; log = record { records = pairs-nil } }) e
+      alike-onSpare f (λ a c i. record { number = e .working .number; frames = i .frames; log = pairs-nil }) e
 
   pub alike-storedSelector : Preserve (BoardAlike f) storedSelector storedSelector
   unfolding storedSelector
@@ -112,7 +112,7 @@ module _ (f : Change) where
   pub alike-restedWorking : Preserve (WorkingAlike f) restedWorking restedWorking
   unfolding restedWorking
   alike-restedWorking x y e =
-      record { number = e .number; since = refl; place = e .place; frames = e .frames; log = alike-emptyLog f }
+      record { number = e .number; since = refl; place = e .place; frames = e .frames; log = pairs-nil }
 
   alike-withFrame : (p : ℕ) {c d : Frame} → FrameAlike f c d → Preserve (BoardAlike f) (withFrame p c) (withFrame p d)
   unfolding withFrame onFrames
@@ -139,7 +139,7 @@ module _ (f : Change) (z : f .bytes 0 ≡ 0) where
               since = refl;
               place = refl;
               frames = pairs-map (FrameAlike f) (λ x y i. alike-emptyFrame f z) (e .working .frames);
-              log = alike-emptyLog f;
+              log = pairs-nil;
             };
         stable = e .stable;
       }

@@ -25,7 +25,6 @@ use Rattle.model.specs.Moves.{taken, TakesCopy, first, behind}
 use Rattle.model.specs.Moves.{Guard}
 use Rattle.model.specs.History.Statement.{Event, Nothing}
 use Rattle.model.specs.Laws.Logic.{byOption}
-use Rattle.model.specs.Laws.WrittenTests.{log-count}
 use Rattle.model.specs.Laws.Runs.{lost-not, step-cases}
 use Rattle.model.specs.Laws.Keeps.Clauses.{but, whole, onBoard-but, onBoard-keeps, place-replaying, up-below, up-not-down, up-not-replaying}
 use Rattle.model.specs.Laws.Keeps.Peers.{loaded-peers, usedUp-peers, storedRecord-peers, storedFrame-peers, storedHead-peers}
@@ -152,7 +151,7 @@ move-formed s _ n (storesSelector b o u v) h =
     store-formed b storedSelector s n (selects-stores o) h
     (λ w f.
     storedSelector-fits (s .bank .directory) b x f (λ i. up-not-replaying u i)
-    (omega (arith, ap length (v .records), log-count (length (s .bank .directory)) (x .working .log) (f .alone .fields .working .log))))
+    (omega (arith, ap length (v .records), f .alone .fields .working .log .count)))
     (storedSelector-peers x) in
     formed-selected o
     (step-keeps (onBoard b (onWorking restedWorking)) t w
@@ -195,7 +194,7 @@ waits-formed {d} s n over h =
           (λ f.
           record {
             alone = f .alone;
-            place = place-replaying (x .state) x (f .state) (leb-false (length (x .stable .selected .log .records)) (x .working .place) over);
+            place = place-replaying (x .state) x (f .state) (leb-false (length (x .stable .selected .log)) (x .working .place) over);
             agreed = f .agreed;
           });
       lost = h .lost;

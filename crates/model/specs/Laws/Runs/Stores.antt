@@ -83,7 +83,7 @@ flushed-burnt x =
     }
 
 -- the record moves from the head of the volatile ones to the end of the stored ones
-flushed-movedRecord : (x : Board) (r : Record) (rs : List Record) → x .working .log .records ≡ r ∷ rs → Flushed x (movedRecord r rs x)
+flushed-movedRecord : (x : Board) (r : Record) (rs : List Record) → x .working .log ≡ r ∷ rs → Flushed x (movedRecord r rs x)
 unfolding movedRecord recordsOf appended
 flushed-movedRecord x r rs e =
     record {
@@ -94,7 +94,7 @@ flushed-movedRecord x r rs e =
       frames = refl;
       areaNumber = refl;
       areaFrames = refl;
-      records = rw (e, append-assoc (x .stable .selected .log .records) (r ∷ []) rs);
+      records = rw (e, append-assoc (x .stable .selected .log) (r ∷ []) rs);
     }
 
 pub flushed-storedRecord : (x : Board) → Flushed x (storedRecord x)
@@ -111,15 +111,15 @@ flush-changed b r e =
     (changed-storeAll b fs r e)
 
 -- one volatile record less
-volatile-storedRecord : (x : Board) (n : ℕ) → length (x .working .log .records) ≤ suc n → length (storedRecord x .working .log .records) ≤ n
+volatile-storedRecord : (x : Board) (n : ℕ) → length (x .working .log) ≤ suc n → length (storedRecord x .working .log) ≤ n
 unfolding movedRecord
 volatile-storedRecord x n h =
-    storedRecord-cases (λ y. length (y .working .log .records) ≤ n) x
+    storedRecord-cases (λ y. length (y .working .log) ≤ n) x
     (λ e. omega (arith, ap length e))
     (λ r rs e. omega (arith, ap length e))
 
-volatile-afterStores : (n : ℕ) (x : Board) → length (x .working .log .records) ≤ n
-    → length (afterStores (replicate n storedRecord) x .working .log .records) ≤ 0
+volatile-afterStores : (n : ℕ) (x : Board) → length (x .working .log) ≤ n
+    → length (afterStores (replicate n storedRecord) x .working .log) ≤ 0
 unfolding afterStores
 volatile-afterStores zero x h = h
 volatile-afterStores (suc n) x h =
@@ -131,12 +131,12 @@ no-records (r ∷ rs) h = absurd (not-suc-le-zero h)
 
 -- a whole flush leaves no volatile record
 pub flush-empties : (b : ℕ) (r : Run) → b < length (r .bank .boards) → flush b r .lost ≡ none
-    → boardAt (flush b r .bank) b .working .log .records ≡ []
+    → boardAt (flush b r .bank) b .working .log ≡ []
 unfolding flush recordStores
 flush-empties b r l e =
     let x : Board = boardAt (r .bank) b in
-    no-records (boardAt (flush b r .bank) b .working .log .records)
-    (rw (changed-storeAll b (recordStores x) r e .this l) (volatile-afterStores (length (x .working .log .records)) x (omega arith)))
+    no-records (boardAt (flush b r .bank) b .working .log)
+    (rw (changed-storeAll b (recordStores x) r e .this l) (volatile-afterStores (length (x .working .log)) x (omega arith)))
 
 -- ---- a record noted, then a flush
 
@@ -190,7 +190,7 @@ saving-spareStores pages x =
 pub record Headed (x y : Board) : Type 0 where
   pub saving : Saving x y
   pub number : y .stable .spare .number ≡ x .working .number
-  pub records : y .stable .spare .log .records ≡ []
+  pub records : y .stable .spare .log ≡ []
 
 -- the frames, then the head
 pub after-spareStores : (pages : ℕ) (x : Board) → afterStores (spareStores pages) x ≡ burnt (storedHead (afterStores (tabulate pages storedFrame) x))
@@ -208,7 +208,7 @@ headed-spareStores pages x =
     record {
       saving = s;
       number = ap (λ (u : Stable). u .spare .number) t ∙ ap (λ (v : Working). v .number) w;
-      records = ap (λ (u : Stable). u .spare .log .records) t;
+      records = ap (λ (u : Stable). u .spare .log) t;
     }
 
 -- after the whole checkpoint
@@ -216,7 +216,7 @@ pub record Checkpointed (x y : Board) : Type 0 where
   pub state : y .state ≡ x .state
   pub working : y .working ≡ restedWorking (x .working)
   pub number : y .stable .selected .number ≡ x .working .number
-  pub records : y .stable .selected .log .records ≡ []
+  pub records : y .stable .selected .log ≡ []
 
 headed-checkpointed : (x y z : Board) → Headed x y → z ≡ onWorking restedWorking (burnt (storedSelector y)) → Checkpointed x z
 unfolding onWorking storedSelector
@@ -228,7 +228,7 @@ headed-checkpointed x y z h e =
           ap (λ (u : Board). u .working) e
           ∙ ap restedWorking (burnt-working (storedSelector y) ∙ h .saving .working);
       number = ap (λ (u : Board). u .stable .selected .number) e ∙ ap (λ (s : Stable). s .selected .number) t ∙ h .number;
-      records = ap (λ (u : Board). u .stable .selected .log .records) e ∙ ap (λ (s : Stable). s .selected .log .records) t ∙ h .records;
+      records = ap (λ (u : Board). u .stable .selected .log) e ∙ ap (λ (s : Stable). s .selected .log) t ∙ h .records;
     }
 
 -- a checkpoint that isn't lost lost none of its stores

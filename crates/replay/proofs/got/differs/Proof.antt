@@ -55,7 +55,7 @@ start c = c .before .before .before .before .before .before
 
 -- the records that are stored; as many as are counted
 abbrev records : tie.At-loop Inv-loop μ-loop → List Record
-records c = boardOf (start c .args .pages) (start c .args .block .now) .stable .selected .log .records
+records c = boardOf (start c .args .pages) (start c .args .block .now) .stable .selected .log
 
 counted : (c : tie.At-loop Inv-loop μ-loop) → c .before .before .before .before .read-stored-count .result ≡ length (records c)
 counted c = c .before .before .before .before .read-stored-count .ensures ∙ stored-count (start c .pre)

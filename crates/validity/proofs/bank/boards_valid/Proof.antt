@@ -112,10 +112,15 @@ module _ (c : tie.After-block-at-in Inv-loop2 μ-loop2 Inv-loop μ-loop Inv-sear
     arith,
     index-in (blockSizeIn form pagesOf) (c .before .before .before .before .before .before .before .before .args .boards) boardOf
         (c .before .search-test .taken),
+    c .block-at-in .ensures,
+    c .before .before .before .before .block-size-in .ensures,
+    c .before .before .before .before .before .before .before .before .pre .1,
   )
 
   sized : BlockSized (form .sinceWidth) pagesOf block
-  sized = (omega arith, simp (length-take, length-drop) (omega (arith, inside)), omega arith)
+  sized =
+      let known = c .before .before .before .before .before .before .before .before .pre in
+      (known .0, simp (length-take, length-drop) (omega (arith, inside, c .before .before .before .before .block-size-in .ensures)), known .3)
 
 -- a block that fits has its counts in range
 counted : (c : tie.Else1 Inv-loop2 μ-loop2 Inv-loop μ-loop Inv-search μ-search)
@@ -158,12 +163,14 @@ records-inside c =
       arith,
       c .log-count .ensures,
       log-few (form here) (pagesOf here) (block here) (counted (c .before .before .before .before))
-          (c .before .before .before .loop .log) (omega arith),
+          (c .before .before .before .loop .log) (c .before .before .loop-test .taken),
     )
     in
     omega (
       arith,
-      log-inside (form here) (pagesOf here) (block here) (c .before .before .before .loop .log) (omega arith),
+      log-inside (form here) (pagesOf here) (block here) (c .before .before .before .loop .log) (c .before .before .loop-test .taken),
+      c .before .log-slots-at .ensures,
+      here .before .before .before .slot-size-in .ensures,
       mul-le-mul-right {m = c .log-count .result} {n = slotCount} size few,
     )
 
@@ -176,7 +183,7 @@ module _ (c : tie.In-loop2 Inv-loop2 μ-loop2 Inv-loop μ-loop Inv-search μ-sea
   sizeOf = c .before .before .before .before .before .before .before .before .before .before .before .before .slot-size-in .result
 
   counts : indexOf < c .before .before .log-count .result
-  counts = fewer sizeOf indexOf (c .before .before .log-count .result) (omega (arith, c .before .loop2 .inv .1 .0))
+  counts = fewer sizeOf indexOf (c .before .before .log-count .result) (omega (arith, c .before .loop2 .inv .1 .0, c .loop2-test .taken))
 
   record-inside :
       let here = c .before .before .before .before .before .before .before .before .before in
@@ -219,7 +226,8 @@ slot-failed c =
     (failed (tested (c .before)) (c .if2 .taken)))
     in
     board-failed (c .before .before .before .before .before .before .before .before .before)
-    (below-stop (logPasses (form here) (testOf here) (pagesOf here) (block here)) logs log (omega arith) short)
+    (below-stop (logPasses (form here) (testOf here) (pagesOf here) (block here)) logs log
+    (c .before .before .before .before .before .before .before .loop-test .taken) short)
 
 mul-n : tie.Need-mul-n Inv-loop2 μ-loop2 Inv-loop μ-loop Inv-search μ-search
 mul-n c = omega arith
@@ -286,16 +294,22 @@ log-count-requires :
 log-count-requires c κs = (sized (c .before .before .before .before .before .before), omega arith)
 
 mul-end : tie.Need-mul-end Inv-loop2 μ-loop2 Inv-loop μ-loop Inv-search μ-search
-mul-end c = omega (arith, records-inside c)
+mul-end c =
+    let known = c .before .before .before .before .before .before .before .before .before .before .before .before .before .before .before .pre in
+    omega (arith, records-inside c, known .0, known .3)
 
 add-end : tie.Need-add-end Inv-loop2 μ-loop2 Inv-loop μ-loop Inv-search μ-search
-add-end c = omega (arith, records-inside c)
+add-end c =
+    let known = c .before .before .before .before .before .before .before .before .before .before .before .before .before .before .before .pre in
+    omega (arith, records-inside c, known .0, known .3)
 
 loop2-holds : tie.Need-loop2-holds Inv-loop2 μ-loop2 Inv-loop μ-loop Inv-search μ-search
 loop2-holds c = (0, (omega arith, omega arith, below-none _))
 
 add-record-valid : tie.Need-add-record-valid Inv-loop2 μ-loop2 Inv-loop μ-loop Inv-search μ-search
-add-record-valid c = omega (arith, record-inside c)
+add-record-valid c =
+    let known = c .before .before .before .before .before .before .before .before .before .before .before .before .before .before .before .before .before .pre in
+    omega (arith, record-inside c, known .0, known .3)
 
 sub-record-valid : tie.Need-sub-record-valid Inv-loop2 μ-loop2 Inv-loop μ-loop Inv-search μ-search
 sub-record-valid c = omega arith
@@ -310,20 +324,24 @@ part-record-valid-end c = omega (arith, record-inside c, sized (c .before .befor
 record-valid-requires : tie.Need-record-valid-requires Inv-loop2 μ-loop2 Inv-loop μ-loop Inv-search μ-search
 record-valid-requires c κs =
     let here = c .before .before .before .before .before .before .before .before .before .before in
+    let known = here .before .before .before .before .before .before .before .before .pre in
     let size = here .before .before .before .slot-size-in in (
-      omega arith,
+      known .0,
       lent-length (block here) _ (size .result) (omega (arith, record-inside (c .before), sized here)) ∙ size .ensures,
-      omega arith,
+      known .3,
     )
 
 add-from : tie.Need-add-from Inv-loop2 μ-loop2 Inv-loop μ-loop Inv-search μ-search
-add-from c = omega (arith, record-inside (c .before .before .before))
+add-from c =
+    let known = c .before .before .before .before .before .before .before .before .before .before .before .before .before .before .before .before .before .before .before .before .pre in
+    omega (arith, record-inside (c .before .before .before), known .0, known .3)
 
 loop2-less : tie.Need-loop2-less Inv-loop2 μ-loop2 Inv-loop μ-loop Inv-search μ-search
 loop2-less c = omega (
   arith,
   c .before .before .before .before .before .before .before .before .before .before .before .before .before .before .before
       .slot-size-in .ensures,
+  c .before .before .before .loop2-test .taken,
 )
 
 loop2-again : tie.Need-loop2-again Inv-loop2 μ-loop2 Inv-loop μ-loop Inv-search μ-search
@@ -338,10 +356,10 @@ loop2-again c =
     )
 
 add-log : tie.Need-add-log Inv-loop2 μ-loop2 Inv-loop μ-loop Inv-search μ-search
-add-log c = omega arith
+add-log c = omega (arith, c .before .before .before .before .loop-test .taken)
 
 loop-less : tie.Need-loop-less Inv-loop2 μ-loop2 Inv-loop μ-loop Inv-search μ-search
-loop-less c = omega arith
+loop-less c = omega (arith, c .before .before .before .before .loop-test .taken)
 
 loop-again : tie.Need-loop-again Inv-loop2 μ-loop2 Inv-loop μ-loop Inv-search μ-search
 loop-again c =
@@ -350,24 +368,27 @@ loop-again c =
     let all : count .result ≤ index =
     no-fewer (c .before .before .before .before .before .before .before .before .before .before .before .before .slot-size-in .result) index (count .result)
     (omega (arith, c .before .before .before .before .before .before .before .before .before .before .before .before .slot-size-in .ensures))
-    (omega (arith, c .before .loop2 .inv .1 .0))
+    (omega (arith, c .before .loop2 .inv .1 .0, c .loop2-test .left))
     in (
-      omega arith,
+      omega (arith, c .before .before .before .before .loop-test .taken),
       below-next _ _ (c .before .before .before .before .before .loop .inv .1)
           (log-ended _ _ _ _ _ index (count .ensures) (omega (arith, count .ensures, c .before .loop2 .inv .1 .1)) all (c .before .loop2 .inv .1 .2)),
     )
 
 add-board : tie.Need-add-board Inv-loop2 μ-loop2 Inv-loop μ-loop Inv-search μ-search
-add-board c = omega arith
+add-board c =
+    let known = c .before .before .before .before .before .before .before .before .before .before .before .before .before .pre in
+    omega (arith, c .before .before .before .before .before .before .search-test .taken, known .2)
 
 search-less : tie.Need-search-less Inv-loop2 μ-loop2 Inv-loop μ-loop Inv-search μ-search
-search-less c = omega arith
+search-less c = omega (arith, c .before .before .before .before .before .before .search-test .taken)
 
 search-again : tie.Need-search-again Inv-loop2 μ-loop2 Inv-loop μ-loop Inv-search μ-search
 search-again c =
     let here = c .before .before .before .before .before in
-    let e : c .before .loop .log ≡ logs = omega arith in
-    (omega arith, below-next _ _ (here .before .before .search .inv .1) (board-passed (c .before .before) (rw e at (c .before .loop .inv .1))))
+    let e : c .before .loop .log ≡ logs = omega (arith, c .before .loop .inv .0, c .loop-test .left) in
+    let next = board-passed (c .before .before) (rw e at (c .before .loop .inv .1)) in
+    (omega (arith, here .before .search-test .taken), below-next _ _ (here .before .before .search .inv .1) next)
 
 -- a search that was left at a board did not come to its end
 left-at : (boards board : ℕ) (f : ℕ → Bool) → board < boards → f board ≡ false → eqb board boards ≡ everyBelow boards f

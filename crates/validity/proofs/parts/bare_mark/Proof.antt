@@ -12,13 +12,13 @@ returns : tie.Need-returns
 returns c =
     let start = c .before .before in
     let read = c .before .pair .ensures in
-    cc (bare-number (start .args .m0) (start .args .m1) (read .1), read .0, eq-eqb _ _ (c .if1 .taken))
+    rw (bare-number (start .args .m0) (start .args .m1) (read .1), ← read .0, eq-eqb _ _ (c .if1 .taken))
 
 returns-2 : tie.Need-returns-2
 returns-2 c =
     let start = c .before .before in
     let read = c .before .pair .ensures in
-    cc (bare-number (start .args .m0) (start .args .m1) (read .1), read .0, ne-eqb _ _ (c .if1 .left))
+    rw (bare-number (start .args .m0) (start .args .m1) (read .1), ← read .0, ne-eqb _ _ (c .if1 .left))
 
 pub bare-mark-spec : {M : Type 1} → statement M
 bare-mark-spec = tie.close (tie.spec pair-requires returns returns-2)
