@@ -1,3 +1,4 @@
 // Document 02, F-7: two boards' stored logs held against each other.
+#![tactic(auto)]
 mod naming;
 pub mod unmatched;

@@ -1,4 +1,5 @@
 // Where the parts stand in a bank: offsets, directory, block, areas; each part read and written there.
+#![tactic(auto)]
 pub mod area;
 pub mod block;
 pub mod directory;

@@ -50,7 +50,7 @@ store_leaves b c f s n =
 
 module _ (b : ℕ) {d : ℕ} {Again : Access → Type 0} (other : b ≢ d) where
   -- whoever else acts is up
-  move_leaves : {χ ψ : Phase} (s : Run) (m : Move) → s.lost ≡ none → Guard d Again s.bank m χ ψ → FormedRun d χ s → (board_at s.bank b).state ≢ Up
+  move_leaves : {χ : Phase} (s : Run) {ψ : Phase} (m : Move) → s.lost ≡ none → Guard d Again s.bank m χ ψ → FormedRun d χ s → (board_at s.bank b).state ≢ Up
       → board_at (does m s).bank b ≡ board_at s.bank b
   unfolding does note access settle FormedIn dropped_if entry_at
   move_leaves s _ n (notes_shown c p u m l v) w i = step_leaves b _ s (board_at_other c _ s.bank b (λ e. i (rw e u)))
@@ -164,7 +164,7 @@ unfolding UpIn
 takes_up first x e = e
 takes_up (behind l) x e = e
 
-move_awake : {d : ℕ} {Again : Access → Type 0} {χ ψ : Phase} (s : Run) (m : Move) → s.lost ≡ none → Guard d Again s.bank m χ ψ → Awake d χ s
+move_awake : {d : ℕ} {Again : Access → Type 0} {χ : Phase} (s : Run) {ψ : Phase} (m : Move) → s.lost ≡ none → Guard d Again s.bank m χ ψ → Awake d χ s
     → Awake d ψ (does m s)
 unfolding does UpIn note access on_working stored_frame stored_head on_spare stored_selector with_fuse
 move_awake s _ n (notes_shown b p u m l v) i = step_awake _ s (states_on_board b _ s.bank refl) (i.going n) (λ x e. e)
@@ -196,7 +196,7 @@ pub up_moves : {d : ℕ} {Again : Access → Type 0} {χ : Phase} {r s : Run} �
 unfolding UpIn
 up_moves {d} t u =
     (induct (Awake d)
-    (λ χ ψ. move_awake)
+    (λ χ ψ s m. move_awake s m)
     (λ e s n o i. absurd (i.going n))
     (λ s i. record { idle = i.idle; going = λ n. tt })
     (λ χ ψ s c e i. record { idle = i.idle; going = λ n. lost_not n e })

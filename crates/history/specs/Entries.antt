@@ -108,7 +108,7 @@ unfolding discard
 discard_swap b c n k es h =
     by_entries b (λ n es. (k : ℕ) → discard b n (discard c k es) ≡ discard c k (discard b n es))
     (λ n k. refl)
-    (λ n e es t r k. by_bool (eqb e.board c) (λ u. elim k [ zero ↦ cc (r zero) | suc k ↦ cc (r k) ]) (λ u. cc (r k)))
+    (λ n e es t r k. by_bool (eqb e.board c) (λ u. elim k as (λ k. discard b n (discard c k (e ∷ es)) ≡ discard c k (discard b n (e ∷ es))) [ zero ↦ cc (r zero) | suc k ↦ cc (r k) ]) (λ u. cc (r k)))
     (λ e es t r k. cc (not_other e (λ q. h (sym q)) t, r k))
     (λ n e es t r k. cc (not_other e (λ q. h (sym q)) t, r k))
     n es k

@@ -72,7 +72,7 @@ module _ (s : Run) (n : s.lost ≡ none) (c : ℕ) where
       by_eq c b (λ e. rw e (d.this (rw e at l))) (λ m. ap (λ (x : Board). x.working.number) (d.others c m))
 
 -- no access number but the caller's changes, unless power is lost
-move_number : {d : ℕ} {Again : Access → Type 0} {χ ψ : Phase} (s : Run) (m : Move) → s.lost ≡ none → Guard d Again s.bank m χ ψ
+move_number : {d : ℕ} {Again : Access → Type 0} {χ : Phase} (s : Run) {ψ : Phase} (m : Move) → s.lost ≡ none → Guard d Again s.bank m χ ψ
     → (does m s).lost ≡ none → (c : ℕ) → c < length s.bank.boards → c ≢ d → access_number c (does m s).bank ≡ access_number c s.bank
 unfolding does note access settle on_working recorded on_spare stored_frame stored_head stored_selector rested_working
 move_number {d} s _ n (notes_shown b p u m i v) z c l e =
@@ -153,7 +153,7 @@ selects_none resumes = refl
 selects_none closes = refl
 
 -- when a move makes a giver of a board, what the board had counted is stable already
-move_recoverable : {d : ℕ} {Again : Access → Type 0} {k : Bank} {χ ψ : Phase} (s : Run) (m : Move) → s.lost ≡ none → Guard d Again s.bank m χ ψ
+move_recoverable : {d : ℕ} {Again : Access → Type 0} {k : Bank} {χ : Phase} (s : Run) {ψ : Phase} (m : Move) → s.lost ≡ none → Guard d Again s.bank m χ ψ
     → Grants d k χ s → Each (λ o. Recoverable o k s.bank) (givers_so_far ψ)
 unfolding givers_so_far
 move_recoverable s _ n (notes_shown b p u m l v) h = each_nil

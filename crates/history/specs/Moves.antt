@@ -528,7 +528,7 @@ waits_holds {d} {h} e s o v q =
     }
 
 module _ (d : ℕ) (h : History) {Again : Access → Type 0} (premise : (a : Access) → Again a → (e : HistoryEntry) → next_entry d h ≡ some e → e.access ≡ a) where
-  move_holds : {χ ψ : Phase} (s : Run) (m : Move) → s.lost ≡ none → Guard d Again s.bank m χ ψ → FormedRun d χ s → FormedRun d ψ (does m s)
+  move_holds : {χ : Phase} (s : Run) {ψ : Phase} (m : Move) → s.lost ≡ none → Guard d Again s.bank m χ ψ → FormedRun d χ s → FormedRun d ψ (does m s)
       → RunMeets (HoldsIn d h χ) h s → RunMeets (HoldsIn d h ψ) h (does m s)
   unfolding does HoldsIn FormedIn settle nobody fed lost_at frame_of stored_frame stored_head moved_record on_spare Agrees Serves page_of
   move_holds s _ n (notes_shown b p u m l x) w v q = step_meets _ s q (λ e i. shown_invariant b d p s.bank i u m l x)

@@ -164,7 +164,9 @@ exclusive_discard_other b c n k p es d =
     (λ n e es t r k h.
     let i : Exclusive c n p es = rw (t, Exclusive) at h in
     by_bool (eqb e.board b)
-    (λ u. rw (u, discard) (elim k [ zero ↦ r zero i | suc k ↦ rw (t, Exclusive) (r k i) ]))
+    (λ u.
+    elim k as (λ k. Exclusive c n p (discard b k (e ∷ es)))
+    [ zero ↦ rw (u, discard) (r zero i) | suc k ↦ rw (u, discard) (rw (t, Exclusive) (r k i)) ])
     (λ u. rw (u, discard) (rw (t, Exclusive) (r k i))))
     (λ e es t r k h.
     let i : (writes_page e p ≡ true → OnlyBy c p es) × Exclusive c zero p es = rw (t, Exclusive) at h in
@@ -180,7 +182,7 @@ exclusive_lower b n k p es =
     (λ n e es t r k l h. rw (t, Exclusive) (r k l (rw (t, Exclusive) at h)))
     (λ e es t r k l h.
     let i : (writes_page e p ≡ true → OnlyBy b p es) × Exclusive b zero p es = rw (t, Exclusive) at h in
-    rw (t, Exclusive) (elim k [ zero ↦ i | suc k ↦ r k (omega arith) i.1 ]))
+    elim k as (λ k. Exclusive b k p (e ∷ es)) [ zero ↦ rw (t, Exclusive) i | suc k ↦ rw (t, Exclusive) (r k (omega arith) i.1) ])
     (λ n e es t r. elim [
       | zero ↦ λ l h. absurd (not-suc-le-zero l)
       | suc k ↦ λ l h. rw (t, Exclusive) (r k (le_of_suc-le-suc l) (rw (t, Exclusive) at h))

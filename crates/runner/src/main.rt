@@ -1,5 +1,6 @@
 // The line runner: runs the script on standard input, or the files that it is given one after the other, and writes the output to standard output.
 // It only reads, feeds and writes. A read or write that fails ends it, with the error on standard error.
+#![tactic(auto)]
 mod reads;
 
 use crate::reads::run_input;

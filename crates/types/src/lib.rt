@@ -1,4 +1,5 @@
 // The structs and enums that go by value through the engine, and that the definitions of `model` speak of.
+#![tactic(auto)]
 
 // "pages (1 to 16) of 16 bytes"
 pub const PAGE_SIZE: usize = 16;

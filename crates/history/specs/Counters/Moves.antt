@@ -89,7 +89,7 @@ replay_advances : (d : ℕ) (f : Bank → Bank) (s : Run) → s.lost ≡ none �
 replay_advances d f s n a =
     subst (λ (k : Bank). RunAdvances Nobody (Over d k) s (step f s)) (sym (step_going f s n)) (step_advances f s (λ e. a))
 
-pub move_advances : {d : ℕ} {Again : Access → Type 0} {χ ψ : Phase} (s : Run) (m : Move) → s.lost ≡ none → Guard d Again s.bank m χ ψ → FormedRun d χ s
+pub move_advances : {d : ℕ} {Again : Access → Type 0} {χ : Phase} (s : Run) {ψ : Phase} (m : Move) → s.lost ≡ none → Guard d Again s.bank m χ ψ → FormedRun d χ s
     → RunAdvances (Pending d χ s.bank) (Pending d ψ (does m s).bank) s (does m s)
 unfolding does Pending FormedIn is_got settle
 move_advances {d} s _ n (notes_shown b p u m l v) h = step_advances _ s (λ e. noted_advances b (Shown p) d (zeros page_size) s.bank refl u)

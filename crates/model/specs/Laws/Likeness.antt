@@ -27,11 +27,12 @@ pub data Perhaps {A : Type 0} (R : A → A → Type 0) : Option A → Option A �
   both : {x y : A} → R x y → Perhaps R (some x) (some y)
 
 pub perhaps_same : {A : Type 0} {o p : Option A} → p ≡ o → Perhaps (λ x y. y ≡ x) o p
-perhaps_same {o} e = rw e (elim o [ none ↦ neither | some x ↦ both refl ])
+perhaps_same {o} e = rw e (elim o as (λ q. Perhaps (λ x y. y ≡ x) q q) [ none ↦ neither | some x ↦ both refl ])
 
 module _ {A B : Type 0} (R : A → B → Type 0) where
   pub cases_both : {t u : Bool} {a b : A} {c d : B} → u ≡ t → R a c → R b d → R (elim t [ true ↦ a | false ↦ b ]) (elim u [ true ↦ c | false ↦ d ])
-  cases_both {t} e x y = rw e (elim t [ true ↦ x | false ↦ y ])
+  cases_both {t} {a = a} {b = b} {c = c} {d = d} e x y =
+      rw e (elim t as (λ v. R (elim v [ true ↦ a | false ↦ b ]) (elim v [ true ↦ c | false ↦ d ])) [ true ↦ x | false ↦ y ])
 
   pub options_both : {C : Type 0} (S : C → C → Type 0) {o p : Option C} {a : A} {b : B} {f : C → A} {g : C → B} → Perhaps S o p → R a b
       → ((x y : C) → S x y → R (f x) (g y)) → R (elim o [ none ↦ a | some x ↦ f x ]) (elim p [ none ↦ b | some x ↦ g x ])

@@ -27,7 +27,7 @@ pub induct : {d : ℕ} {Again : Access → Type 0} (P : Phase → Run → Type 0
     → ((e : Event) (s : Run) → s.lost ≡ none → replay_over (board_at s.bank d) ≡ false → P (Replays e) s → P (Finished e []) s)
     → ((s : Run) → P Begun s → P (Finished Nothing []) s)
     → ((χ ψ : Phase) (s : Run) (c : ℕ) → s.lost ≡ some c → P χ s → P ψ s)
-    → {φ χ : Phase} {r s : Run} → Moves d Again φ r χ s → P φ r → P χ s
+    → {φ : Phase} {r : Run} {χ : Phase} {s : Run} → Moves d Again φ r χ s → P φ r → P χ s
 induct P move wait end cut still h = h
 induct P move wait end cut (then {χ = χ} {ψ = ψ} {s = s} t m n a) h = move χ ψ s m n a (induct P move wait end cut t h)
 induct P move wait end cut (waits {e = e} {s = s} t n o) h = wait e s n o (induct P move wait end cut t h)

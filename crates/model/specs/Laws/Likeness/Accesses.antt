@@ -334,9 +334,9 @@ module _ (f : Change) (z : f.bytes 0 ≡ 0) (b : ℕ) (a : Access) where
 
   same_needs_got : {fs gs : List Frame} {m n : Kind} → FramesAlike f fs gs → n ≡ m → needs_got (mapped_access f.bytes a) gs n ≡ needs_got a fs m
   unfolding needs_got
-  same_needs_got {m = m} e i =
+  same_needs_got {fs = fs} {gs = gs} {m = m} e i =
       rw i
-      (elim m [ Got g p ↦ rw (same_takes f.bytes a, same_lacks_page f z a p e) | Shown p ↦ refl | Dropped p ↦ refl ])
+      (elim m as (λ v. needs_got (mapped_access f.bytes a) gs v ≡ needs_got a fs v) [ Got g p ↦ rw (same_takes f.bytes a, same_lacks_page f z a p e) | Shown p ↦ refl | Dropped p ↦ refl ])
 
   same_needs_gots : {fs gs : List Frame} {rs ss : List Record} (n : ℕ) → FramesAlike f fs gs → EachPair (RecordAlike f) rs ss
       → needs_gots (mapped_access f.bytes a) gs n ss ≡ needs_gots a fs n rs

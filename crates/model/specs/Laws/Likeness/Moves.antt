@@ -28,7 +28,10 @@ use Rattle.model.specs.Moves.{LosePower, SetFuse, Load, Repeat, TakeLast, Settle
 kinds_both : {A B : Type 0} (R : A → B → Type 0) {k j : Kind} {a : CopyOrOwn → ℕ → A} {b c : ℕ → A} {d : CopyOrOwn → ℕ → B} {e g : ℕ → B} → j ≡ k
     → ((o : CopyOrOwn) (p : ℕ) → R (a o p) (d o p)) → ((p : ℕ) → R (b p) (e p)) → ((p : ℕ) → R (c p) (g p))
     → R (elim k [ Got o p ↦ a o p | Shown p ↦ b p | Dropped p ↦ c p ]) (elim j [ Got o p ↦ d o p | Shown p ↦ e p | Dropped p ↦ g p ])
-kinds_both R {k} i x y w = rw i (elim k [ Got o p ↦ x o p | Shown p ↦ y p | Dropped p ↦ w p ])
+kinds_both R {k} {a = a} {b = b} {c = c} {d = d} {e = e} {g = g} i x y w =
+    rw i
+    (elim k as (λ v. R (elim v [ Got o p ↦ a o p | Shown p ↦ b p | Dropped p ↦ c p ]) (elim v [ Got o p ↦ d o p | Shown p ↦ e p | Dropped p ↦ g p ]))
+    [ Got o p ↦ x o p | Shown p ↦ y p | Dropped p ↦ w p ])
 
 module _ (f : Change) (z : f.bytes 0 ≡ 0) where
   alike_loaded : Preserve (BoardAlike f) loaded loaded
@@ -106,7 +109,10 @@ module _ (f : Change) (z : f.bytes 0 ≡ 0) where
 
   alike_settled_frame : {t u : Bool} {c d : Frame} → u ≡ t → FrameAlike f c d → FrameAlike f (settled_frame t c) (settled_frame u d)
   unfolding settled_frame
-  alike_settled_frame {t} e i = rw e (elim t [ true ↦ record { right = refl; bytes = i.bytes } | false ↦ alike_empty_frame f z ])
+  alike_settled_frame {t} {c = c} {d = d} e i =
+      rw e
+      (elim t as (λ v. FrameAlike f (settled_frame v c) (settled_frame v d))
+      [ true ↦ record { right = refl; bytes = i.bytes } | false ↦ alike_empty_frame f z ])
 
   alike_settled : {owned held : ℕ → Bool} → ((p : ℕ) → held p ≡ owned p) → Preserve (BoardAlike f) (settled owned) (settled held)
   unfolding settled

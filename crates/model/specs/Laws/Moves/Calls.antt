@@ -350,7 +350,7 @@ module _ (b : ℕ) (k : Bank) (w : WellFormed k) where
         (λ o.
         let live : live_bank b a k ≡ some end.bank = cc in
         cases_option (MadeBy b Again Begun (start k) (Accessing b a) k) end.lost
-        (λ n. live_moves b begun (ended_moves o) n a (record { event = λ v given. refl; gave = ap (givers_in b a) live }) (live_can b a k w i rep same n))
+        (λ n. live_moves b begun (ended_moves o) n a {c = Accessing b a} (record { event = λ v given. refl; gave = ap (givers_in b a) live }) (live_can b a k w i rep same n))
         (λ c e. cut_off (ended_moves o) e))
         (λ o. repeated_moves (again o) o)
 

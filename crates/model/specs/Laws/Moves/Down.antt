@@ -185,7 +185,7 @@ stored_record_like : (x : Board) → ((stored_record x).state ≡ x.state) × ((
 unfolding moved_record
 stored_record_like x = stored_record_cases (λ (y : Board). (y.state ≡ x.state) × (y.fuse ≡ x.fuse)) x (λ e. (refl, refl)) (λ r rs e. (refl, refl))
 
-move_tracks : {k : Bank} {d : ℕ} {Again : Access → Type 0} {χ ψ : Phase} (s : Run) (m : Move) → s.lost ≡ none → Guard d Again s.bank m χ ψ
+move_tracks : {k : Bank} {d : ℕ} {Again : Access → Type 0} {χ : Phase} (s : Run) {ψ : Phase} (m : Move) → s.lost ≡ none → Guard d Again s.bank m χ ψ
     → FormedRun d χ s → Tracks k χ s → Tracks k ψ (does m s)
 unfolding does FormedIn CutIn RestartIn note access on_working on_spare stored_frame stored_head stored_selector with_fuse loaded used_up settled powered_off settle
 move_tracks {d = d} s _ n (notes_shown b p u m l o) h t =

@@ -120,7 +120,7 @@ store_formed b f s n o h g m =
     let w : WellFormed s.bank = run_formed o h in
     store_keeps b f s w (λ e. on_board_keeps b f s.bank w (λ l i. g w i) m)
 
-move_formed : {d : ℕ} {Again : Access → Type 0} {χ ψ : Phase} (s : Run) (m : Move) → s.lost ≡ none → Guard d Again s.bank m χ ψ
+move_formed : {d : ℕ} {Again : Access → Type 0} {χ : Phase} (s : Run) {ψ : Phase} (m : Move) → s.lost ≡ none → Guard d Again s.bank m χ ψ
     → FormedRun d χ s → FormedRun d ψ (does m s)
 unfolding does FormedIn page_of is_got settle lacking_of
 move_formed {d} s _ n (notes_shown b p u m l o) h =
@@ -203,7 +203,7 @@ lost_formed : {d : ℕ} {χ ψ : Phase} {c : ℕ} (s : Run) → s.lost ≡ some 
 lost_formed s e h = record { going = λ n. lost_not n e; lost = h.lost }
 
 pub moves_formed : {d : ℕ} {Again : Access → Type 0} {φ χ : Phase} {r s : Run} → Moves d Again φ r χ s → FormedRun d φ r → FormedRun d χ s
-moves_formed {d} t h = induct (FormedRun d) (λ χ ψ. move_formed) (λ e. waits_formed) ends_formed (λ χ ψ s c. lost_formed s) t h
+moves_formed {d} t h = induct (FormedRun d) (λ χ ψ s m. move_formed s m) (λ e. waits_formed) ends_formed (λ χ ψ s c. lost_formed s) t h
 
 -- what every move keeps that finds and leaves a bank as its phase has it
 pub induct_formed : {d : ℕ} {Again : Access → Type 0} (P : Phase → Run → Type 0)
