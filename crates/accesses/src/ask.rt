@@ -2,7 +2,7 @@ use types::Answer;
 
 // What an access asks for, by value: the pages that it names, as a set, and the byte that it writes; a read has no use for page, offset and value.
 // The cells that it reads stand beside it, as bytes.
-#[derive(Drop)]
+#[derive(Clone, Copy)]
 pub struct Ask {
     pub board: usize,
     pub writes: bool,
@@ -13,7 +13,7 @@ pub struct Ask {
 }
 
 // What the tests of a call say: the first that holds refuses.
-#[derive(Drop)]
+#[derive(Clone, Copy)]
 pub enum Verdict {
     Pass,
     Refuse(Answer),

@@ -31,7 +31,7 @@ pub fn perform_cells(block: &mut [u8], pages: usize, ask: Ask, cells: &[u8], out
 }
 
 // How far a replaying board came with an access: no record was left behind its gots and it goes on live, or it was repeated, as the last one or not.
-#[derive(Drop)]
+#[derive(Clone, Copy)]
 pub enum Replayed {
     Live,
     Last,

@@ -30,7 +30,7 @@ pub fn numbers_fit(pages: usize, page: u32, offset: u32, value: u32) -> bool
 }
 
 // What the tests say: the first that holds refuses.
-#[derive(Drop)]
+#[derive(Clone, Copy)]
 pub enum Admission {
     CountersFull,
     Differs,

@@ -9,14 +9,14 @@ use types::{Answer, Outcome, State};
 use validity::bank::well_formed;
 
 // Why a call of a board is refused before its state is known. Not an answer, which is longer, and every call would keep room for it on its stack.
-#[derive(Drop)]
+#[derive(Clone, Copy)]
 pub enum Refusal {
     Unreadable,
     NoBoard,
 }
 
 // What a call of a board finds first.
-#[derive(Drop)]
+#[derive(Clone, Copy)]
 pub enum Finding {
     Refused(Refusal),
     Board(State),

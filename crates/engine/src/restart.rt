@@ -21,7 +21,7 @@ use steps::state::is_down;
 use types::{Answer, Outcome};
 
 // The number that a board begins again with, and whether its log has no record left.
-#[derive(Drop)]
+#[derive(Clone, Copy)]
 struct Restarted {
     number: u32,
     over: bool,

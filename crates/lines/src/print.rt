@@ -11,7 +11,7 @@ use answers::numbers::numbers_of;
 use types::Outcome;
 
 // "code, value, who, stores": what a line prints behind its number.
-#[derive(Drop)]
+#[derive(Clone, Copy)]
 pub struct Printed {
     pub code: u8,
     pub value: u32,

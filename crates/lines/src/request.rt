@@ -8,7 +8,7 @@ use crate::number::{Number, read_number};
 use crate::text::{MOST_BYTES, SPACE};
 
 // "N n p; R b p o; W b p o v; C b (checkpoint); K b (cut); F b k; S b (restart)", and anything else; K asks for a fuse of 0.
-#[derive(Drop)]
+#[derive(Clone, Copy)]
 pub enum Request {
     Make(u32, u32),
     Read(u32, u32, u32),
@@ -20,7 +20,7 @@ pub enum Request {
 }
 
 // The numbers of a line so far; no line has more than four.
-#[derive(Drop)]
+#[derive(Clone, Copy)]
 pub enum Numbers {
     None,
     One(u32),

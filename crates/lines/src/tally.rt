@@ -3,7 +3,7 @@ ghost use Rattle.std.specs.Prelude.{◌≡◌};
 ghost use Rattle.lines.specs.Definitions.Tally.{counted, stopped};
 ghost use Rattle.lines.specs.Clauses.{Counts};
 
-#[derive(Drop)]
+#[derive(Clone, Copy)]
 pub struct Tally {
     pub read: u32,
     pub done: u32,

@@ -10,7 +10,7 @@ use format::selected;
 use types::{Kind, PAGE_SIZE, Record};
 
 // The next stored record, where there is one that serves: what the definitions say by an option.
-#[derive(Drop)]
+#[derive(Clone, Copy)]
 pub struct NextRecord {
     pub found: bool,
     pub value: Record,

@@ -15,14 +15,14 @@ const READ_BUFFER: usize = 4096;
 const OUT_BUFFER: usize = OUT_PER_BYTE * (READ_BUFFER + 2);
 
 // What comes after a read.
-#[derive(Drop)]
+#[derive(Clone, Copy)]
 enum Next {
     Read,
     End,
     Failed,
 }
 
-#[derive(Drop)]
+#[derive(Clone, Copy)]
 struct Turn {
     machine: Machine,
     next: Next,

@@ -11,7 +11,7 @@ use lines::tally::{Tally, stopped};
 use lines::text::{MOST_BYTES, NEWLINE};
 
 // What is kept between two bytes: how many bytes of a line there are, and how far the runner is.
-#[derive(Drop)]
+#[derive(Clone, Copy)]
 pub struct Machine {
     pub pending: usize,
     pub progress: Progress,

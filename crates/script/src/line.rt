@@ -8,7 +8,7 @@ use lines::request::read_request;
 use lines::tally::{Tally, with_line};
 
 // How far the runner is: the bank's bytes, the tally, and the place of the output's next byte.
-#[derive(Drop)]
+#[derive(Clone, Copy)]
 pub struct Progress {
     pub size: usize,
     pub tally: Tally,

@@ -16,7 +16,7 @@ use lines::request::Request;
 use types::{Answer, Outcome};
 
 // What a line prints, and how many bytes the bank has then: 0 where there is none.
-#[derive(Drop)]
+#[derive(Clone, Copy)]
 pub struct Work {
     pub printed: Printed,
     pub size: usize,

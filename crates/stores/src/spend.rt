@@ -9,7 +9,7 @@ use steps::fuse::burn;
 use steps::power::wipe;
 
 // How far a board came with its stores: how many it made, and whether its fuse blew at the last.
-#[derive(Drop)]
+#[derive(Clone, Copy)]
 pub struct Stored {
     pub stores: u32,
     pub lost: bool,

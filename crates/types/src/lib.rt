@@ -5,7 +5,7 @@
 pub const PAGE_SIZE: usize = 16;
 
 // What a board may do with a page: "a right (0 none, 1 copy, 2 own)".
-#[derive(Drop)]
+#[derive(Clone, Copy)]
 pub enum Right {
     None,
     Copy,
@@ -13,21 +13,21 @@ pub enum Right {
 }
 
 // "A frame is a right and 16 page bytes."
-#[derive(Drop)]
+#[derive(Clone, Copy)]
 pub struct Frame {
     pub right: Right,
     pub bytes: [u8; PAGE_SIZE],
 }
 
 // "a got kind says copy or own"
-#[derive(Drop)]
+#[derive(Clone, Copy)]
 pub enum CopyOrOwn {
     GotCopy,
     GotOwn,
 }
 
 // The kind of a record, with its page number.
-#[derive(Drop)]
+#[derive(Clone, Copy)]
 pub enum Kind {
     Got(CopyOrOwn, u8),
     Shown(u8),
@@ -36,7 +36,7 @@ pub enum Kind {
 
 // "Each record is a count together with its kind"; beside the kind the other party, whom document 02's F-6 names, and the page bytes, zero unless it is a
 // got.
-#[derive(Drop)]
+#[derive(Clone, Copy)]
 pub struct Record {
     pub count: u32,
     pub kind: Kind,
@@ -45,7 +45,7 @@ pub struct Record {
 }
 
 // A board's state: "0 up, 1 dark, 2 replaying". Document 01 says dark for down.
-#[derive(Drop)]
+#[derive(Clone, Copy)]
 pub enum State {
     Up,
     Down,
@@ -54,7 +54,7 @@ pub enum State {
 
 // What a call answers, by documents 01 and 02. `Done` carries the value, `Compared` a place in two logs and the taker, 0 and 0 if there is
 // none (F-7); the others carry who where the documents name a board.
-#[derive(Drop)]
+#[derive(Clone, Copy)]
 pub enum Answer {
     Done(u32),
     Malformed,
@@ -72,14 +72,14 @@ pub enum Answer {
 }
 
 // An answer, and beside it the stable stores made in the call.
-#[derive(Drop)]
+#[derive(Clone, Copy)]
 pub struct Outcome {
     pub answer: Answer,
     pub stores: u32,
 }
 
 // An answer as document 01's numbers.
-#[derive(Drop)]
+#[derive(Clone, Copy)]
 pub struct AnswerNumbers {
     pub code: u8,
     pub value: u32,

@@ -1,0 +1,15 @@
+-- `fields::bytes::clear` meets its contract. The loop's invariant: the first i bytes are zero, the others as they were. Assumes nothing.
+use mathlib.Core.Path.{◌≡◌, refl, ◌∙◌}
+use Prim.Native.Nat.{◌≤◌, ◌-◌}
+use native.Mathlib.Omega.{arith}
+use mathlib.Core.List.{◌++◌, append-nil}
+use lib.ListN.{length, drop, replicate, length-set, drop_of_length-le}
+use borrow.Author.Fill.{fill_none, fill_more}
+use Rattle.model.specs.Definitions.Parts.{zeros}
+use Rattle.fields.proofs.bytes.clear.Given as goal
+
+abbrev pub invariant-loop-i : goal.invariant-loop-i
+invariant-loop-i l = (l.i ≤ length l.initial.s) × (length l.s ≡ length l.initial.s) × (l.s ≡ replicate l.i 0 ++ drop l.i l.initial.s)
+
+abbrev pub decreases-loop-i : goal.decreases-loop-i
+decreases-loop-i l = length l.initial.s - l.i

@@ -1,0 +1,15 @@
+-- `fields::bytes::copy` meets its contract. The loop's invariant: the first i bytes are written at the place. Assumes nothing.
+use mathlib.Core.Path.{◌≡◌, refl, ◌∙◌}
+use Prim.Native.Nat.{◌≤◌, ◌-◌}
+use native.Mathlib.Omega.{arith}
+use lib.ListN.{length, take, length-set}
+use Rattle.model.specs.Definitions.Parts.{part, splice}
+use Rattle.model.specs.Laws.Parts.{length_part, get_d_part}
+use Rattle.fields.proofs.Splices.{splice_none, splice_done, splice_more}
+use Rattle.fields.proofs.bytes.copy.Given as goal
+
+abbrev pub invariant-loop-i : goal.invariant-loop-i
+invariant-loop-i l = (l.i ≤ l.n) × (length l.to ≡ length l.initial.to) × (l.to ≡ splice l.initial.to l.b (take l.i (part l.from l.a l.n)))
+
+abbrev pub decreases-loop-i : goal.decreases-loop-i
+decreases-loop-i l = l.n - l.i

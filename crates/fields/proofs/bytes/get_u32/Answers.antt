@@ -1,0 +1,8 @@
+-- `fields::bytes::get_u32` meets its contract. Assumes nothing.
+use Rattle.model.specs.Definitions.Parts.{part}
+use borrow.Author.Rules.{rules}
+use Rattle.fields.proofs.bytes.get_u32.Goals as goal
+
+pub returns : goal.returns
+unfolding part
+returns c = c.read_u32.ensures

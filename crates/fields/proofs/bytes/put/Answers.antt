@@ -1,0 +1,8 @@
+-- `fields::bytes::put` meets its contract: a store is a splice of one element. Assumes nothing.
+use mathlib.Core.Path.{sym}
+use Rattle.model.specs.Laws.Parts.{splice_one}
+use borrow.Author.Rules.{rules}
+use Rattle.fields.proofs.bytes.put.Goals as goal
+
+pub returns : goal.returns
+returns c = sym (splice_one c.args.s.now c.args.at c.args.b c.requires)

@@ -1,0 +1,21 @@
+-- `fields::sets::without_member` meets its contract: leaving takes its bit away. Assumes nothing.
+use mathlib.Core.Path.{◌≡◌, sym, ◌∙◌}
+use Prim.Native.Nat.{◌+◌}
+use native.Mathlib.Omega.{arith}
+use Rattle.model.specs.Definitions.Parts.{without_member}
+use Rattle.fields.specs.Sets.{without_in, without_out}
+use borrow.Author.Rules.{rules}
+use Rattle.fields.proofs.sets.without_member.Goals as goal
+
+left : (c : goal.After-bit) → c.args.set
+    ≡ without_member c.args.i c.args.set + c.bit.result
+left c = rw c.bit.ensures (without_in _ _ (sym c.has.ensures ∙ c.if-has.true))
+
+pub overflow_sub-result : goal.overflow_sub-result
+overflow_sub-result c = omega (arith, left c)
+
+pub returns-then-has : goal.returns-then-has
+returns-then-has c = omega (arith, left c)
+
+pub returns : goal.returns
+returns c = without_out _ _ (sym c.has.ensures ∙ c.if-has.false)
