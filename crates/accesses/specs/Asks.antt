@@ -12,9 +12,9 @@ use Rattle.model.specs.Definitions.WellFormed.{FieldsOk, WellFormed}
 use Rattle.model.specs.Definitions.Steps.{Access, cells_asked, cells_written, lacks_page, accessed}
 use Rattle.model.specs.Definitions.Replay.{lacking, differs, end_replay}
 use Rattle.model.specs.Definitions.Calls.{first_given, live_refusals}
-use Rattle.model.specs.Laws.BoardFields.{accessed_fields}
-use Rattle.model.specs.Laws.Keeps.Accesses.{writable}
-use Rattle.model.specs.Laws.Valid.{Writable}
+use Rattle.model.proofs.Laws.BoardFields.{accessed_fields}
+use Rattle.model.proofs.Laws.Keeps.Accesses.{writable}
+use Rattle.model.proofs.Laws.Valid.{Writable}
 use Rattle.model.specs.Clauses.{CanAccess, Entered}
 use Rattle.fields.specs.Cells.{CellIn}
 use Rattle.steps.specs.Asked.{Takes, wrote_byte}

@@ -9,9 +9,9 @@ use Rattle.model.specs.Definitions.Bank.{Board, on_working}
 use Rattle.model.specs.Definitions.WellFormed.{FieldsOk}
 use Rattle.model.specs.Definitions.Steps.{Access, accessed}
 use Rattle.model.specs.Definitions.Replay.{lacking, differs, took_due, replay_over, replayed}
-use Rattle.model.specs.Laws.Logic.{cases}
-use Rattle.model.specs.Laws.Valid.{Writable}
-use Rattle.model.specs.Laws.Keeps.Replay.{took_due_took, fits_has}
+use Rattle.model.proofs.Laws.Logic.{cases}
+use Rattle.model.proofs.Laws.Valid.{Writable}
+use Rattle.model.proofs.Laws.Keeps.Replay.{took_due_took, fits_has}
 use Rattle.steps.specs.Asked.{wrote_byte}
 use Rattle.replay.specs.Got.{took_due_fields}
 use Rattle.replay.specs.Used.{used_up_fields}

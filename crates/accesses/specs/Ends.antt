@@ -10,8 +10,8 @@ use Rattle.model.specs.Definitions.Bank.{Board, Bank, board_at, entry_at, on_boa
 use Rattle.model.specs.Definitions.Steps.{step}
 use Rattle.model.specs.Definitions.BoardRuns.{BoardRun, checkpoint_on}
 use Rattle.model.specs.Definitions.Replay.{settled_frame, settled, settle, end_replay}
-use Rattle.model.specs.Laws.Logic.{by_bool}
-use Rattle.model.specs.Laws.Boards.{update_update, boards_on_board, board_at_same}
+use Rattle.model.proofs.Laws.Logic.{by_bool}
+use Rattle.model.proofs.Laws.Boards.{update_update, boards_on_board, board_at_same}
 use Rattle.stores.specs.Lifted.{lifted, lifted_lost, lifted_going, checkpoint_lifted}
 use Rattle.exchange.specs.Progress.{running}
 

@@ -18,10 +18,10 @@ use Rattle.model.specs.Definitions.Bank.{Board, Bank, board_at, entry_at}
 use Rattle.model.specs.Definitions.WellFormed.{RoomOk}
 use Rattle.model.specs.Definitions.Steps.{Access, cells_written, any_write, takes, lacks_page, giver}
 use Rattle.model.specs.Definitions.Calls.{page_written, fetch_need, drop_need, page_need, need, short, short_board}
-use Rattle.model.specs.Laws.Logic.{by_bool, by_eq}
-use Rattle.model.specs.Laws.Sets.{member_none}
-use Rattle.model.specs.Laws.Below.{passes_names}
-use Rattle.model.specs.Laws.Keeps.Live.{own_names}
+use Rattle.model.proofs.Laws.Logic.{by_bool, by_eq}
+use Rattle.model.proofs.Laws.Sets.{member_none}
+use Rattle.model.proofs.Laws.Below.{passes_names}
+use Rattle.model.proofs.Laws.Keeps.Live.{own_names}
 use Rattle.model.specs.Clauses.{volatile_count, stored_count}
 use Rattle.steps.specs.Asked.{got}
 use Rattle.accesses.specs.Asks.{Lacking}

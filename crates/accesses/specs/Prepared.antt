@@ -21,13 +21,13 @@ use Rattle.model.specs.Definitions.Steps.{Run, step, Access, takes, lacks_page, 
 use Rattle.model.specs.Definitions.Calls.{first_given, unless, finished, page_written, copies_out, lacking_of, pages_lacking}
 use Rattle.model.specs.Definitions.Calls.{need, short, short_board, is_some, number_in}
 use Rattle.model.specs.Definitions.Calls.{nobody_gives, page_missing, live_refusals, prepared, performed, live}
-use Rattle.model.specs.Laws.Logic.{by_bool, by_eq, clash}
-use Rattle.model.specs.Laws.Runs.{SameSizes}
-use Rattle.model.specs.Laws.Keeps.Clauses.{fits, up_below}
+use Rattle.model.proofs.Laws.Logic.{by_bool, by_eq, clash}
+use Rattle.model.proofs.Laws.Runs.{SameSizes}
+use Rattle.model.proofs.Laws.Keeps.Clauses.{fits, up_below}
 use Rattle.model.specs.Clauses.{Space, Ready, CanAccess}
-use Rattle.model.specs.Laws.Below.{all_below_same}
-use Rattle.model.specs.Laws.Sets.{member_none}
-use Rattle.model.specs.Laws.Keeps.Live.{first_in, lacking_own, can_drop, prepared_ready}
+use Rattle.model.proofs.Laws.Below.{all_below_same}
+use Rattle.model.proofs.Laws.Sets.{member_none}
+use Rattle.model.proofs.Laws.Keeps.Live.{first_in, lacking_own, can_drop, prepared_ready}
 use Rattle.model.specs.Likeness.{on_value}
 use Rattle.steps.specs.Access.{lacking_test}
 use Rattle.steps.specs.Asked.{got}
@@ -39,7 +39,7 @@ use Rattle.exchange.specs.Progress.{running, loss_of, Came}
 use Rattle.accesses.specs.Needs.{found_in, none_found, first_below_same, need_zero, need_of, room_kept}
 use Rattle.accesses.specs.Asks.{Lacking, Asks}
 use Rattle.accesses.specs.Results.{Answered}
-use Rattle.model.specs.Laws.Moves.Calls.{bytes_seen_lem, prepared_keeps, prepared_sizes}
+use Rattle.model.proofs.Laws.Moves.Calls.{bytes_seen_lem, prepared_keeps, prepared_sizes}
 
 -- a page without the copies that were out, if any were, dropped for writer w
 unfoldable pub without_out : (w p : ℕ) → Bank → Bank

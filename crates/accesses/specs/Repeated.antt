@@ -17,10 +17,10 @@ use Rattle.model.specs.Definitions.WellFormed.{WellFormed}
 use Rattle.model.specs.Definitions.Steps.{Run, start, Access, read_from, value_of, given_of}
 use Rattle.model.specs.Definitions.Replay.{took_due, replay_over, end_replay, end_if_over, replayed}
 use Rattle.model.specs.Definitions.Calls.{finished, live, live_after_end, replaying}
-use Rattle.model.specs.Laws.Logic.{by_bool}
-use Rattle.model.specs.Laws.Lists.{update_set}
-use Rattle.model.specs.Laws.Boards.{boards_on_board, board_at_same, on_board_on_board}
-use Rattle.model.specs.Laws.Runs.{SameSizes, follows_end_replay}
+use Rattle.model.proofs.Laws.Logic.{by_bool}
+use Rattle.model.proofs.Laws.Lists.{update_set}
+use Rattle.model.proofs.Laws.Boards.{boards_on_board, board_at_same, on_board_on_board}
+use Rattle.model.proofs.Laws.Runs.{SameSizes, follows_end_replay}
 use Rattle.model.specs.Clauses.{InReplay, WellFormedBut}
 use Rattle.copies.specs.Banks.{Holds, holds_well_formed, holds_decode, holds_of}
 use Rattle.exchange.specs.Progress.{running, lost_by, Came}
@@ -28,8 +28,8 @@ use Rattle.model.specs.Likeness.{on_value}
 use Rattle.accesses.specs.Asks.{Asks}
 use Rattle.accesses.specs.Results.{Answered, ended_as}
 use Rattle.accesses.specs.BlockReplay.{replayed_board, replayed_to}
-use Rattle.model.specs.Laws.Moves.Stores.{end_replay_keeps}
-use Rattle.model.specs.Laws.Moves.Calls.{bytes_seen_lem}
+use Rattle.model.proofs.Laws.Moves.Stores.{end_replay_keeps}
+use Rattle.model.proofs.Laws.Moves.Calls.{bytes_seen_lem}
 
 -- steps that do the same to a board do the same to the bank
 on_board_at : (b : ℕ) (f g : Board → Board) (k : Bank) → b < length k.boards → f (board_at k b) ≡ g (board_at k b) → on_board b f k ≡ on_board b g k

@@ -14,11 +14,11 @@ use Rattle.model.specs.Definitions.Codec.{decode}
 use Rattle.model.specs.Definitions.Check.{well_formed, sizes_allowed}
 use Rattle.model.specs.Definitions.Answers.{code, value, who}
 use Rattle.model.specs.Definitions.Calls.{Call, Comparing, Reply, refused, call, buffer_after, make}
-use Rattle.model.specs.Laws.Logic.{cases}
-use Rattle.model.specs.Laws.Codes.{done_as_lem}
-use Rattle.model.specs.Laws.Codes.Order.{never}
+use Rattle.model.proofs.Laws.Logic.{cases}
+use Rattle.model.proofs.Laws.Codes.{done_as_lem}
+use Rattle.model.proofs.Laws.Codes.Order.{never}
 use Rattle.model.specs.Laws.Codes.Statement.{done_as}
-use Rattle.model.specs.Laws.LogPages.{compares_logs}
+use Rattle.model.proofs.Laws.LogPages.{compares_logs}
 use Rattle.model.specs.History.Statement.{Observed, made, bytes_left, PremisesSeen, ClaimsSeen}
 use Rattle.model.specs.History.LogsStatement.{Spared}
 use Rattle.model.specs.History.CleanStatement.{SlotsZero, StaysClean}

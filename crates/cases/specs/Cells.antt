@@ -12,7 +12,7 @@ use Rattle.model.specs.Definitions.Codec.{encode}
 use Rattle.model.specs.Definitions.Check.{well_formed}
 use Rattle.model.specs.Definitions.Steps.{powered_off, Read, Write, ReadCells}
 use Rattle.model.specs.Definitions.Calls.{Result, Call, Accessing, Fusing, Restarting, call_bank, Reply, reply_of, buffer_after}
-use Rattle.model.specs.History.Tests.{same_bytes}
+use Rattle.model.proofs.History.Tests.{same_bytes}
 use Rattle.cases.specs.Table.{agrees}
 
 -- a call, the second buffer that it is lent, what it answers (code, value, who, stores), and the buffer after it

@@ -7,7 +7,7 @@ use Rattle.model.specs.Definitions.Steps.{Read, Write}
 use Rattle.model.specs.Definitions.Calls.{Accessing, Fusing}
 use Rattle.model.specs.History.Statement.{no_history, of_board, discard, done_event, event_of, entry_count, repeats, with_number_of, bytes_seen, with_entry, fed}
 use Rattle.model.specs.History.Statement.{zero_memory, byte_in, written, access_of, live_bank, givers_in, gave_in, granted_after, next_entry}
-use Rattle.model.specs.History.Tests.{same_bytes, same_access, done_or_lost, repeats_entry, premise_for, one_memory_test, gave_entry, repeat_for, grants_for}
+use Rattle.model.proofs.History.Tests.{same_bytes, same_access, done_or_lost, repeats_entry, premise_for, one_memory_test, gave_entry, repeat_for, grants_for}
 use Rattle.model.specs.History.Banks.{history_after, grants_after}
 use Rattle.cases.specs.Evaluate.{evaluate}
 use Rattle.cases.specs.Digest.{taken, digest_from, digest}

@@ -9,7 +9,7 @@ use Rattle.model.specs.Definitions.Calls.{Call, Accessing}
 use Rattle.model.specs.Definitions.Older.{older, cleaned_in, convert}
 use Rattle.types.specs.declared.Answer.TheVariants.{Malformed}
 use Rattle.types.specs.declared.Outcome.{Outcome}
-use Rattle.model.specs.History.Tests.{same_bytes}
+use Rattle.model.proofs.History.Tests.{same_bytes}
 use Rattle.model.specs.History.ConversionStatement.{told_older}
 use Rattle.model.specs.History.CleanStatement.{Told, told_on}
 use Rattle.cases.specs.Table.{agrees}

@@ -7,17 +7,17 @@ use Rattle.model.specs.Definitions.Bank.{fresh}
 use Rattle.model.specs.Definitions.WellFormed.{SizesOk}
 use Rattle.model.specs.Definitions.Check.{sizes_allowed}
 use Rattle.model.specs.Definitions.Calls.{Call}
-use Rattle.model.specs.Laws.Logic.{and_left, and_right}
-use Rattle.model.specs.Laws.Lists.{every_each}
+use Rattle.model.proofs.Laws.Logic.{and_left, and_right}
+use Rattle.model.proofs.Laws.Lists.{every_each}
 use Rattle.model.specs.History.Statement.{no_history, begin, Premises, Claims}
-use Rattle.model.specs.History.Tests.{premises_test, claims_test, says_premises, says_claims}
+use Rattle.model.proofs.History.Tests.{premises_test, claims_test, says_premises, says_claims}
 use Rattle.cases.specs.Table.{passes}
 use Rattle.cases.specs.Worked.{Worked, histories, other_byte, other_byte_repeated, other_order, read_for_cells, other_order_lost, two_due}
 use Rattle.cases.specs.Holders.{holder_gave}
 use Rattle.cases.specs.Running.{premises_on, claims_on, holds_on}
 use Rattle.cases.specs.Computed.{histories_hold, sized, two_due_holds, holder_gave_holds, other_byte_breaks, other_byte_repeated_breaks, cells_break}
 use Rattle.cases.specs.OnBank.{passes_fresh_lem, premises_fresh, claims_fresh}
-use Rattle.model.specs.Laws.Fresh.{sizes_say}
+use Rattle.model.proofs.Laws.Fresh.{sizes_say}
 
 -- premise and claim hold throughout, as the statement says them
 pub record Kept (h : Worked) : Type 0 where

@@ -2,13 +2,13 @@
 -- the laws of the codec and of well-formedness say that the bytes answer the same. Assumes nothing.
 use Rattle.std.specs.Prelude.{◌≡◌, true}
 use Rattle.std.proofs.Common.{◌∙◌}
-use Rattle.model.specs.Laws.Logic.{and_both}
-use Rattle.model.specs.Laws.Lists.{every_each}
+use Rattle.model.proofs.Laws.Logic.{and_both}
+use Rattle.model.proofs.Laws.Lists.{every_each}
 use Rattle.cases.specs.Table.{scripts, table}
 use Rattle.cases.specs.Computed.{lengths_hold, scripts_sized, scripts_hold}
 use Rattle.cases.specs.OnBank.{every_fresh}
 use Rattle.model.specs.Definitions.Check.{sizes_allowed}
-use Rattle.model.specs.Laws.Fresh.{sizes_say}
+use Rattle.model.proofs.Laws.Fresh.{sizes_say}
 
 pub marked_cases : table ≡ true
 unfolding table

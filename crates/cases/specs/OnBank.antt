@@ -11,15 +11,15 @@ use Rattle.model.specs.Definitions.Codec.{encode, decode}
 use Rattle.model.specs.Definitions.WellFormed.{WellFormed, SizesOk}
 use Rattle.model.specs.Definitions.Calls.{Call, Reply, call_bank, reply_of, call, make}
 use Rattle.model.specs.Definitions.Answers.{code, value, who}
-use Rattle.model.specs.Laws.Lists.{each_head, each_tail}
-use Rattle.model.specs.Laws.Fresh.{fresh_well_formed}
+use Rattle.model.proofs.Laws.Lists.{each_head, each_tail}
+use Rattle.model.proofs.Laws.Fresh.{fresh_well_formed}
 use Rattle.model.specs.History.Statement.{History, no_history, System, begin, access_of, zero_memory}
-use Rattle.model.specs.History.Tests.{premise_for, one_memory_test, repeat_for, grants_for, premise_test, claim_test, premises_test, claims_test}
+use Rattle.model.proofs.History.Tests.{premise_for, one_memory_test, repeat_for, grants_for, premise_test, claim_test, premises_test, claims_test}
 use Rattle.model.specs.History.Banks.{system_of, history_after, grants_after}
-use Rattle.model.specs.History.OnBytes.{decoded, call_encode, after_system, begin_system}
+use Rattle.model.proofs.History.OnBytes.{decoded, call_encode, after_system, begin_system}
 use Rattle.cases.specs.Running.{leaves_on, passes_on, passes_fresh, premises_on, claims_on}
 use Rattle.cases.specs.Table.{Line, Left, Anything, Digest, RecoveryPoint, Script, agrees, leaves, passes_lines, passes_made, passes}
-use Rattle.model.specs.Laws.Moves.Calls.{call_keeps}
+use Rattle.model.proofs.Laws.Moves.Calls.{call_keeps}
 
 -- ---- the table of answers
 

@@ -14,7 +14,7 @@ use Rattle.model.specs.Definitions.Check.{well_formed}
 use Rattle.model.specs.Definitions.Steps.{Read, Write, ReadCells, note, stored_selector}
 use Rattle.model.specs.Definitions.Calls.{Call, Accessing, Checkpointing, Fusing, Restarting, call_bank}
 use Rattle.model.specs.Definitions.Older.{stale_well_formed, clean, no_records, adopt}
-use Rattle.model.specs.History.Tests.{same_bytes}
+use Rattle.model.proofs.History.Tests.{same_bytes}
 use Rattle.cases.specs.Table.{agrees}
 use Rattle.cases.specs.Cells.{with_stored}
 

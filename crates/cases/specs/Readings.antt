@@ -14,11 +14,11 @@ use Rattle.model.specs.Definitions.Check.{sizes_allowed}
 use Rattle.model.specs.Definitions.Calls.{Call, Reply, call_bank, reply_of}
 use Rattle.model.specs.History.Statement.{Observed, run_of, begin, made}
 use Rattle.model.specs.History.WearStatement.{events_answered, stores_in, dearest}
-use Rattle.model.specs.History.OnBytes.{call_encode}
-use Rattle.model.specs.Laws.Logic.{and_left, and_right, and_both, clash}
-use Rattle.model.specs.Laws.Lists.{each_head, each_tail, every_each}
-use Rattle.model.specs.Laws.Fresh.{fresh_well_formed, sizes_say}
-use Rattle.model.specs.Laws.Moves.Calls.{call_keeps}
+use Rattle.model.proofs.History.OnBytes.{call_encode}
+use Rattle.model.proofs.Laws.Logic.{and_left, and_right, and_both, clash}
+use Rattle.model.proofs.Laws.Lists.{each_head, each_tail, every_each}
+use Rattle.model.proofs.Laws.Fresh.{fresh_well_formed, sizes_say}
+use Rattle.model.proofs.Laws.Moves.Calls.{call_keeps}
 use Rattle.cases.specs.Wear.{stores_on, counted_on, each_within, flush_at_last, Reading, Refuted, refuted, goes_over}
 use Rattle.cases.specs.Computed.{one_call_over, go_over, sized}
 

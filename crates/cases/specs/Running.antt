@@ -5,7 +5,7 @@ use Rattle.model.specs.Definitions.Codec.{encode}
 use Rattle.model.specs.Definitions.Replay.{recovery_point}
 use Rattle.model.specs.Definitions.Calls.{Call, Result, call_bank}
 use Rattle.model.specs.History.Statement.{History, no_history, access_of, zero_memory}
-use Rattle.model.specs.History.Tests.{premise_for, one_memory_test, repeat_for, grants_for}
+use Rattle.model.proofs.History.Tests.{premise_for, one_memory_test, repeat_for, grants_for}
 use Rattle.model.specs.History.Banks.{history_after, grants_after}
 use Rattle.cases.specs.Digest.{digest}
 use Rattle.cases.specs.Table.{Line, Left, Anything, Digest, RecoveryPoint, Script, agrees}

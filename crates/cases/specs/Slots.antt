@@ -11,7 +11,7 @@ use Rattle.model.specs.Definitions.Check.{area_log_at, slots_clean, well_formed}
 use Rattle.model.specs.Definitions.Steps.{Read, Write}
 use Rattle.model.specs.Definitions.Calls.{Accessing, Checkpointing, Fusing, call}
 use Rattle.model.specs.Definitions.Older.{clean}
-use Rattle.model.specs.History.Tests.{same_bytes}
+use Rattle.model.proofs.History.Tests.{same_bytes}
 use Rattle.cases.specs.Table.{agrees}
 use Rattle.cases.specs.Peers.{bank_after}
 

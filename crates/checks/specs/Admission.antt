@@ -6,7 +6,7 @@ use Rattle.model.specs.Definitions.Bank.{Board}
 use Rattle.model.specs.Definitions.Steps.{Access}
 use Rattle.model.specs.Definitions.Replay.{differs}
 use Rattle.model.specs.Definitions.Calls.{counters_full}
-use Rattle.model.specs.Laws.Logic.{and_right}
+use Rattle.model.proofs.Laws.Logic.{and_right}
 use Rattle.checks.specs.declared.admission.Admission.{Admission}
 use Rattle.checks.specs.declared.admission.Admission.TheVariants.{CountersFull as Full, Differs, Pass}
 

@@ -9,9 +9,9 @@ use Rattle.model.specs.Definitions.Bank.{board_at}
 use Rattle.model.specs.Definitions.Codec.{decode}
 use Rattle.model.specs.Definitions.WellFormed.{WellFormed}
 use Rattle.model.specs.Definitions.Check.{well_formed}
-use Rattle.model.specs.Laws.Logic.{by_bool}
-use Rattle.model.specs.Laws.WellFormedTest.{well_formed_sound}
-use Rattle.model.specs.Laws.BankSteps.{is_bank_test}
+use Rattle.model.proofs.Laws.Logic.{by_bool}
+use Rattle.model.proofs.Laws.WellFormedTest.{well_formed_sound}
+use Rattle.model.proofs.Laws.BankSteps.{is_bank_test}
 use Rattle.model.specs.Clauses.{IsBank}
 use Rattle.copies.specs.Banks.{OfBank}
 use Rattle.checks.specs.declared.entry.Refusal.{Refusal}

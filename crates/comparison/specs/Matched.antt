@@ -5,7 +5,7 @@ use Rattle.std.proofs.Math.ListN.{length, drop_of_length-le}
 use Rattle.std.proofs.Math.Seq.{drop-cons}
 use borrow.Author.Tests.{ltb-true, ltb-false}
 use Rattle.model.specs.Definitions.Logs.{first_unmatched}
-use Rattle.model.specs.Laws.Logic.{by_bool, and_left, and_right}
+use Rattle.model.proofs.Laws.Logic.{by_bool, and_left, and_right}
 
 module _ (gots showns : List ℕ) where
   -- the gots before place i have the page of their shown, so the others decide

@@ -10,12 +10,12 @@ use Rattle.model.specs.Definitions.Bank.{Bank}
 use Rattle.model.specs.Definitions.Codec.{encode_entry, encode_board, encode_board_in, decode_board_in, encode, encode_in, decode_in}
 use Rattle.model.specs.Definitions.Older.{older, older_bank, cleaned_in, no_records}
 use Rattle.model.specs.Definitions.Check.{block_of_in}
-use Rattle.model.specs.Laws.Parts.{part_front}
-use Rattle.model.specs.Laws.CodecBank.{bank_head, length_encode_entries}
+use Rattle.model.proofs.Laws.Parts.{part_front}
+use Rattle.model.proofs.Laws.CodecBank.{bank_head, length_encode_entries}
 use Rattle.fields.proofs.Splices.{splice_pair}
-use Rattle.model.specs.Laws.CodecBankBack.{decode_pages, part_block_of, encode_decode, cleaned_before}
-use Rattle.model.specs.Laws.Lists.{every_below_at}
-use Rattle.model.specs.Laws.Counts.{no_records_counts}
+use Rattle.model.proofs.Laws.CodecBankBack.{decode_pages, part_block_of, encode_decode, cleaned_before}
+use Rattle.model.proofs.Laws.Lists.{every_below_at}
+use Rattle.model.proofs.Laws.Counts.{no_records_counts}
 use Rattle.model.specs.Clauses.{counts_zero}
 use Rattle.conversion.specs.Formed.{FormedBank, known, few_pages, listed, block_length, block_bytes, block_reads}
 use Rattle.conversion.specs.Rewritten.{rewritten, Wide, rewritten_length, Turn, turn_lent}

@@ -17,15 +17,15 @@ use Rattle.model.specs.Definitions.Codec.{selector_byte, encode_frame, encode_lo
 use Rattle.model.specs.Definitions.Codec.{encode_fixed_in, encode_stable, encode_board, encode_board_in, decode_board_in}
 use Rattle.model.specs.Definitions.Older.{older}
 use Rattle.model.specs.Definitions.Check.{area_count}
-use Rattle.model.specs.Laws.Parts.{each_part, length_part, part_join, byte_part, splice_next}
+use Rattle.model.proofs.Laws.Parts.{each_part, length_part, part_join, byte_part, splice_next}
 use Rattle.fields.proofs.Lent.{lent_part}
 use Rattle.fields.proofs.Splices.{splice_triple}
-use Rattle.model.specs.Laws.CodecBack.{AreaPasses, Readable, area_inside, bytes_of_part, frames_part, length_decode_log, state_byte_state_of, selector_byte_eqb}
-use Rattle.model.specs.Laws.CodecBack.{second_decode_stable, encode_decode_stable}
-use Rattle.model.specs.Laws.CodecAt.{encode_no_record}
-use Rattle.model.specs.Laws.Logic.{and_left, and_right}
-use Rattle.model.specs.Laws.Zeros.{zeros_length}
-use Rattle.model.specs.Laws.BoardTests.{count_place}
+use Rattle.model.proofs.Laws.CodecBack.{AreaPasses, Readable, area_inside, bytes_of_part, frames_part, length_decode_log, state_byte_state_of, selector_byte_eqb}
+use Rattle.model.proofs.Laws.CodecBack.{second_decode_stable, encode_decode_stable}
+use Rattle.model.proofs.Laws.CodecAt.{encode_no_record}
+use Rattle.model.proofs.Laws.Logic.{and_left, and_right}
+use Rattle.model.proofs.Laws.Zeros.{zeros_length}
+use Rattle.model.proofs.Laws.BoardTests.{count_place}
 use Rattle.model.specs.Clauses.{counts_zero}
 use borrow.Author.Tests.{eqb-true}
 

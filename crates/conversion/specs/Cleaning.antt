@@ -5,11 +5,11 @@ use Rattle.model.specs.Definitions.Parts.{splice, byte_at}
 use Rattle.model.specs.Definitions.Layout.{today, slot_count, most_pages, area_count_at, volatile_count_at, slots_size, slots_at, area_at, blocks_at, block_size}
 use Rattle.model.specs.Definitions.Check.{area_count, area_log_at, block_of_in}
 use Rattle.model.specs.Definitions.Older.{cleaned_log, cleaned_block, cleaned_in}
-use Rattle.model.specs.Laws.Parts.{same_byte}
-use Rattle.model.specs.Laws.CodecBack.{area_inside}
-use Rattle.model.specs.Laws.BoardTests.{count_place}
-use Rattle.model.specs.Laws.Cleaned.{length_cleaned, before_cleaned, length_cleaned_block, by_area}
-use Rattle.model.specs.Laws.CodecBankBack.{part_block_of}
+use Rattle.model.proofs.Laws.Parts.{same_byte}
+use Rattle.model.proofs.Laws.CodecBack.{area_inside}
+use Rattle.model.proofs.Laws.BoardTests.{count_place}
+use Rattle.model.proofs.Laws.Cleaned.{length_cleaned, before_cleaned, length_cleaned_block, by_area}
+use Rattle.model.proofs.Laws.CodecBankBack.{part_block_of}
 use Rattle.conversion.specs.Formed.{FormedBank, few_pages, block_length, block_reads}
 use Rattle.conversion.specs.Rewritten.{rewritten, Wide, Turn, turn_lent, turn_unwritten}
 

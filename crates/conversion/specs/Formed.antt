@@ -4,8 +4,8 @@ use Rattle.words.specs.Bytes.{Bytes}
 use Rattle.model.specs.Definitions.Parts.{byte_at}
 use Rattle.model.specs.Definitions.Layout.{Form, most_boards, most_pages, boards_at, pages_at, block_size_in, bank_size_in}
 use Rattle.model.specs.Definitions.Check.{block_of_in, formed_in}
-use Rattle.model.specs.Laws.CodecBack.{Readable}
-use Rattle.model.specs.Laws.CodecBankBack.{BytesOk, bytes_ok, length_block_of, bytes_block_of, block_readable}
+use Rattle.model.proofs.Laws.CodecBack.{Readable}
+use Rattle.model.proofs.Laws.CodecBankBack.{BytesOk, bytes_ok, length_block_of, bytes_block_of, block_readable}
 
 -- they are well formed, with these numbers of boards and pages
 pub record FormedBank (form : Form) (named : Bool) (n p : ℕ) (s : List ℕ) : Type 0 where

@@ -6,7 +6,7 @@ use Prim.Native.Nat.{ℕ, zero, suc, ◌+◌, ◌*◌, ◌-◌, ◌≤◌, ◌<�
 use Rattle.std.proofs.Math.Nat.{suc-mul}
 use Rattle.std.proofs.Math.ListN.{length-append}
 use Rattle.model.specs.Definitions.Parts.{part, splice, encode_all, decode_all}
-use Rattle.model.specs.Laws.Parts.{decode_all_add, encode_all_snoc, splice_next, length_splice, index_in, part_drop, part_splice_after}
+use Rattle.model.proofs.Laws.Parts.{decode_all_add, encode_all_snoc, splice_next, length_splice, index_in, part_drop, part_splice_after}
 use Rattle.fields.proofs.Lent.{lent_part, lent_written}
 use Rattle.fields.proofs.Splices.{splice_none}
 

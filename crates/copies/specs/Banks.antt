@@ -7,13 +7,13 @@ use Rattle.model.specs.Definitions.Bank.{Entry, Board, Bank, board_at, entry_at,
 use Rattle.model.specs.Definitions.Codec.{encode_entry, decode_entry, decode_frame, encode_board, encode, decode}
 use Rattle.model.specs.Definitions.Steps.{frame_of}
 use Rattle.model.specs.Definitions.WellFormed.{FieldsOk, SizesOk, WellFormed}
-use Rattle.model.specs.Laws.CodecBank.{decode_encode}
-use Rattle.model.specs.Laws.CodecAt.{encode_on_entry}
-use Rattle.model.specs.Laws.WellFormedTest.{fields_of}
-use Rattle.model.specs.Laws.Boards.{directory_on_entry}
-use Rattle.model.specs.Laws.Runs.{sizes_on_board}
-use Rattle.model.specs.Laws.BlockFields.{read_frame}
-use Rattle.model.specs.Laws.BankSteps.{is_bank_encode, entry_of, on_board_fields, on_entry_fields}
+use Rattle.model.proofs.Laws.CodecBank.{decode_encode}
+use Rattle.model.proofs.Laws.CodecAt.{encode_on_entry}
+use Rattle.model.proofs.Laws.WellFormedTest.{fields_of}
+use Rattle.model.proofs.Laws.Boards.{directory_on_entry}
+use Rattle.model.proofs.Laws.Runs.{sizes_on_board}
+use Rattle.model.proofs.Laws.BlockFields.{read_frame}
+use Rattle.model.proofs.Laws.BankSteps.{is_bank_encode, entry_of, on_board_fields, on_entry_fields}
 use Rattle.model.specs.Clauses.{Fields, IsBank}
 use Rattle.steps.specs.Blocks.{board_of}
 use Rattle.steps.specs.Power.{directory_in}

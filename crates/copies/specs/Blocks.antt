@@ -6,7 +6,7 @@ use Rattle.types.specs.declared.Kind.{Kind}
 use Rattle.model.specs.Definitions.Bank.{on_working}
 use Rattle.model.specs.Definitions.Codec.{encode_board}
 use Rattle.model.specs.Definitions.Steps.{recorded, with_frame}
-use Rattle.model.specs.Laws.BoardFields.{recorded_fields}
+use Rattle.model.proofs.Laws.BoardFields.{recorded_fields}
 use Rattle.model.specs.Clauses.{Space, Recordable}
 use Rattle.steps.specs.Blocks.{IsBlock, board_of}
 use Rattle.steps.specs.BlockLaws.{board_written, block_written}

@@ -13,10 +13,10 @@ use Rattle.model.specs.Definitions.Layout.{slot_count}
 use Rattle.model.specs.Definitions.Bank.{Bank, board_at, entry_at, on_working, on_frames}
 use Rattle.model.specs.Definitions.Codec.{decode}
 use Rattle.model.specs.Definitions.Steps.{appended, recorded, with_frame, frame_of, giver, give_copy, give_copies}
-use Rattle.model.specs.Laws.Lists.{each_head, each_tail, each_imp, each_both}
-use Rattle.model.specs.Laws.Boards.{took_copy, boards_give_copy, board_at_give_copy_same}
-use Rattle.model.specs.Laws.Runs.{SameSizes, sizes_give_copy}
-use Rattle.model.specs.Laws.Keeps.Givers.{giver_give_copy}
+use Rattle.model.proofs.Laws.Lists.{each_head, each_tail, each_imp, each_both}
+use Rattle.model.proofs.Laws.Boards.{took_copy, boards_give_copy, board_at_give_copy_same}
+use Rattle.model.proofs.Laws.Runs.{SameSizes, sizes_give_copy}
+use Rattle.model.proofs.Laws.Keeps.Givers.{giver_give_copy}
 use Rattle.model.specs.Clauses.{volatile_count}
 use Rattle.copies.specs.Banks.{Holds, OfBank, holds_decode, of_holds, holds_of}
 use Rattle.copies.specs.Directory.{of_board}

@@ -6,7 +6,7 @@ use Rattle.model.specs.Definitions.Layout.{head_size, entry_size}
 use Rattle.model.specs.Definitions.Bank.{Entry, entry_at}
 use Rattle.model.specs.Definitions.Codec.{decode_entry, decode}
 use Rattle.model.specs.Definitions.WellFormed.{WellFormed}
-use Rattle.model.specs.Laws.Keeps.Rights as rights
+use Rattle.model.proofs.Laws.Keeps.Rights as rights
 use Rattle.copies.specs.Banks.{OfBank, of_holds, entry_in, entry_read}
 
 module _ {pages b : ℕ} {s : List ℕ} (o : OfBank pages b s) where

@@ -10,10 +10,10 @@ use Rattle.model.specs.Definitions.Layout.{most_boards}
 use Rattle.model.specs.Definitions.Bank.{Entry, Board, Bank, no_board, board_at, entry_at, on_board}
 use Rattle.model.specs.Definitions.Codec.{decode}
 use Rattle.model.specs.Definitions.Steps.{dropped, drop_at}
-use Rattle.model.specs.Laws.Logic.{by_bool, by_eq, clash}
-use Rattle.model.specs.Laws.Sets.{member_with_same, member_with_other, member_without_same, member_without_other, member_none, member_below, without_le}
-use Rattle.model.specs.Laws.Sets.{lowest_member, lowest_in}
-use Rattle.model.specs.Laws.Boards.{boards_on_board, board_at_same, board_at_other, dropped_if, boards_drop_at, board_at_drop_at, loses}
+use Rattle.model.proofs.Laws.Logic.{by_bool, by_eq, clash}
+use Rattle.model.proofs.Laws.Sets.{member_with_same, member_with_other, member_without_same, member_without_other, member_none, member_below, without_le}
+use Rattle.model.proofs.Laws.Sets.{lowest_member, lowest_in}
+use Rattle.model.proofs.Laws.Boards.{boards_on_board, board_at_same, board_at_other, dropped_if, boards_drop_at, board_at_drop_at, loses}
 use Rattle.model.specs.Clauses.{Space}
 use Rattle.fields.specs.Sets.{without_in}
 use Rattle.copies.specs.Banks.{Holds, OfBank, holds_decode, holds_of}

@@ -9,9 +9,9 @@ use Rattle.model.specs.Definitions.Bank.{Entry, Bank, board_at, entry_at, on_boa
 use Rattle.model.specs.Definitions.Codec.{encode_entry, decode_entry, decode}
 use Rattle.model.specs.Definitions.WellFormed.{EntryOk}
 use Rattle.model.specs.Definitions.Steps.{frame_of, give_copy, drop_at, drop_copies, pass_ownership}
-use Rattle.model.specs.Laws.Logic.{by_eq, clash}
-use Rattle.model.specs.Laws.Sets.{member_with_other, member_without_same, member_without_other, with_below, without_le}
-use Rattle.model.specs.Laws.Boards.{took_copy, with_copy, give_copy_parts, without_copies, drop_copies_parts, owned_by, took_own, loses, pass_ownership_parts}
+use Rattle.model.proofs.Laws.Logic.{by_eq, clash}
+use Rattle.model.proofs.Laws.Sets.{member_with_other, member_without_same, member_without_other, with_below, without_le}
+use Rattle.model.proofs.Laws.Boards.{took_copy, with_copy, give_copy_parts, without_copies, drop_copies_parts, owned_by, took_own, loses, pass_ownership_parts}
 use Rattle.model.specs.Clauses.{Space}
 use Rattle.copies.specs.Banks.{Holds, holds_decode, entry_read, entry_holds}
 use Rattle.copies.specs.Drops.{CanDrop, drop_at_same, gives_set}

@@ -4,7 +4,7 @@ use Prim.Native.Nat.{ℕ, suc, ◌+◌, ◌-◌, ◌≤◌, ◌<◌}
 use native.Mathlib.Omega.{arith}
 use Rattle.words.specs.Bytes.{Each}
 use Rattle.model.specs.Definitions.Parts.{all_from, all_below}
-use Rattle.model.specs.Laws.Below.{rising_each, all_from_rising}
+use Rattle.model.proofs.Laws.Below.{rising_each, all_from_rising}
 
 module _ (f : ℕ → Bool) (n : ℕ) where
   -- the indices from i on that pass the test

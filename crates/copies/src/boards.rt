@@ -3,7 +3,7 @@ ghost use Rattle.std.specs.Prelude.{◌≡◌, ◌<◌};
 ghost use Rattle.model.specs.Definitions.Codec.{encode_board};
 ghost use Rattle.model.specs.Definitions.Steps.{dropped};
 ghost use Rattle.model.specs.Definitions.WellFormed.{FrameOk};
-ghost use Rattle.model.specs.Laws.Boards.{took_copy, took_own};
+ghost use Rattle.model.specs.Clauses.{took_copy, took_own};
 ghost use Rattle.model.specs.Clauses.{Space};
 ghost use Rattle.steps.specs.Blocks.{IsBlock, board_of};
 

@@ -5,7 +5,7 @@ ghost use Rattle.model.specs.Definitions.Bank.{board_at, entry_at, on_board};
 ghost use Rattle.model.specs.Definitions.Codec.{decode};
 ghost use Rattle.model.specs.Definitions.WellFormed.{FrameOk, EntryOk};
 ghost use Rattle.model.specs.Definitions.Steps.{frame_of, give_copy, give_copies, dropped, drop_at, drop_copies, pass_ownership};
-ghost use Rattle.model.specs.Laws.Boards.{took_copy, took_own};
+ghost use Rattle.model.specs.Clauses.{took_copy, took_own};
 ghost use Rattle.model.specs.Clauses.{Space};
 ghost use Rattle.copies.specs.Banks.{Holds, OfBank};
 ghost use Rattle.copies.specs.Copies.{pages_in, CanGive};

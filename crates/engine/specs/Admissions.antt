@@ -19,10 +19,10 @@ use Rattle.model.specs.Definitions.Steps.{start, Cell, Access, Read, Write, Read
 use Rattle.model.specs.Definitions.Replay.{differs}
 use Rattle.model.specs.Definitions.Calls.{Result, first_given, unless, live, replaying, cell_in_range, access_in_range, wrong_cells, counters_full, refusals_within}
 use Rattle.model.specs.Definitions.Calls.{access_refusals, access_within, access_bank, refused, Accessing, call_within, call_bank, call}
-use Rattle.model.specs.Laws.Logic.{by_bool, and_left, and_right}
-use Rattle.model.specs.Laws.Keeps.Clauses.{is_replaying_replaying}
+use Rattle.model.proofs.Laws.Logic.{by_bool, and_left, and_right}
+use Rattle.model.proofs.Laws.Keeps.Clauses.{is_replaying_replaying}
 use Rattle.model.specs.Clauses.{IsBank}
-use Rattle.model.specs.Laws.Keeps.Entered.{entered_live, entered, fitting}
+use Rattle.model.proofs.Laws.Keeps.Entered.{entered_live, entered, fitting}
 use Rattle.model.specs.Likeness.{on_value}
 use Rattle.fields.specs.Cells.{CellIn}
 use Rattle.steps.specs.Asked.{got, Takes, wrote_byte}

@@ -20,11 +20,11 @@ use Rattle.model.specs.Definitions.Codec.{decode}
 use Rattle.model.specs.Definitions.Steps.{Cell, Access, Read, Write, ReadCells, cells_asked, cells_read, cells_written, any_cell, any_write, names, takes, value_of}
 use Rattle.model.specs.Definitions.Calls.{Result, cell_in_range, access_in_range, wrong_cells, access_bank, Accessing, call_within, call_bank, Reply, refused}
 use Rattle.model.specs.Definitions.Calls.{reply_of, call, buffer_after}
-use Rattle.model.specs.Laws.Logic.{by_bool, by_eq, and_left, and_right, clash}
-use Rattle.model.specs.Laws.Keeps.Rights.{or_none}
-use Rattle.model.specs.Laws.Keeps.Entered.{cell_of}
-use Rattle.model.specs.Laws.Lists.{every_each, each_imp, each_head}
-use Rattle.model.specs.Laws.Codes.Ends.{access_value, access_done_form}
+use Rattle.model.proofs.Laws.Logic.{by_bool, by_eq, and_left, and_right, clash}
+use Rattle.model.proofs.Laws.Keeps.Rights.{or_none}
+use Rattle.model.proofs.Laws.Keeps.Entered.{cell_of}
+use Rattle.model.proofs.Laws.Lists.{every_each, each_imp, each_head}
+use Rattle.model.proofs.Laws.Codes.Ends.{access_value, access_done_form}
 use Rattle.model.specs.History.Statement.{bytes_seen}
 use Rattle.model.specs.Likeness.{on_value}
 use Rattle.fields.specs.Cells.{CellIn, count_cells}

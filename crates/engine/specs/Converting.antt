@@ -8,8 +8,8 @@ use Rattle.model.specs.Definitions.Layout.{head_size, boards_at, pages_at, bank_
 use Rattle.model.specs.Definitions.Calls.{refused}
 use Rattle.model.specs.Definitions.Older.{older_well_formed, older_bank, fits_target, convert, no_records}
 use Rattle.model.specs.Definitions.Check.{head_valid, formed_in}
-use Rattle.model.specs.Laws.CodecBankBack.{bytes_ok}
-use Rattle.model.specs.Laws.Logic.{by_bool}
+use Rattle.model.proofs.Laws.CodecBankBack.{bytes_ok}
+use Rattle.model.proofs.Laws.Logic.{by_bool}
 use Rattle.engine.specs.Replies.{done}
 
 module _ (old new : List ℕ) where

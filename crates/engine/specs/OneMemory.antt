@@ -15,13 +15,13 @@ use Rattle.model.specs.Definitions.Check.{well_formed, sizes_allowed}
 use Rattle.model.specs.Definitions.Codec.{decode}
 use Rattle.model.specs.Definitions.Answers.{code}
 use Rattle.model.specs.Definitions.Calls.{Call, Reply, refused, reply_of, call, buffer_after, make}
-use Rattle.model.specs.Laws.Codes.Ends.{not_done_gives}
-use Rattle.model.specs.Laws.Logic.{cases, by_bool}
-use Rattle.model.specs.Laws.Fresh.{sizes_say, fresh_bytes}
-use Rattle.model.specs.Laws.Clean.{stays_clean}
-use Rattle.model.specs.Laws.Wear.{stores_paid, stores_bounded, checkpoints_reach, hour_bounded}
+use Rattle.model.proofs.Laws.Codes.Ends.{not_done_gives}
+use Rattle.model.proofs.Laws.Logic.{cases, by_bool}
+use Rattle.model.proofs.Laws.Fresh.{sizes_say, fresh_bytes}
+use Rattle.model.proofs.Laws.Clean.{stays_clean}
+use Rattle.model.proofs.Laws.Wear.{stores_paid, stores_bounded, checkpoints_reach, hour_bounded}
 use Rattle.model.specs.History.Statement.{Observed, made, begin, run_of, PremisesSeen, ClaimsSeen, Premises, Claims}
-use Rattle.model.specs.History.OnBytes.{make_begins}
+use Rattle.model.proofs.History.OnBytes.{make_begins}
 use Rattle.model.specs.History.LogsStatement.{SparedYieldNoPlace}
 use Rattle.model.specs.History.CleanStatement.{StaysClean}
 use Rattle.model.specs.History.WearStatement.{StoresBounded, CheckpointsReach, StoresPaid, HourBounded}

@@ -15,9 +15,9 @@ use Rattle.model.specs.Definitions.Steps.{Run, start, step, fuse_board, checkpoi
 use Rattle.model.specs.Definitions.Calls.{Result, first_given, unless, finished, access_in_range, refusals_within, access_within, checkpoint_bank, fuse_bank}
 use Rattle.model.specs.Definitions.Calls.{restart_bank, compare_bank, Call, Accessing, Checkpointing, Fusing, Restarting, Comparing, call_bank, Reply, refused}
 use Rattle.model.specs.Definitions.Calls.{done_with, reply_of, call}
-use Rattle.model.specs.Laws.WellFormedTest.{well_formed_back}
+use Rattle.model.proofs.Laws.WellFormedTest.{well_formed_back}
 use Rattle.model.specs.Laws.Codes.Statement.{board_named}
-use Rattle.model.specs.Laws.FewStores.{call_few}
+use Rattle.model.proofs.Laws.FewStores.{call_few}
 use Rattle.model.specs.Clauses.{most_stores}
 use Rattle.exchange.specs.Progress.{lost_by, Came}
 use Rattle.accesses.specs.Results.{ended_as}

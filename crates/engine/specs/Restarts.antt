@@ -14,13 +14,13 @@ use Rattle.model.specs.Definitions.WellFormed.{FieldsOk, WellFormed, is_down}
 use Rattle.model.specs.Definitions.Steps.{start}
 use Rattle.model.specs.Definitions.Replay.{loaded, used_up, replay_over, end_replay, end_if_over}
 use Rattle.model.specs.Definitions.Calls.{first_given, unless, finished, restart_bank, Restarting, call_bank, refused, call}
-use Rattle.model.specs.Laws.Boards.{board_at_same}
-use Rattle.model.specs.Laws.Keeps.Clauses.{but, on_board_but}
+use Rattle.model.proofs.Laws.Boards.{board_at_same}
+use Rattle.model.proofs.Laws.Keeps.Clauses.{but, on_board_but}
 use Rattle.model.specs.Clauses.{Fits, InReplay, WellFormedBut, most_stores}
-use Rattle.model.specs.Laws.Keeps.Replay.{loaded_in_replay, used_up_in_replay}
-use Rattle.model.specs.Laws.Keeps.Peers.{loaded_peers, used_up_peers}
-use Rattle.model.specs.Laws.Runs.{sizes_on_board}
-use Rattle.model.specs.Laws.BoardFields.{loaded_fields}
+use Rattle.model.proofs.Laws.Keeps.Replay.{loaded_in_replay, used_up_in_replay}
+use Rattle.model.proofs.Laws.Keeps.Peers.{loaded_peers, used_up_peers}
+use Rattle.model.proofs.Laws.Runs.{sizes_on_board}
+use Rattle.model.proofs.Laws.BoardFields.{loaded_fields}
 use Rattle.replay.specs.Used.{used_up_fields}
 use Rattle.copies.specs.Banks.{Holds, OfBank, holds_decode, holds_of}
 use Rattle.exchange.specs.Progress.{running, lost_by, Came}

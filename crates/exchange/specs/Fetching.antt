@@ -14,17 +14,17 @@ use Rattle.model.specs.Definitions.Bank.{Bank, board_at, entry_at}
 use Rattle.model.specs.Definitions.Codec.{decode}
 use Rattle.model.specs.Definitions.WellFormed.{EntryOk, WellFormed}
 use Rattle.model.specs.Definitions.Steps.{Run, step, frame_of, giver, show, pass_ownership, write_fetch}
-use Rattle.model.specs.Laws.Lists.{each_head}
-use Rattle.model.specs.Laws.Runs.{Changed, entry_at_changed, Follows, follows_trans, follows_step, follows_note_flush, sizes_pass_ownership}
-use Rattle.model.specs.Laws.Runs.Stores.{FlushedWith, show_changed, note_flush_changed}
-use Rattle.model.specs.Laws.Keeps.Clauses.{up_below}
+use Rattle.model.proofs.Laws.Lists.{each_head}
+use Rattle.model.proofs.Laws.Runs.{Changed, entry_at_changed, Follows, follows_trans, follows_step, follows_note_flush, sizes_pass_ownership}
+use Rattle.model.proofs.Laws.Runs.Stores.{FlushedWith, show_changed, note_flush_changed}
+use Rattle.model.proofs.Laws.Keeps.Clauses.{up_below}
 use Rattle.model.specs.Clauses.{RoomFor, Space, CanFetch}
-use Rattle.model.specs.Laws.Keeps.Rights.{entry_at_lem}
-use Rattle.model.specs.Laws.Keeps.Fetches.{page_there, owner_up, owner_other, room_taker, room_owner, room_got}
+use Rattle.model.proofs.Laws.Keeps.Rights.{entry_at_lem}
+use Rattle.model.proofs.Laws.Keeps.Fetches.{page_there, owner_up, owner_other, room_taker, room_owner, room_got}
 use Rattle.copies.specs.Banks.{Holds, OfBank, holds_bank, holds_decode, holds_well_formed}
 use Rattle.exchange.specs.Progress.{running, Came, CanShow, get_own}
-use Rattle.model.specs.Laws.Moves.Stores.{show_keeps}
-use Rattle.model.specs.Laws.Moves.Fetches.{taker_other, got_keeps}
+use Rattle.model.proofs.Laws.Moves.Stores.{show_keeps}
+use Rattle.model.proofs.Laws.Moves.Fetches.{taker_other, got_keeps}
 
 -- ---- a run and its bytes
 

@@ -9,7 +9,7 @@ use Rattle.model.specs.Definitions.Codec.{encode_board, encode, decode}
 use Rattle.model.specs.Definitions.WellFormed.{FieldsOk}
 use Rattle.model.specs.Definitions.Steps.{forgotten}
 use Rattle.model.specs.Definitions.BoardRuns.{BoardRun}
-use Rattle.model.specs.Laws.Boards.{boards_on_board}
+use Rattle.model.proofs.Laws.Boards.{boards_on_board}
 use Rattle.steps.specs.Blocks.{board_of}
 use Rattle.steps.specs.BankBlocks.{LentBlock, lent_board}
 use Rattle.stores.specs.Lifted.{lifted, lifted_lost, lifted_going}

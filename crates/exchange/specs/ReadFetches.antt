@@ -15,15 +15,15 @@ use Rattle.model.specs.Definitions.Bank.{Bank, board_at}
 use Rattle.model.specs.Definitions.Codec.{decode}
 use Rattle.model.specs.Definitions.WellFormed.{WellFormed}
 use Rattle.model.specs.Definitions.Steps.{Run, giver, show, show_all, give_copies, read_fetch}
-use Rattle.model.specs.Laws.Lists.{each_head, each_imp}
-use Rattle.model.specs.Laws.Runs.{Changed, follows_show_all, follows_step, sizes_give_copies}
-use Rattle.model.specs.Laws.Runs.Stores.{FlushedWith, show_changed}
-use Rattle.model.specs.Laws.Keeps.Clauses.{up_below}
-use Rattle.model.specs.Laws.Keeps.Rights.{entry_at_lem}
-use Rattle.model.specs.Laws.Keeps.Copies.{room_giver, Shared, shared_giver, shown_can, show_all_shared, needs_reader}
-use Rattle.model.specs.Laws.Moves.Stores.{show_keeps}
-use Rattle.model.specs.Laws.Moves.Fetches.{taker_other, show_all_moves}
-use Rattle.model.specs.Laws.Moves.Formed.{formed_begun, run_formed, moves_formed}
+use Rattle.model.proofs.Laws.Lists.{each_head, each_imp}
+use Rattle.model.proofs.Laws.Runs.{Changed, follows_show_all, follows_step, sizes_give_copies}
+use Rattle.model.proofs.Laws.Runs.Stores.{FlushedWith, show_changed}
+use Rattle.model.proofs.Laws.Keeps.Clauses.{up_below}
+use Rattle.model.proofs.Laws.Keeps.Rights.{entry_at_lem}
+use Rattle.model.proofs.Laws.Keeps.Copies.{room_giver, Shared, shared_giver, shown_can, show_all_shared, needs_reader}
+use Rattle.model.proofs.Laws.Moves.Stores.{show_keeps}
+use Rattle.model.proofs.Laws.Moves.Fetches.{taker_other, show_all_moves}
+use Rattle.model.proofs.Laws.Moves.Formed.{formed_begun, run_formed, moves_formed}
 use Rattle.model.specs.Moves.{anyone, still}
 use Rattle.model.specs.Clauses.{CanFetch}
 use Rattle.copies.specs.Banks.{Holds, OfBank, holds_bank, holds_decode, of_holds, holds_of}

@@ -6,7 +6,7 @@ use mathlib.Core.List.{List, ◌++◌}
 use lib.ListN.{length, take, drop, length-take, length-drop}
 use lib.Seq.{drop-drop}
 use Rattle.model.specs.Definitions.Parts.{part, splice, zeros}
-use Rattle.model.specs.Laws.Parts.{length_part}
+use Rattle.model.proofs.Laws.Parts.{length_part}
 
 module _ {A : Type 0} where
   -- what is lent is the part

@@ -10,7 +10,7 @@ use lib.Seq.{length-take-le, take_all, take-suc}
 use Rattle.words.specs.LittleEndian.{bytes_of}
 use Rattle.words.specs.LittleEndianLaws.{length_bytes_of}
 use Rattle.model.specs.Definitions.Parts.{part, splice}
-use Rattle.model.specs.Laws.Parts.{length_splice, length_part, get_d_part, splice_one, splice_next}
+use Rattle.model.proofs.Laws.Parts.{length_splice, length_part, get_d_part, splice_one, splice_next}
 
 module _ {A : Type 0} where
   -- nothing written

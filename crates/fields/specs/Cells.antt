@@ -7,9 +7,9 @@ use Rattle.model.specs.Definitions.Parts.{every, member, with_member}
 use Rattle.model.specs.Definitions.Layout.{page_size, most_cells}
 use Rattle.model.specs.Definitions.Steps.{Cell, ReadCells, cells_asked, any_cell}
 use Rattle.model.specs.Definitions.Calls.{wrong_cells}
-use Rattle.model.specs.Laws.Logic.{by_eq}
-use Rattle.model.specs.Laws.Lists.{each_head, each_tail}
-use Rattle.model.specs.Laws.Sets.{member_with_same, member_with_other, member_none}
+use Rattle.model.proofs.Laws.Logic.{by_eq}
+use Rattle.model.proofs.Laws.Lists.{each_head, each_tail}
+use Rattle.model.proofs.Laws.Sets.{member_with_same, member_with_other, member_none}
 
 -- a cell of a bank with so many pages
 abbrev pub CellIn : ℕ → Cell → Type 0

@@ -4,7 +4,7 @@ use Rattle.std.specs.Prelude.{◌≡◌, ℕ, zero, suc, ◌+◌, ◌*◌, ◌-�
 use Rattle.std.proofs.Common.{pow-suc, div-one, arith, eq-eqb, eqb-true}
 use Rattle.std.proofs.Math.Nat.{pow-succ', div-div-eq-div-mul}
 use Rattle.model.specs.Definitions.Parts.{member, with_member, without_member}
-use Rattle.model.specs.Laws.Logic.{by_eq, clash}
+use Rattle.model.proofs.Laws.Logic.{by_eq, clash}
 
 pub member_digit : (b set : ℕ) → member b set ≡ eqb (set / 2 ^ b % 2) 1
 unfolding member

@@ -4,7 +4,7 @@ use Rattle.words.specs.LittleEndian.{bytes_of}
 use Rattle.model.specs.Definitions.Parts.{part, splice, byte_at, zeros}
 use Rattle.model.specs.Definitions.Layout.{selector_at, area_at, area_size, block_size, number_size, slots_size, area_number_at, area_slots_at}
 use Rattle.model.specs.Definitions.Codec.{selector_byte}
-use Rattle.model.specs.Laws.BlockStable.{area_in}
+use Rattle.model.proofs.Laws.BlockStable.{area_in}
 
 unfoldable pub selected_at : ℕ → List ℕ → ℕ
 selected_at pages l = area_at pages (selector_byte (eqb (byte_at l selector_at) (selector_byte true)))

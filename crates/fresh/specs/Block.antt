@@ -14,10 +14,10 @@ use Rattle.model.specs.Definitions.Layout.{block_size}
 use Rattle.model.specs.Definitions.Bank.{fresh_frames, fresh_board}
 use Rattle.model.specs.Definitions.Codec.{right_byte, state_byte, selector_byte, encode_frame, encode_fixed, encode_board, encode_area_in, encode_fixed_in}
 use Rattle.model.specs.Definitions.Codec.{encode_stable_in, encode_board_in}
-use Rattle.model.specs.Laws.Parts.{length_splice, splice_amid, splice_at}
-use Rattle.model.specs.Laws.Zeros.{zeros_length}
-use Rattle.model.specs.Laws.CodecAt.{encode_no_record}
-use Rattle.model.specs.Laws.Zeros.{zeros_append}
+use Rattle.model.proofs.Laws.Parts.{length_splice, splice_amid, splice_at}
+use Rattle.model.proofs.Laws.Zeros.{zeros_length}
+use Rattle.model.proofs.Laws.CodecAt.{encode_no_record}
+use Rattle.model.proofs.Laws.Zeros.{zeros_append}
 use Rattle.fresh.specs.Rights.{frame_where, frames_where, frames_length, frames_same, frames_none, frames_next, own_below, own_first, own_waits, own_done}
 use Rattle.fresh.specs.Rights.{own_other, own_last}
 

@@ -8,11 +8,11 @@ use Rattle.model.specs.Definitions.Parts.{part, splice, zeros, encode_all, tabul
 use Rattle.model.specs.Definitions.Layout.{entry_size, block_size, head_mark0, head_mark1, boards_at, pages_at, head_size, blocks_at, bank_size}
 use Rattle.model.specs.Definitions.Bank.{Entry, fresh_board, fresh}
 use Rattle.model.specs.Definitions.Codec.{encode_entry, encode_board, encode, encode_in}
-use Rattle.model.specs.Laws.Lists.{length_tabulate}
-use Rattle.model.specs.Laws.Parts.{index_in, length_splice, part_at, part_part, part_splice_after, splice_next}
-use Rattle.model.specs.Laws.Codec.{length_encode_entry}
-use Rattle.model.specs.Laws.Zeros.{zeros_length}
-use Rattle.model.specs.Laws.Zeros.{zeros_append}
+use Rattle.model.proofs.Laws.Lists.{length_tabulate}
+use Rattle.model.proofs.Laws.Parts.{index_in, length_splice, part_at, part_part, part_splice_after, splice_next}
+use Rattle.model.proofs.Laws.Codec.{length_encode_entry}
+use Rattle.model.proofs.Laws.Zeros.{zeros_length}
+use Rattle.model.proofs.Laws.Zeros.{zeros_append}
 use Rattle.fields.proofs.Lent.{lent_written}
 use Rattle.fields.proofs.Splices.{splice_triple}
 use Rattle.fresh.specs.SideBySide.{all_length, one_more}

@@ -10,13 +10,13 @@ use Rattle.model.specs.Definitions.Parts.{part, splice, zeros, encode_all, tabul
 use Rattle.model.specs.Definitions.Layout.{page_size, frame_size}
 use Rattle.model.specs.Definitions.Bank.{empty_frame}
 use Rattle.model.specs.Definitions.Codec.{right_byte, encode_frame}
-use Rattle.model.specs.Laws.Logic.{cases, by_bool, by_eq}
-use Rattle.model.specs.Laws.Lists.{length_tabulate, get_d_tabulate, each_tabulate}
-use Rattle.model.specs.Laws.Parts.{split_part, splice_at, part_encode_all, encode_all_set}
-use Rattle.model.specs.Laws.Codec.{length_encode_frame}
-use Rattle.model.specs.Laws.Zeros.{zeros_length}
-use Rattle.model.specs.Laws.BlockWorking.{encode_empty_frame}
-use Rattle.model.specs.Laws.Zeros.{zeros_append}
+use Rattle.model.proofs.Laws.Logic.{cases, by_bool, by_eq}
+use Rattle.model.proofs.Laws.Lists.{length_tabulate, get_d_tabulate, each_tabulate}
+use Rattle.model.proofs.Laws.Parts.{split_part, splice_at, part_encode_all, encode_all_set}
+use Rattle.model.proofs.Laws.Codec.{length_encode_frame}
+use Rattle.model.proofs.Laws.Zeros.{zeros_length}
+use Rattle.model.proofs.Laws.BlockWorking.{encode_empty_frame}
+use Rattle.model.proofs.Laws.Zeros.{zeros_append}
 use Rattle.fresh.specs.SideBySide.{all_next, all_length}
 
 abbrev own_frame : Frame

@@ -6,8 +6,8 @@ use Prim.Native.Nat.{ℕ, zero, suc, ◌+◌, ◌*◌, ◌≤◌}
 use Rattle.std.proofs.Math.Nat.{add-zero, zero-add}
 use mathlib.Core.List.{List, [], ◌∷◌, ◌++◌}
 use Rattle.model.specs.Definitions.Parts.{splice, encode_all, tabulate_from, tabulate}
-use Rattle.model.specs.Laws.Lists.{length_tabulate, each_tabulate}
-use Rattle.model.specs.Laws.Parts.{length_encode_all, encode_all_snoc, splice_next}
+use Rattle.model.proofs.Laws.Lists.{length_tabulate, each_tabulate}
+use Rattle.model.proofs.Laws.Parts.{length_encode_all, encode_all_snoc, splice_next}
 use Rattle.fields.proofs.Splices.{splice_none}
 
 module _ {A : Type 0} where

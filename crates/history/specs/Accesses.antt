@@ -21,13 +21,13 @@ use Rattle.model.specs.Definitions.Bank.{Entry, Board, Bank, board_at, frame_at,
 use Rattle.model.specs.Definitions.WellFormed.{WellFormed, right_in}
 use Rattle.model.specs.Definitions.Steps.{Access, cells_read, cells_written, any_cell, any_write, names, takes, lacks, with_bytes, read_from, accessed, access}
 use Rattle.model.specs.Definitions.Replay.{lacking, recovery_point}
-use Rattle.model.specs.Laws.Logic.{by_bool, by_eq, clash}
-use Rattle.model.specs.Laws.Lists.{each_append}
-use Rattle.model.specs.Laws.Below.{has_right}
-use Rattle.model.specs.Laws.Sets.{member_none}
-use Rattle.model.specs.Laws.Boards.{boards_on_board, directory_on_board, board_at_same, board_at_other}
-use Rattle.model.specs.Laws.Keeps.Clauses.{fits}
-use Rattle.model.specs.Laws.Keeps.Rights.{right_from}
+use Rattle.model.proofs.Laws.Logic.{by_bool, by_eq, clash}
+use Rattle.model.proofs.Laws.Lists.{each_append}
+use Rattle.model.proofs.Laws.Below.{has_right}
+use Rattle.model.proofs.Laws.Sets.{member_none}
+use Rattle.model.proofs.Laws.Boards.{boards_on_board, directory_on_board, board_at_same, board_at_other}
+use Rattle.model.proofs.Laws.Keeps.Clauses.{fits}
+use Rattle.model.proofs.Laws.Keeps.Rights.{right_from}
 use Rattle.model.specs.Clauses.{Fits}
 use Rattle.model.specs.History.Statement.{HistoryEntry, History, of_board, discard, zero_memory, byte_in, with_number_of}
 use Rattle.history.specs.Rerun.{Rebuilt, Made, next, Accepts, Serves}

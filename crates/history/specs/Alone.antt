@@ -16,14 +16,14 @@ use Rattle.model.specs.Definitions.Bank.{Board, Bank, board_at}
 use Rattle.model.specs.Definitions.WellFormed.{IsEmpty, Blank, PlaceOk, is_replaying, WellFormed}
 use Rattle.model.specs.Definitions.Steps.{Run, start, Access}
 use Rattle.model.specs.Definitions.Calls.{Result, Call, Accessing, Checkpointing, Fusing, Restarting, Comparing, call_bank}
-use Rattle.model.specs.Laws.Logic.{by_bool, clash}
-use Rattle.model.specs.Laws.Codes.Cases.{compare_cases}
-use Rattle.model.specs.Laws.Lists.{each_head, each_tail}
-use Rattle.model.specs.Laws.Boards.{board_at_out, by_board}
-use Rattle.model.specs.Laws.Runs.{lost_not, SameSizes, sizes_same}
-use Rattle.model.specs.Laws.Moves.{moves_follow}
+use Rattle.model.proofs.Laws.Logic.{by_bool, clash}
+use Rattle.model.proofs.Laws.Codes.Cases.{compare_cases}
+use Rattle.model.proofs.Laws.Lists.{each_head, each_tail}
+use Rattle.model.proofs.Laws.Boards.{board_at_out, by_board}
+use Rattle.model.proofs.Laws.Runs.{lost_not, SameSizes, sizes_same}
+use Rattle.model.proofs.Laws.Moves.{moves_follow}
 use Rattle.model.specs.Laws.Codes.Statement.{board_named}
-use Rattle.model.specs.Laws.Keeps.Clauses.{up_not_replaying, fits, is_replaying_replaying}
+use Rattle.model.proofs.Laws.Keeps.Clauses.{up_not_replaying, fits, is_replaying_replaying}
 use Rattle.model.specs.Clauses.{Fits}
 use Rattle.model.specs.History.Statement.{access_of}
 use Rattle.history.specs.Bystanders.{call_leaves}
@@ -33,7 +33,7 @@ use Rattle.history.specs.AloneBoards.{Same, same, same_seen}
 use Rattle.history.specs.AloneRuns.{sizes_both, SameAt, SameRun}
 use Rattle.history.specs.AloneCalls.{SameResult, SameAccess, answered, goes_on, access_same, checkpoint_refused, restart_refused, fuse_same}
 use Rattle.history.specs.AloneCalls.{restart_same}
-use Rattle.model.specs.Laws.Moves.Calls.{call_moves, call_keeps}
+use Rattle.model.proofs.Laws.Moves.Calls.{call_moves, call_keeps}
 
 -- ==== one call of the board
 

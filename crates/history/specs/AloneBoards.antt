@@ -6,7 +6,7 @@ use Rattle.model.specs.Definitions.Layout.{no_fuse}
 use Rattle.model.specs.Definitions.Bank.{Area, Working, Board, on_working, on_spare}
 use Rattle.model.specs.Definitions.Steps.{powered_off, with_fuse, burnt, stored_selector, rested_working, Access, accessed}
 use Rattle.model.specs.Definitions.Replay.{loaded, records_left, use_up, used_up, due, differs, took_gots, took_due, replay_over, settled, replayed}
-use Rattle.model.specs.Laws.Logic.{by_bool}
+use Rattle.model.proofs.Laws.Logic.{by_bool}
 use Rattle.model.specs.Moves.{Saved}
 use Rattle.model.specs.History.AloneStatement.{Seen, seen}
 

@@ -19,16 +19,16 @@ use Rattle.model.specs.Definitions.Steps.{Run, start, with_fuse, fuse_board, Acc
 use Rattle.model.specs.Definitions.Replay.{loaded, used_up, took_due, replay_over, end_if_over, replayed}
 use Rattle.model.specs.Definitions.Calls.{Result, first_given, unless, finished, access_in_range, counters_full, refusals_within, access_refusals, access_within}
 use Rattle.model.specs.Definitions.Calls.{access_bank, checkpoint_bank, fuse_bank, restart_bank}
-use Rattle.model.specs.Laws.Logic.{by_bool, by_option, clash, and_left}
-use Rattle.model.specs.Laws.Boards.{boards_on_board, board_at_same}
-use Rattle.model.specs.Laws.Runs.{lost_not, SameSizes}
+use Rattle.model.proofs.Laws.Logic.{by_bool, by_option, clash, and_left}
+use Rattle.model.proofs.Laws.Boards.{boards_on_board, board_at_same}
+use Rattle.model.proofs.Laws.Runs.{lost_not, SameSizes}
 use Rattle.model.specs.Laws.Codes.Statement.{after_replay, LiveOn, up, replay_ended}
-use Rattle.model.specs.Laws.Tests.{Says}
-use Rattle.model.specs.Laws.Codes.Order.{fails}
-use Rattle.model.specs.Laws.Codes.Tests.{replay_other, LastDue, last_due}
-use Rattle.model.specs.Laws.Keeps.Clauses.{replaying_place, fits, up_not_replaying, down_not_replaying, is_up_up, is_down_down, is_replaying_replaying}
-use Rattle.model.specs.Laws.Keeps.Live.{NoneOf, first_of_none}
-use Rattle.model.specs.Laws.Keeps.Entered.{taken_in_replay, replayed_keeps}
+use Rattle.model.proofs.Laws.Tests.{Says}
+use Rattle.model.proofs.Laws.Codes.Order.{fails}
+use Rattle.model.proofs.Laws.Codes.Tests.{replay_other, LastDue, last_due}
+use Rattle.model.proofs.Laws.Keeps.Clauses.{replaying_place, fits, up_not_replaying, down_not_replaying, is_up_up, is_down_down, is_replaying_replaying}
+use Rattle.model.proofs.Laws.Keeps.Live.{NoneOf, first_of_none}
+use Rattle.model.proofs.Laws.Keeps.Entered.{taken_in_replay, replayed_keeps}
 use Rattle.history.specs.ReplayAccess.{unless_refused, unless_goes, finished_lost, finished_done, took_in, repeated_in, access_lost, access_repeated}
 use Rattle.history.specs.ReplayAccess.{ended_idle, over_idle, entered_at, replaying_at, fitting_at, restarted_in, restarted_in_replay, restart_idle}
 use Rattle.model.specs.History.AloneStatement.{goes_on_live, SameOwned}

@@ -13,13 +13,13 @@ use Rattle.model.specs.Definitions.WellFormed.{WellFormed}
 use Rattle.model.specs.Definitions.Steps.{Run, start, step, power_off, burnt, store, store_all, stored_frame, stored_head, stored_selector, spare_stores}
 use Rattle.model.specs.Definitions.Steps.{rested_working, checkpoint}
 use Rattle.model.specs.Definitions.Replay.{replay_over, settled, end_replay, end_if_over, settle}
-use Rattle.model.specs.Laws.Logic.{by_bool, by_option}
-use Rattle.model.specs.Laws.Lists.{foldl_both}
-use Rattle.model.specs.Laws.Boards.{board_at_same, board_at_power_off_same, boards_on_board}
-use Rattle.model.specs.Laws.Runs.{step_lost, store_lost, SameSizes, sizes_on_board, sizes_power_off, follows_store, each_spare_stores, checkpoint_selector}
+use Rattle.model.proofs.Laws.Logic.{by_bool, by_option}
+use Rattle.model.proofs.Laws.Lists.{foldl_both}
+use Rattle.model.proofs.Laws.Boards.{board_at_same, board_at_power_off_same, boards_on_board}
+use Rattle.model.proofs.Laws.Runs.{step_lost, store_lost, SameSizes, sizes_on_board, sizes_power_off, follows_store, each_spare_stores, checkpoint_selector}
 use Rattle.model.specs.Clauses.{WellFormedBut, InReplay}
-use Rattle.model.specs.Laws.Keeps.Replay.{settle_restores}
-use Rattle.model.specs.Laws.Moves.Stores.{head_saves}
+use Rattle.model.proofs.Laws.Keeps.Replay.{settle_restores}
+use Rattle.model.proofs.Laws.Moves.Stores.{head_saves}
 use Rattle.history.specs.ReplayAccess.{if_over, if_going}
 use Rattle.model.specs.History.AloneStatement.{SameOwned}
 use Rattle.history.specs.AloneBoards.{Same, burnt_same, powered_off_same, rested_same, settled_same, on_spare_same, selector_same, over_same}

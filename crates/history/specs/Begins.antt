@@ -11,10 +11,10 @@ use Rattle.model.specs.Definitions.Parts.{zeros}
 use Rattle.model.specs.Definitions.Layout.{page_size}
 use Rattle.model.specs.Definitions.Bank.{Board, empty_frame, entry_at, frame_at, fresh_frames, fresh_board, fresh, entry_in}
 use Rattle.model.specs.Definitions.WellFormed.{SizesOk}
-use Rattle.model.specs.Laws.Logic.{clash}
-use Rattle.model.specs.Laws.Lists.{get_d_tabulate}
-use Rattle.model.specs.Laws.Sets.{member_none}
-use Rattle.model.specs.Laws.Fresh.{fresh_well_formed, fresh_boards, fresh_pages, fresh_board_lem, fresh_entry}
+use Rattle.model.proofs.Laws.Logic.{clash}
+use Rattle.model.proofs.Laws.Lists.{get_d_tabulate}
+use Rattle.model.proofs.Laws.Sets.{member_none}
+use Rattle.model.proofs.Laws.Fresh.{fresh_well_formed, fresh_boards, fresh_pages, fresh_board_lem, fresh_entry}
 use Rattle.model.specs.History.Statement.{no_history, of_board, discard, zero_memory, OneMemory}
 use Rattle.history.specs.Rerun.{checkpointed}
 use Rattle.history.specs.Invariant.{memory_after, unstable_write, Exclusive, settled_as, BoardInvariant, Invariant, nobody}

@@ -18,18 +18,18 @@ use Rattle.model.specs.Moves.{Move, does, Phase, Begun, Noted, Fetched, Replays,
 use Rattle.model.specs.Moves.{TakesCopy, first, behind}
 use Rattle.model.specs.Moves.{closes, Guard, notes_shown, notes_got, stores_record, stores_frame, stores_head, stores_selector, gives_copy, passes_ownership}
 use Rattle.model.specs.Moves.{drops_copies, performs, loses_power, sets_fuse, loads, repeats_access, takes_last, settles, Moves, still}
-use Rattle.model.specs.Laws.Logic.{by_eq, by_option}
-use Rattle.model.specs.Laws.Boards.{dropped_if, board_at_same, board_at_other, board_at_out, board_at_power_off_other, board_at_power_off_same, board_at_give_copy_other}
-use Rattle.model.specs.Laws.Boards.{board_at_drop_copies, board_at_pass_ownership_other, by_board}
-use Rattle.model.specs.Laws.Runs.{lost_not, step_lost, step_cases, store_cases, step_going, SameSizes, sizes_drop_copies, sizes_pass_ownership}
-use Rattle.model.specs.Laws.Keeps.Clauses.{fits, up_below, up_not_down, up_not_replaying}
-use Rattle.model.specs.Laws.Keeps.Replay.{settle_restores}
-use Rattle.model.specs.Laws.Moves.{induct}
-use Rattle.model.specs.Laws.Moves.Formed.{FormedIn, FormedRun, formed_begun, induct_formed}
-use Rattle.model.specs.Laws.Moves.Stores.{checkpoint_moves}
-use Rattle.model.specs.Laws.Moves.Calls.{makes_now, live_moves, call_moves}
-use Rattle.model.specs.Laws.States.{SameStates, states_on_board, states_give_copy, states_drop_copies, states_pass_ownership}
-use Rattle.model.specs.Laws.Runs.Stores.{burnt_state, flushed_stored_record}
+use Rattle.model.proofs.Laws.Logic.{by_eq, by_option}
+use Rattle.model.proofs.Laws.Boards.{dropped_if, board_at_same, board_at_other, board_at_out, board_at_power_off_other, board_at_power_off_same, board_at_give_copy_other}
+use Rattle.model.proofs.Laws.Boards.{board_at_drop_copies, board_at_pass_ownership_other, by_board}
+use Rattle.model.proofs.Laws.Runs.{lost_not, step_lost, step_cases, store_cases, step_going, SameSizes, sizes_drop_copies, sizes_pass_ownership}
+use Rattle.model.proofs.Laws.Keeps.Clauses.{fits, up_below, up_not_down, up_not_replaying}
+use Rattle.model.proofs.Laws.Keeps.Replay.{settle_restores}
+use Rattle.model.proofs.Laws.Moves.{induct}
+use Rattle.model.proofs.Laws.Moves.Formed.{FormedIn, FormedRun, formed_begun, induct_formed}
+use Rattle.model.proofs.Laws.Moves.Stores.{checkpoint_moves}
+use Rattle.model.proofs.Laws.Moves.Calls.{makes_now, live_moves, call_moves}
+use Rattle.model.proofs.Laws.States.{SameStates, states_on_board, states_give_copy, states_drop_copies, states_pass_ownership}
+use Rattle.model.proofs.Laws.Runs.Stores.{burnt_state, flushed_stored_record}
 use Rattle.model.specs.History.Statement.{Event}
 use Rattle.model.specs.Laws.Codes.Statement.{board_named}
 

@@ -16,15 +16,15 @@ use Rattle.model.specs.Definitions.Codec.{page_of}
 use Rattle.model.specs.Definitions.WellFormed.{is_got, WellFormed}
 use Rattle.model.specs.Definitions.Steps.{Run, step, power_off, burnt, recorded, note, stored_record}
 use Rattle.model.specs.Definitions.Replay.{count_sum, recovery_point}
-use Rattle.model.specs.Laws.Boards.{stored_record_cases, boards_on_board, directory_on_board, board_at_same, board_at_other, board_at_power_off_same}
-use Rattle.model.specs.Laws.Runs.{lost_not, step_cases}
-use Rattle.model.specs.Laws.Runs.Stores.{burnt_state, burnt_working, burnt_stable}
-use Rattle.model.specs.Laws.Keeps.Clauses.{fits, up_below, on_board_keeps}
+use Rattle.model.proofs.Laws.Boards.{stored_record_cases, boards_on_board, directory_on_board, board_at_same, board_at_other, board_at_power_off_same}
+use Rattle.model.proofs.Laws.Runs.{lost_not, step_cases}
+use Rattle.model.proofs.Laws.Runs.Stores.{burnt_state, burnt_working, burnt_stable}
+use Rattle.model.proofs.Laws.Keeps.Clauses.{fits, up_below, on_board_keeps}
 use Rattle.model.specs.Clauses.{Fits, RoomFor, Another}
-use Rattle.model.specs.Laws.Keeps.NotedRecords.{note_keeps, stored_record_fits}
-use Rattle.model.specs.Laws.Keeps.Stores.{power_off_keeps}
-use Rattle.model.specs.Laws.Keeps.Peers.{stored_record_peers}
-use Rattle.model.specs.Laws.Keeps.Rights.{board_byte}
+use Rattle.model.proofs.Laws.Keeps.NotedRecords.{note_keeps, stored_record_fits}
+use Rattle.model.proofs.Laws.Keeps.Stores.{power_off_keeps}
+use Rattle.model.proofs.Laws.Keeps.Peers.{stored_record_peers}
+use Rattle.model.proofs.Laws.Keeps.Rights.{board_byte}
 use Rattle.model.specs.History.Statement.{HistoryEntry, History, of_board, zero_memory, OneMemory}
 use Rattle.history.specs.Rerun.{Rebuilt, trace, final, rebuilt, unstable_entries, volatile_trace}
 use Rattle.history.specs.Invariant.{unstable_write, settled_as, BoardInvariant, Invariant, nobody}
@@ -33,7 +33,7 @@ use Rattle.history.specs.Lift.{on_board_invariant}
 use Rattle.history.specs.PowerLoss.{StableHolds, stable_part, lost_at, power_off_invariant, recovery_lost}
 use Rattle.history.specs.LoggedRecords.{explained_up, shown_holds, moved_holds}
 use Rattle.history.specs.Unstable.{unstable_write_none}
-use Rattle.model.specs.Laws.Valid.{recordable_plain}
+use Rattle.model.proofs.Laws.Valid.{recordable_plain}
 
 -- ==== a run and its history
 

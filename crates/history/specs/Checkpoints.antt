@@ -12,12 +12,12 @@ use Rattle.model.specs.Definitions.Bank.{Entry, Area, Working, Stable, Board, Ba
 use Rattle.model.specs.Definitions.WellFormed.{WellFormed}
 use Rattle.model.specs.Definitions.Steps.{stored_frame, stored_head, burnt, stored_selector, rested_working}
 use Rattle.model.specs.Definitions.Replay.{count_sum, recovery_point}
-use Rattle.model.specs.Laws.Logic.{clash}
-use Rattle.model.specs.Laws.Boards.{on_board_on_board}
-use Rattle.model.specs.Laws.Runs.Stores.{burnt_state, burnt_working, burnt_stable}
-use Rattle.model.specs.Laws.Keeps.Clauses.{fits, up_below, up_not_replaying, on_board_keeps}
-use Rattle.model.specs.Laws.Keeps.Checkpoint.{stored_selector_fits, rested_fits}
-use Rattle.model.specs.Laws.Keeps.Peers.{stored_selector_peers, rested_peers}
+use Rattle.model.proofs.Laws.Logic.{clash}
+use Rattle.model.proofs.Laws.Boards.{on_board_on_board}
+use Rattle.model.proofs.Laws.Runs.Stores.{burnt_state, burnt_working, burnt_stable}
+use Rattle.model.proofs.Laws.Keeps.Clauses.{fits, up_below, up_not_replaying, on_board_keeps}
+use Rattle.model.proofs.Laws.Keeps.Checkpoint.{stored_selector_fits, rested_fits}
+use Rattle.model.proofs.Laws.Keeps.Peers.{stored_selector_peers, rested_peers}
 use Rattle.model.specs.History.Statement.{HistoryEntry, History, of_board, discard}
 use Rattle.model.specs.Moves.{Saved}
 use Rattle.history.specs.Rerun.{Rebuilt, checkpointed, rebuilt}

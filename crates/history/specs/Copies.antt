@@ -16,14 +16,14 @@ use Rattle.model.specs.Definitions.Bank.{Entry, Board, Bank, board_at, entry_at,
 use Rattle.model.specs.Definitions.WellFormed.{WellFormed}
 use Rattle.model.specs.Definitions.Steps.{recorded, note, with_frame, frame_of, give_copy, drop_at, drop_copies}
 use Rattle.model.specs.Definitions.Replay.{recovery_point, right_got}
-use Rattle.model.specs.Laws.Logic.{by_eq, cases, clash}
-use Rattle.model.specs.Laws.Lists.{each_imp}
-use Rattle.model.specs.Laws.Sets.{member_none, member_with_other}
-use Rattle.model.specs.Laws.Boards.{frame_at_same, took_copy, with_copy, dropped_if, without_copies, boards_give_copy, board_at_give_copy_same, board_at_give_copy_other}
-use Rattle.model.specs.Laws.Boards.{boards_drop_copies, board_at_drop_copies}
-use Rattle.model.specs.Laws.Keeps.Clauses.{fits, up_below}
+use Rattle.model.proofs.Laws.Logic.{by_eq, cases, clash}
+use Rattle.model.proofs.Laws.Lists.{each_imp}
+use Rattle.model.proofs.Laws.Sets.{member_none, member_with_other}
+use Rattle.model.proofs.Laws.Boards.{frame_at_same, took_copy, with_copy, dropped_if, without_copies, boards_give_copy, board_at_give_copy_same, board_at_give_copy_other}
+use Rattle.model.proofs.Laws.Boards.{boards_drop_copies, board_at_drop_copies}
+use Rattle.model.proofs.Laws.Keeps.Clauses.{fits, up_below}
 use Rattle.model.specs.Clauses.{Fits}
-use Rattle.model.specs.Laws.Keeps.Rights.{entry_at_lem, no_right, holder_up}
+use Rattle.model.proofs.Laws.Keeps.Rights.{entry_at_lem, no_right, holder_up}
 use Rattle.model.specs.History.Statement.{History, zero_memory}
 use Rattle.history.specs.Rerun.{Rebuilt, Logged, logged, next, LacksFor, MayLog, Joins, Accepts}
 use Rattle.history.specs.Invariant.{memory_after, unstable_write, settled_as, BoardInvariant, Invariant, only_of}

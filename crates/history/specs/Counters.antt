@@ -16,14 +16,14 @@ use Rattle.model.specs.Definitions.WellFormed.{is_got}
 use Rattle.model.specs.Definitions.Steps.{powered_off, appended, recorded, moved_record, stored_record, stored_selector, rested_working, Access, accessed}
 use Rattle.model.specs.Definitions.Replay.{loaded, records_left, used, use_up, used_up, took_got, took_due, replay_over, settled, replayed, count_sum}
 use Rattle.model.specs.Definitions.Replay.{recovery_point}
-use Rattle.model.specs.Laws.Logic.{by_bool}
-use Rattle.model.specs.Laws.Boards.{stored_record_cases}
-use Rattle.model.specs.Laws.Keeps.Clauses.{up_not_down, up_not_replaying, down_not_replaying}
+use Rattle.model.proofs.Laws.Logic.{by_bool}
+use Rattle.model.proofs.Laws.Boards.{stored_record_cases}
+use Rattle.model.proofs.Laws.Keeps.Clauses.{up_not_down, up_not_replaying, down_not_replaying}
 use Rattle.model.specs.History.RecoveryStatement.{SameCounters, Change, Made, Stored, Selected, Lost, Accessed, Loaded, Took, Replayed, Settled, Quiet}
 use Rattle.history.specs.Traces.{count_sum_one}
 use Rattle.history.specs.Replaying.{left_counts, used_left, used_up_number, used_up_log, over_left, going_left}
 use Rattle.history.specs.Repeating.{took_induct}
-use Rattle.model.specs.Laws.Codes.Tests.{by_kind}
+use Rattle.model.proofs.Laws.Codes.Tests.{by_kind}
 
 -- ==== the counters of a board
 

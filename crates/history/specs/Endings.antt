@@ -9,9 +9,9 @@ use Rattle.types.specs.declared.State.TheVariants.{Up, Replaying}
 use Rattle.model.specs.Definitions.Bank.{Board, Bank, board_at, entry_at, on_board, entry_in}
 use Rattle.model.specs.Definitions.WellFormed.{WellFormed}
 use Rattle.model.specs.Definitions.Replay.{recovery_point, records_left, took_due, replay_over, settled, settled_frame, settle}
-use Rattle.model.specs.Laws.Logic.{clash}
-use Rattle.model.specs.Laws.Boards.{frame_at_each, board_at_same, on_board_on_board}
-use Rattle.model.specs.Laws.Keeps.Clauses.{fits}
+use Rattle.model.proofs.Laws.Logic.{clash}
+use Rattle.model.proofs.Laws.Boards.{frame_at_each, board_at_same, on_board_on_board}
+use Rattle.model.proofs.Laws.Keeps.Clauses.{fits}
 use Rattle.model.specs.Clauses.{Fits}
 use Rattle.model.specs.History.Statement.{HistoryEntry, History, of_board}
 use Rattle.history.specs.Rerun.{Rebuilt, rebuilt}

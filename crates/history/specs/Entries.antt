@@ -4,8 +4,8 @@ use Rattle.std.specs.Prelude.{◌≡◌, refl, ◌≢◌, ℕ, zero, suc, ◌≤
 use Rattle.std.proofs.Common.{sym, ◌∙◌, le_of_suc-le-suc, not-suc-le-zero, le_refl, arith, append-nil, length-take, eqb-true, eq-eqb, ne_eqb}
 use Rattle.std.proofs.Math.Seq.{take-nil}
 use Rattle.words.specs.Bytes.{Each, each_nil, each_cons}
-use Rattle.model.specs.Laws.Logic.{by_bool}
-use Rattle.model.specs.Laws.Lists.{each_head, each_tail}
+use Rattle.model.proofs.Laws.Logic.{by_bool}
+use Rattle.model.proofs.Laws.Lists.{each_head, each_tail}
 use Rattle.model.specs.History.Statement.{HistoryEntry, of_board, discard}
 
 -- How a proof follows a history of which the first n entries of board b stand: at each entry it is another board's, b's past the first n, or one of b's first

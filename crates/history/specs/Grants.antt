@@ -4,7 +4,7 @@ use Rattle.std.specs.Prelude.{◌≡◌, refl, ◌≢◌, ℕ, ◌≤◌, ◌<�
 use Rattle.std.proofs.Common.{sym, ap, ◌∙◌, le_trans, arith, eqb-true}
 use Rattle.std.proofs.Math.Option.{none}
 use Rattle.words.specs.Bytes.{Each, each_nil, each_cons}
-use Rattle.model.specs.Laws.Lists.{each_head, each_tail, each_imp, each_append}
+use Rattle.model.proofs.Laws.Lists.{each_head, each_tail, each_imp, each_append}
 use Rattle.types.specs.declared.Kind.TheVariants.{Shown}
 use Rattle.model.specs.Definitions.Parts.{zeros}
 use Rattle.model.specs.Definitions.Layout.{page_size}
@@ -14,20 +14,20 @@ use Rattle.model.specs.Definitions.Steps.{Run, start, step, store, recorded, mov
 use Rattle.model.specs.Definitions.Steps.{Access, access, note, dropped, with_frame}
 use Rattle.model.specs.Definitions.Replay.{took_due, settle, count_sum, recovery_point}
 use Rattle.model.specs.Definitions.Calls.{Call, call_bank}
-use Rattle.model.specs.Laws.Logic.{by_option, by_eq, cases}
-use Rattle.model.specs.Laws.Boards.{stored_record_cases, board_at_same, board_at_other, board_at_power_off_other, board_at_give_copy_other, dropped_if}
-use Rattle.model.specs.Laws.Boards.{board_at_drop_copies, board_at_pass_ownership_other}
-use Rattle.model.specs.Laws.Runs.{lost_not, step_going, step_none, follows_store, Changed, changed_store}
-use Rattle.model.specs.Laws.Runs.Stores.{burnt_working}
-use Rattle.model.specs.Laws.Keeps.Clauses.{up_below}
-use Rattle.model.specs.Laws.Codes.Ends.{power_lost}
+use Rattle.model.proofs.Laws.Logic.{by_option, by_eq, cases}
+use Rattle.model.proofs.Laws.Boards.{stored_record_cases, board_at_same, board_at_other, board_at_power_off_other, board_at_give_copy_other, dropped_if}
+use Rattle.model.proofs.Laws.Boards.{board_at_drop_copies, board_at_pass_ownership_other}
+use Rattle.model.proofs.Laws.Runs.{lost_not, step_going, step_none, follows_store, Changed, changed_store}
+use Rattle.model.proofs.Laws.Runs.Stores.{burnt_working}
+use Rattle.model.proofs.Laws.Keeps.Clauses.{up_below}
+use Rattle.model.proofs.Laws.Codes.Ends.{power_lost}
 use Rattle.model.specs.Moves.{Move, does, Phase, Begun, Noted, Fetched, Replays, Settled, Finished, Selects, checkpoints, resumes, closes, MayPerform, local}
 use Rattle.model.specs.Moves.{taken, Secure, Gives, Guard, notes_shown, notes_got, stores_record, stores_frame, stores_head, stores_selector, gives_copy}
 use Rattle.model.specs.Moves.{TakesCopy, first, behind, passes_ownership, drops_copies, performs, loses_power, sets_fuse, loads, repeats_access, takes_last, settles}
 use Rattle.model.specs.Moves.{Moves}
-use Rattle.model.specs.Laws.Moves.{follows_does}
-use Rattle.model.specs.Laws.Moves.Formed.{FormedRun, formed_begun, induct_formed}
-use Rattle.model.specs.Laws.Moves.Calls.{call_moves}
+use Rattle.model.proofs.Laws.Moves.{follows_does}
+use Rattle.model.proofs.Laws.Moves.Formed.{FormedRun, formed_begun, induct_formed}
+use Rattle.model.proofs.Laws.Moves.Calls.{call_moves}
 use Rattle.model.specs.History.Statement.{with_number_of, event_of, gave_in, granted_after}
 use Rattle.model.specs.History.Banks.{grants_after}
 use Rattle.history.specs.Counters.{Balanced}

@@ -4,8 +4,8 @@ use Rattle.std.proofs.Common.{sym, subst}
 use Rattle.std.proofs.Math.Option.{Option}
 use Rattle.model.specs.Definitions.Bank.{Entry, Board, Bank, board_at, on_board}
 use Rattle.model.specs.Definitions.WellFormed.{WellFormed}
-use Rattle.model.specs.Laws.Logic.{by_eq}
-use Rattle.model.specs.Laws.Boards.{boards_on_board, directory_on_board, board_at_same, board_at_other}
+use Rattle.model.proofs.Laws.Logic.{by_eq}
+use Rattle.model.proofs.Laws.Boards.{boards_on_board, directory_on_board, board_at_same, board_at_other}
 use Rattle.model.specs.History.Statement.{History}
 use Rattle.history.specs.Rerun.{Rebuilt}
 use Rattle.history.specs.Invariant.{BoardInvariant, Invariant}

@@ -21,8 +21,8 @@ use Rattle.model.specs.Definitions.Bank.{Entry, Board, frame_at, on_working, ent
 use Rattle.model.specs.Definitions.Codec.{page_of}
 use Rattle.model.specs.Definitions.Steps.{recorded, appended, moved_record, stored_record}
 use Rattle.model.specs.Definitions.Replay.{recovery_point}
-use Rattle.model.specs.Laws.Logic.{by_option}
-use Rattle.model.specs.Laws.Lists.{each_imp, each_append, each_tail}
+use Rattle.model.proofs.Laws.Logic.{by_option}
+use Rattle.model.proofs.Laws.Lists.{each_imp, each_append, each_tail}
 use Rattle.model.specs.History.Statement.{HistoryEntry, History, of_board, discard, Memory, zero_memory}
 use Rattle.history.specs.Rerun.{Rebuilt, Logged, logged, next, Joins, Accepts, MayLog, rebuilt, unstable_entries}
 use Rattle.history.specs.Invariant.{memory_after, CountsAgree, VolatileExplains, settled_as, Explains, is_shown, BoardInvariant}

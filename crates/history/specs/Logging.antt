@@ -15,7 +15,7 @@ use Rattle.model.specs.Definitions.Bank.{Working, Board, frame_at, on_working}
 use Rattle.model.specs.Definitions.Codec.{page_of}
 use Rattle.model.specs.Definitions.Steps.{Access, accessed, appended, recorded, moved_record, stored_record}
 use Rattle.model.specs.Definitions.Replay.{count_sum, recovery_point}
-use Rattle.model.specs.Laws.Lists.{each_head}
+use Rattle.model.proofs.Laws.Lists.{each_head}
 use Rattle.model.specs.History.Statement.{HistoryEntry, Memory}
 use Rattle.history.specs.Rerun.{Rebuilt, TraceItem, Made, Logged, trace, next, Accepts, final, Accepted, checkpointed, stable_entries, unstable_entries}
 use Rattle.history.specs.Rerun.{stable_trace, rebuilt, volatile_trace}

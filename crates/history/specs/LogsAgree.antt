@@ -15,21 +15,21 @@ use Rattle.model.specs.Definitions.Logs.{is_shown, pages_naming, gots_from, show
 use Rattle.model.specs.Definitions.Steps.{Run, start}
 use Rattle.model.specs.Definitions.Calls.{unless, first_given, compare_bank, Call, Checkpointing, Comparing, call_within, call_bank, Reply, reply_of}
 use Rattle.model.specs.Clauses.{records_of}
-use Rattle.model.specs.Laws.Logic.{by_bool, by_eq, by_option}
-use Rattle.model.specs.Laws.Lists.{each_head, each_tail}
-use Rattle.model.specs.Laws.Boards.{board_at_out, by_board}
-use Rattle.model.specs.Laws.Fresh.{fresh_boards, fresh_board_lem, fresh_well_formed}
-use Rattle.model.specs.Laws.Keeps.Clauses.{up_below, up_not_down}
-use Rattle.model.specs.Laws.Moves.Calls.{call_moves, call_keeps}
-use Rattle.model.specs.Laws.Moves.Down.{CutIn, Tracks, moves_track}
+use Rattle.model.proofs.Laws.Logic.{by_bool, by_eq, by_option}
+use Rattle.model.proofs.Laws.Lists.{each_head, each_tail}
+use Rattle.model.proofs.Laws.Boards.{board_at_out, by_board}
+use Rattle.model.proofs.Laws.Fresh.{fresh_boards, fresh_board_lem, fresh_well_formed}
+use Rattle.model.proofs.Laws.Keeps.Clauses.{up_below, up_not_down}
+use Rattle.model.proofs.Laws.Moves.Calls.{call_moves, call_keeps}
+use Rattle.model.proofs.Laws.Moves.Down.{CutIn, Tracks, moves_track}
 use Rattle.model.specs.Laws.Codes.Statement.{board_named}
-use Rattle.model.specs.Laws.Codes.Order.{never}
-use Rattle.model.specs.Laws.Codes.Ends.{power_lost}
-use Rattle.model.specs.Laws.EveryBoard.{Boards}
-use Rattle.model.specs.Laws.LogsKept.{NoneShown, Stood, call_kept}
-use Rattle.model.specs.Laws.LogPages.{pages_append, unmatched_prefix}
+use Rattle.model.proofs.Laws.Codes.Order.{never}
+use Rattle.model.proofs.Laws.Codes.Ends.{power_lost}
+use Rattle.model.proofs.Laws.EveryBoard.{Boards}
+use Rattle.model.proofs.Laws.LogsKept.{NoneShown, Stood, call_kept}
+use Rattle.model.proofs.Laws.LogPages.{pages_append, unmatched_prefix}
 use Rattle.model.specs.History.Statement.{bytes_left, LostPower, event_of, Observed, begin, made, run_of}
-use Rattle.model.specs.History.OnBytes.{decoded, call_encode}
+use Rattle.model.proofs.History.OnBytes.{decoded, call_encode}
 use Rattle.model.specs.History.LogsStatement.{Spared, LogsAgree, YieldNoPlace, SparedYieldNoPlace}
 use Rattle.history.specs.Bystanders.{up_moves}
 use Rattle.history.specs.LogsTraded.{Traded, call_traded}

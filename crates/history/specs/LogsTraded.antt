@@ -24,15 +24,15 @@ use Rattle.model.specs.Definitions.Replay.{restarted, end_if_over}
 use Rattle.model.specs.Definitions.Calls.{Result, finished, pages_lacking, fuse_bank, restart_bank, Call, Accessing, Checkpointing, Fusing, Restarting, Comparing}
 use Rattle.model.specs.Definitions.Calls.{call_bank}
 use Rattle.model.specs.Clauses.{records_of}
-use Rattle.model.specs.Laws.Logic.{by_bool, by_eq, cases_option}
-use Rattle.model.specs.Laws.Boards.{by_board, board_at_same, board_at_other, on_board_out}
-use Rattle.model.specs.Laws.Keeps.Clauses.{up_below, up_not_down, up_not_replaying, is_down_down}
+use Rattle.model.proofs.Laws.Logic.{by_bool, by_eq, cases_option}
+use Rattle.model.proofs.Laws.Boards.{by_board, board_at_same, board_at_other, on_board_out}
+use Rattle.model.proofs.Laws.Keeps.Clauses.{up_below, up_not_down, up_not_replaying, is_down_down}
 use Rattle.model.specs.Laws.Codes.Statement.{board_named}
-use Rattle.model.specs.Laws.Codes.Cases.{plain_cases, compare_cases}
-use Rattle.model.specs.Laws.Codes.Ends.{Ends, refused_first, refused_late, ran, looked, call_ended}
-use Rattle.model.specs.Laws.LogPages.{pages_said, pages_said_lem, said_append}
-use Rattle.model.specs.Laws.Logged.{access_logs}
-use Rattle.model.specs.Laws.Refusals.{late_replaying}
+use Rattle.model.proofs.Laws.Codes.Cases.{plain_cases, compare_cases}
+use Rattle.model.proofs.Laws.Codes.Ends.{Ends, refused_first, refused_late, ran, looked, call_ended}
+use Rattle.model.proofs.Laws.LogPages.{pages_said, pages_said_lem, said_append}
+use Rattle.model.proofs.Laws.Logged.{access_logs}
+use Rattle.model.proofs.Laws.Refusals.{late_replaying}
 use Rattle.model.specs.History.Statement.{LostPower, done_event, event_of, live_bank}
 use Rattle.model.specs.History.PeersStatement.{Said, said_by, gots_said, showns_said, drops_said, said_new}
 

@@ -4,8 +4,8 @@ use Rattle.std.specs.Prelude.{◌≡◌, refl, ◌⊎◌, ℕ, zero, suc, ◌+�
 use Rattle.std.proofs.Common.{sym, ◌∙◌, inl, inr, ⊎_elim, arith, eq-eqb, ne_eqb}
 use Rattle.std.proofs.Math.Seq.{take-nil, drop-nil}
 use Rattle.std.proofs.lemmas.Bool.{eqb-false}
-use Rattle.model.specs.Laws.Logic.{by_bool}
-use Rattle.model.specs.Laws.Lists.{each_head, each_tail}
+use Rattle.model.proofs.Laws.Logic.{by_bool}
+use Rattle.model.proofs.Laws.Lists.{each_head, each_tail}
 use Rattle.model.specs.Definitions.Steps.{Cell, cells_read, cells_written, any_cell, any_write, names}
 use Rattle.model.specs.History.Statement.{HistoryEntry, of_board, discard, Memory, byte_in, written, OneMemory}
 use Rattle.history.specs.Invariant.{memory_after, writes_page, touches_page, unstable_write, OnlyBy, Exclusive}

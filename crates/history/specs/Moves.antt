@@ -33,21 +33,21 @@ use Rattle.model.specs.Moves.{Move, does, Phase, Begun, Noted, Fetched, Replays,
 use Rattle.model.specs.Moves.{resumes, closes, MayPerform, local, taken, Secure, Guard, notes_shown, notes_got, stores_record, stores_frame, stores_head}
 use Rattle.model.specs.Moves.{stores_selector, gives_copy, passes_ownership, drops_copies, performs, loses_power, sets_fuse, loads, repeats_access, takes_last}
 use Rattle.model.specs.Moves.{settles, Moves, TakesCopy, first, behind, Gives}
-use Rattle.model.specs.Laws.Logic.{by_option, by_eq}
-use Rattle.model.specs.Laws.Boards.{on_board_out, board_at_same, board_at_other, boards_on_board, on_board_on_board, board_at_power_off_same, power_off_on_board}
-use Rattle.model.specs.Laws.Boards.{frame_at_same, took_due_state, replayed_state, took_copy, board_at_give_copy_same}
-use Rattle.model.specs.Laws.Runs.{lost_not, step_cases, store_cases}
-use Rattle.model.specs.Laws.Runs.Stores.{burnt_working, flushed_stored_record}
-use Rattle.model.specs.Laws.Keeps.Clauses.{fits, on_board_keeps, up_below, up_not_down, up_not_replaying}
-use Rattle.model.specs.Laws.Keeps.Rights.{right_from}
-use Rattle.model.specs.Laws.Keeps.Stores.{store_keeps, powered_off_burnt}
-use Rattle.model.specs.Laws.Keeps.Checkpoint.{stored_frame_fits, stored_head_fits}
-use Rattle.model.specs.Laws.Keeps.Peers.{stored_frame_peers, stored_head_peers}
-use Rattle.model.specs.Laws.Moves.Formed.{FormedIn, FormedRun, formed_begun, selects_stores, run_formed, induct_formed}
-use Rattle.model.specs.Laws.Moves.Calls.{feeds, call_moves}
-use Rattle.model.specs.Laws.Codes.Ends.{power_lost}
-use Rattle.model.specs.Laws.Lists.{each_head, each_tail, each_append}
-use Rattle.model.specs.Laws.Codes.Order.{never}
+use Rattle.model.proofs.Laws.Logic.{by_option, by_eq}
+use Rattle.model.proofs.Laws.Boards.{on_board_out, board_at_same, board_at_other, boards_on_board, on_board_on_board, board_at_power_off_same, power_off_on_board}
+use Rattle.model.proofs.Laws.Boards.{frame_at_same, took_due_state, replayed_state, took_copy, board_at_give_copy_same}
+use Rattle.model.proofs.Laws.Runs.{lost_not, step_cases, store_cases}
+use Rattle.model.proofs.Laws.Runs.Stores.{burnt_working, flushed_stored_record}
+use Rattle.model.proofs.Laws.Keeps.Clauses.{fits, on_board_keeps, up_below, up_not_down, up_not_replaying}
+use Rattle.model.proofs.Laws.Keeps.Rights.{right_from}
+use Rattle.model.proofs.Laws.Keeps.Stores.{store_keeps, powered_off_burnt}
+use Rattle.model.proofs.Laws.Keeps.Checkpoint.{stored_frame_fits, stored_head_fits}
+use Rattle.model.proofs.Laws.Keeps.Peers.{stored_frame_peers, stored_head_peers}
+use Rattle.model.proofs.Laws.Moves.Formed.{FormedIn, FormedRun, formed_begun, selects_stores, run_formed, induct_formed}
+use Rattle.model.proofs.Laws.Moves.Calls.{feeds, call_moves}
+use Rattle.model.proofs.Laws.Codes.Ends.{power_lost}
+use Rattle.model.proofs.Laws.Lists.{each_head, each_tail, each_append}
+use Rattle.model.proofs.Laws.Codes.Order.{never}
 use Rattle.model.specs.Laws.Codes.Statement.{board_named}
 use Rattle.model.specs.Definitions.Answers.{code}
 use Rattle.model.specs.History.Statement.{HistoryEntry, History, of_board, entry_count, repeats, with_number_of, with_entry, next_entry, Event, Accessed}

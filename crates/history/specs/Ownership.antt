@@ -19,12 +19,12 @@ use Rattle.model.specs.Definitions.Codec.{page_of}
 use Rattle.model.specs.Definitions.WellFormed.{WellFormed}
 use Rattle.model.specs.Definitions.Steps.{recorded, note, with_frame, frame_of, drop_at, pass_ownership}
 use Rattle.model.specs.Definitions.Replay.{count_sum, recovery_point, right_got}
-use Rattle.model.specs.Laws.Logic.{by_bool, by_eq, cases, clash}
-use Rattle.model.specs.Laws.Lists.{each_imp}
-use Rattle.model.specs.Laws.Sets.{member_none}
-use Rattle.model.specs.Laws.Boards.{frame_at_same, dropped_if, owned_by, took_own, boards_pass_ownership, board_at_pass_ownership_same, board_at_pass_ownership_other}
-use Rattle.model.specs.Laws.Keeps.Clauses.{fits, up_below}
-use Rattle.model.specs.Laws.Keeps.Rights.{not_owner, holder_up}
+use Rattle.model.proofs.Laws.Logic.{by_bool, by_eq, cases, clash}
+use Rattle.model.proofs.Laws.Lists.{each_imp}
+use Rattle.model.proofs.Laws.Sets.{member_none}
+use Rattle.model.proofs.Laws.Boards.{frame_at_same, dropped_if, owned_by, took_own, boards_pass_ownership, board_at_pass_ownership_same, board_at_pass_ownership_other}
+use Rattle.model.proofs.Laws.Keeps.Clauses.{fits, up_below}
+use Rattle.model.proofs.Laws.Keeps.Rights.{not_owner, holder_up}
 use Rattle.model.specs.History.Statement.{HistoryEntry, History, of_board, zero_memory}
 use Rattle.history.specs.Rerun.{Rebuilt, logged, next, LacksFor, MayLog, Joins, Accepts, rebuilt}
 use Rattle.history.specs.Invariant.{memory_after, unstable_write, is_shown, settled_as, BoardInvariant, Invariant, nobody, only_of}

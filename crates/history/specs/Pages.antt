@@ -10,14 +10,14 @@ use Rattle.types.specs.declared.Record.{Record}
 use Rattle.model.specs.Definitions.Bank.{empty_frame, frame_at}
 use Rattle.model.specs.Definitions.Codec.{page_of}
 use Rattle.model.specs.Definitions.Steps.{Access, Cell, names, cells_read, cells_written, cell_byte, with_byte, with_bytes}
-use Rattle.model.specs.Laws.Logic.{clash, by_eq}
-use Rattle.model.specs.Laws.Lists.{each_head, each_tail, each_append, each_imp}
-use Rattle.model.specs.Laws.Below.{read_named}
+use Rattle.model.proofs.Laws.Logic.{clash, by_eq}
+use Rattle.model.proofs.Laws.Lists.{each_head, each_tail, each_append, each_imp}
+use Rattle.model.proofs.Laws.Below.{read_named}
 use Rattle.model.specs.History.Statement.{HistoryEntry, Memory, byte_in, written}
 use Rattle.history.specs.Rerun.{Rebuilt, TraceItem, Made, Logged, trace, logged, next, final}
 use Rattle.history.specs.Invariant.{memory_after, is_shown}
 use Rattle.history.specs.Traces.{made_of, made_of_trace}
-use Rattle.model.specs.Laws.Boards.{frame_at_same, frame_at_other}
+use Rattle.model.proofs.Laws.Boards.{frame_at_same, frame_at_other}
 
 -- ---- one frame
 

@@ -15,10 +15,10 @@ use Rattle.model.specs.Definitions.Codec.{page_of}
 use Rattle.model.specs.Definitions.WellFormed.{WellFormed}
 use Rattle.model.specs.Definitions.Steps.{powered_off, forgotten, power_off}
 use Rattle.model.specs.Definitions.Replay.{count_sum, recovery_point}
-use Rattle.model.specs.Laws.Logic.{by_bool, by_eq, clash}
-use Rattle.model.specs.Laws.Lists.{each_imp}
-use Rattle.model.specs.Laws.Sets.{member_none, member_without_same, member_without_other, without_le}
-use Rattle.model.specs.Laws.Boards.{boards_power_off, board_at_power_off_same, board_at_power_off_other}
+use Rattle.model.proofs.Laws.Logic.{by_bool, by_eq, clash}
+use Rattle.model.proofs.Laws.Lists.{each_imp}
+use Rattle.model.proofs.Laws.Sets.{member_none, member_without_same, member_without_other, without_le}
+use Rattle.model.proofs.Laws.Boards.{boards_power_off, board_at_power_off_same, board_at_power_off_other}
 use Rattle.model.specs.History.Statement.{HistoryEntry, History, of_board, discard, zero_memory, OneMemory}
 use Rattle.history.specs.Rerun.{Rebuilt, checkpointed, stable_entries, stable_trace, rebuilt}
 use Rattle.history.specs.Invariant.{memory_after, unstable_write, Exclusive, CountsAgree, StableExplains, Explains, BoardInvariant, Invariant, nobody}

@@ -13,9 +13,9 @@ use Rattle.history.specs.Moves.{PremiseOn, call_invariant}
 use Rattle.history.specs.Begins.{fresh_invariant}
 use Rattle.history.specs.Recovery.{Counted, fresh_counted, call_counted}
 use Rattle.model.specs.History.Banks.{history_after}
-use Rattle.model.specs.History.OnBytes.{decoded, call_encode}
+use Rattle.model.proofs.History.OnBytes.{decoded, call_encode}
 use Rattle.model.specs.History.ReplayEndsStatement.{answer_in, after_all, Reached}
-use Rattle.model.specs.Laws.Moves.Calls.{call_keeps}
+use Rattle.model.proofs.Laws.Moves.Calls.{call_keeps}
 
 -- the bytes stand for a bank of which the invariant holds
 pub record Stands (t : System) : Type 0 where

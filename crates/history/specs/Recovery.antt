@@ -10,9 +10,9 @@ use Rattle.model.specs.Definitions.WellFormed.{SizesOk, WellFormed}
 use Rattle.model.specs.Definitions.Steps.{powered_off, appended, recorded, moved_record, stored_record, stored_selector, rested_working, accessed}
 use Rattle.model.specs.Definitions.Replay.{loaded, records_left, used_up, replay_over, settled, replayed, count_sum, recovery_point}
 use Rattle.model.specs.Definitions.Calls.{Call, call_bank}
-use Rattle.model.specs.Laws.Boards.{stored_record_cases}
-use Rattle.model.specs.Laws.Fresh.{fresh_boards, fresh_board_lem, fresh_well_formed}
-use Rattle.model.specs.Laws.Keeps.Clauses.{up_not_replaying}
+use Rattle.model.proofs.Laws.Boards.{stored_record_cases}
+use Rattle.model.proofs.Laws.Fresh.{fresh_boards, fresh_board_lem, fresh_well_formed}
+use Rattle.model.proofs.Laws.Keeps.Clauses.{up_not_replaying}
 use Rattle.model.specs.History.RecoveryStatement.{Change, Made, Stored, Selected, Lost, Accessed, Loaded, Took, Replayed, Settled, Quiet, Changes, unchanged}
 use Rattle.model.specs.History.RecoveryStatement.{next, Demand, no_demand, first_stored, demand_after, demanded, reached}
 use Rattle.history.specs.Traces.{count_sum_one}
@@ -23,7 +23,7 @@ use Rattle.history.specs.Counters.{Balanced, change_balanced}
 use Rattle.history.specs.Counters.Spacing.{Spaced, Orderly}
 use Rattle.history.specs.Counters.BoardsInProgress.{changes_trans, Advance, Advances, Nobody}
 use Rattle.history.specs.Counters.Moves.{call_advances}
-use Rattle.model.specs.Laws.Moves.Calls.{call_keeps}
+use Rattle.model.proofs.Laws.Moves.Calls.{call_keeps}
 use Rattle.model.specs.Clauses.{records_of}
 
 -- ==== the counters of every board, between calls

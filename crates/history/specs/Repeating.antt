@@ -16,7 +16,7 @@ use Rattle.model.specs.Definitions.WellFormed.{is_got}
 use Rattle.model.specs.Definitions.Steps.{Access, cells_read, cell_byte, accessed}
 use Rattle.model.specs.Definitions.Replay.{records_left, used, gots_due, due, lacking, right_got, took_got, took_gots, took_due, replay_over}
 use Rattle.model.specs.Definitions.Replay.{replayed, count_sum, recovery_point}
-use Rattle.model.specs.Laws.Logic.{clash, by_bool, by_eq}
+use Rattle.model.proofs.Laws.Logic.{clash, by_bool, by_eq}
 use Rattle.model.specs.History.Statement.{HistoryEntry}
 use Rattle.history.specs.Rerun.{Rebuilt, Made, Logged, logged, next, Joins, Accepts, rebuilt}
 use Rattle.history.specs.Invariant.{NextWaits, ReplayExplains}
@@ -24,8 +24,8 @@ use Rattle.history.specs.Logging.{rebuilt_same, recovery_point_same}
 use Rattle.history.specs.Replaying.{Replays, replay_state, explains_replays, left_counts, left_fits, used_left, record_accepts, used_replays}
 use Rattle.history.specs.Replaying.{entry_accepts, accessed_replays, used_up_number, used_up_log, used_up_stable, AllUsed, used_up_all_used, over_left}
 use Rattle.history.specs.Replaying.{going_left, over_since, over_number, over_rebuilt}
-use Rattle.model.specs.Laws.Codes.Tests.{by_kind}
-use Rattle.model.specs.Laws.Codes.Order.{never}
+use Rattle.model.proofs.Laws.Codes.Tests.{by_kind}
+use Rattle.model.proofs.Laws.Codes.Order.{never}
 
 -- ==== the gots that are due
 

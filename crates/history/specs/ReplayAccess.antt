@@ -14,17 +14,17 @@ use Rattle.model.specs.Definitions.Steps.{Run, start, Access, value_of, given_of
 use Rattle.model.specs.Definitions.Replay.{loaded, used_up, differs, took_due, replay_over, end_replay, end_if_over, replayed}
 use Rattle.model.specs.Definitions.Calls.{Result, first_given, unless, finished, live, live_after_end, replaying, access_refusals, access_within, access_bank}
 use Rattle.model.specs.Definitions.Calls.{restart_bank}
-use Rattle.model.specs.Laws.Logic.{by_option}
-use Rattle.model.specs.Laws.Boards.{boards_on_board}
+use Rattle.model.proofs.Laws.Logic.{by_option}
+use Rattle.model.proofs.Laws.Boards.{boards_on_board}
 use Rattle.model.specs.Laws.Codes.Statement.{after_replay}
-use Rattle.model.specs.Laws.Keeps.Clauses.{but, on_board_but, is_replaying_replaying}
+use Rattle.model.proofs.Laws.Keeps.Clauses.{but, on_board_but, is_replaying_replaying}
 use Rattle.model.specs.Clauses.{Fits, InReplay, WellFormedBut, Entered}
-use Rattle.model.specs.Laws.Keeps.Replay.{loaded_in_replay, used_up_in_replay}
-use Rattle.model.specs.Laws.Keeps.Entered.{board_taken, entered, fitting, below_taken, taken_in_replay, replayed_keeps, live_can}
-use Rattle.model.specs.Laws.Keeps.Peers.{loaded_peers, used_up_peers}
-use Rattle.model.specs.Laws.Moves.Calls.{ended_formed}
+use Rattle.model.proofs.Laws.Keeps.Replay.{loaded_in_replay, used_up_in_replay}
+use Rattle.model.proofs.Laws.Keeps.Entered.{board_taken, entered, fitting, below_taken, taken_in_replay, replayed_keeps, live_can}
+use Rattle.model.proofs.Laws.Keeps.Peers.{loaded_peers, used_up_peers}
+use Rattle.model.proofs.Laws.Moves.Calls.{ended_formed}
 use Rattle.history.specs.Bystanders.{end_replay_idle, live_idle}
-use Rattle.model.specs.Laws.Runs.{finished_run}
+use Rattle.model.proofs.Laws.Runs.{finished_run}
 
 -- ==== when no record is left
 

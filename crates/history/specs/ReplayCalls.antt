@@ -24,18 +24,18 @@ use Rattle.model.specs.Definitions.Replay.{loaded, used_up, took_due, replay_ove
 use Rattle.model.specs.Definitions.Answers.{code}
 use Rattle.model.specs.Definitions.Calls.{Result, first_given, unless, finished, refusals_within, access_refusals, access_within, checkpoint_bank, fuse_bank}
 use Rattle.model.specs.Definitions.Calls.{restart_bank, Call, Accessing, Checkpointing, Fusing, Restarting, Comparing, call_bank}
-use Rattle.model.specs.Laws.Logic.{by_bool, by_option, by_eq, cases_option, clash, and_left}
+use Rattle.model.proofs.Laws.Logic.{by_bool, by_option, by_eq, cases_option, clash, and_left}
 use Rattle.model.specs.Laws.Codes.Statement.{board_named, Due, NeedsGots}
-use Rattle.model.specs.Laws.Keeps.Clauses.{up_not_replaying, down_not_replaying, replaying_place, fits, is_up_up, is_down_down}
-use Rattle.model.specs.Laws.Boards.{took_due_state, boards_on_board, board_at_same, board_at_power_off_same}
-use Rattle.model.specs.Laws.Keeps.Live.{first_in, NoneOf, first_of_none}
+use Rattle.model.proofs.Laws.Keeps.Clauses.{up_not_replaying, down_not_replaying, replaying_place, fits, is_up_up, is_down_down}
+use Rattle.model.proofs.Laws.Boards.{took_due_state, boards_on_board, board_at_same, board_at_power_off_same}
+use Rattle.model.proofs.Laws.Keeps.Live.{first_in, NoneOf, first_of_none}
 use Rattle.model.specs.Definitions.Layout.{no_fuse}
-use Rattle.model.specs.Laws.Runs.{end_replay_self, finished_run}
-use Rattle.model.specs.Laws.Runs.Stores.{end_replay_changed}
-use Rattle.model.specs.Laws.Codes.Order.{never, fails}
-use Rattle.model.specs.Laws.Codes.Cases.{compare_cases}
-use Rattle.model.specs.Laws.Codes.Losses.{loses_power_lem}
-use Rattle.model.specs.Laws.Codes.Tests.{replay_other, LastDue, last_due}
+use Rattle.model.proofs.Laws.Runs.{end_replay_self, finished_run}
+use Rattle.model.proofs.Laws.Runs.Stores.{end_replay_changed}
+use Rattle.model.proofs.Laws.Codes.Order.{never, fails}
+use Rattle.model.proofs.Laws.Codes.Cases.{compare_cases}
+use Rattle.model.proofs.Laws.Codes.Losses.{loses_power_lem}
+use Rattle.model.proofs.Laws.Codes.Tests.{replay_other, LastDue, last_due}
 use Rattle.model.specs.History.Statement.{access_of}
 use Rattle.history.specs.Replaying.{used_up_number}
 use Rattle.history.specs.Repeating.{replayed_number, replayed_stable}

@@ -12,18 +12,18 @@ use Rattle.model.specs.Definitions.Bank.{Working, Stable, Board, empty_frame, on
 use Rattle.model.specs.Definitions.WellFormed.{is_got}
 use Rattle.model.specs.Definitions.Steps.{Access, accessed}
 use Rattle.model.specs.Definitions.Replay.{loaded, records_left, used, use_up, used_up, took_due, replay_over, replayed, count_sum, recovery_point}
-use Rattle.model.specs.Laws.Logic.{by_bool}
+use Rattle.model.proofs.Laws.Logic.{by_bool}
 use Rattle.model.specs.Laws.Codes.Statement.{Together, all, got, Due}
-use Rattle.model.specs.Laws.Codes.Order.{never}
+use Rattle.model.proofs.Laws.Codes.Order.{never}
 use Rattle.history.specs.Invariant.{NextWaits}
 use Rattle.model.specs.History.RecoveryStatement.{Took, Replayed, Loaded}
 use Rattle.history.specs.Logging.{recovery_point_same}
-use Rattle.model.specs.Laws.Codes.Tests.{by_kind}
+use Rattle.model.proofs.Laws.Codes.Tests.{by_kind}
 use Rattle.history.specs.Replaying.{left_counts, used_left, used_up_number, over_left, going_left}
 use Rattle.history.specs.Repeating.{took_stable, replayed_number, replayed_stable}
 use Rattle.history.specs.Counters.{Balanced, change_balanced}
 use Rattle.history.specs.Counters.Spacing.{next_count, next_got, Spaced, left_spaced}
-use Rattle.model.specs.Laws.Boards.{took_due_state}
+use Rattle.model.proofs.Laws.Boards.{took_due_state}
 use Rattle.history.specs.Recovery.{CountedBoard, replay_over_lem}
 use Rattle.model.specs.History.ReplayEndsStatement.{last_is_got, ends_in_got}
 

@@ -16,10 +16,10 @@ use Rattle.model.specs.Definitions.WellFormed.{SizesOk, is_replaying}
 use Rattle.model.specs.Definitions.Steps.{Access}
 use Rattle.model.specs.Definitions.Replay.{recovery_point}
 use Rattle.model.specs.Definitions.Calls.{Call, Restarting, call_bank}
-use Rattle.model.specs.Laws.Logic.{clash, by_eq, by_state}
-use Rattle.model.specs.Laws.Boards.{board_at_out, by_board}
-use Rattle.model.specs.Laws.Runs.{lost_not}
-use Rattle.model.specs.Laws.Keeps.Clauses.{up_not_down, up_not_replaying, down_not_replaying}
+use Rattle.model.proofs.Laws.Logic.{clash, by_eq, by_state}
+use Rattle.model.proofs.Laws.Boards.{board_at_out, by_board}
+use Rattle.model.proofs.Laws.Runs.{lost_not}
+use Rattle.model.proofs.Laws.Keeps.Clauses.{up_not_down, up_not_replaying, down_not_replaying}
 use Rattle.model.specs.History.Statement.{History, of_board, entry_count, repeats, System, access_of, after, Premises, after_seen, PremiseSeen, PremisesSeen}
 use Rattle.model.specs.History.Statement.{run_of}
 use Rattle.history.specs.Invariant.{CountsAgree, Invariant, nobody}

@@ -17,14 +17,14 @@ use Rattle.model.specs.Definitions.Bank.{Working, Board, empty_frame, on_working
 use Rattle.model.specs.Definitions.WellFormed.{is_got}
 use Rattle.model.specs.Definitions.Steps.{Access, accessed}
 use Rattle.model.specs.Definitions.Replay.{loaded, records_left, used, use_up, used_up, replay_over, count_sum, recovery_point}
-use Rattle.model.specs.Laws.Logic.{clash, by_bool}
+use Rattle.model.proofs.Laws.Logic.{clash, by_bool}
 use Rattle.model.specs.History.Statement.{HistoryEntry}
 use Rattle.history.specs.Rerun.{Rebuilt, TraceItem, Made, Logged, trace_since, logged, next, Accepts, final, Accepted, checkpointed, stable_trace}
 use Rattle.history.specs.Rerun.{stable_entries, rebuilt, trace_left}
 use Rattle.history.specs.Invariant.{StableExplains, NextWaits, ReplayExplains}
 use Rattle.history.specs.Traces.{drop_next, next_exists, trace_since_zero, trace_since_record, trace_since_entry}
 use Rattle.history.specs.Logging.{recovery_point_same, rebuilt_same}
-use Rattle.model.specs.Laws.Codes.Tests.{by_kind}
+use Rattle.model.proofs.Laws.Codes.Tests.{by_kind}
 
 -- ==== where a replay stands
 

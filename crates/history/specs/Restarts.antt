@@ -12,8 +12,8 @@ use Rattle.types.specs.declared.State.TheVariants.{Up, Down, Replaying}
 use Rattle.model.specs.Definitions.Bank.{Entry, Board, Bank, board_at, frame_at, on_board, entry_in}
 use Rattle.model.specs.Definitions.WellFormed.{WellFormed}
 use Rattle.model.specs.Definitions.Replay.{recovery_point}
-use Rattle.model.specs.Laws.Logic.{by_eq, clash}
-use Rattle.model.specs.Laws.Boards.{boards_on_board, directory_on_board, board_at_same, board_at_other}
+use Rattle.model.proofs.Laws.Logic.{by_eq, clash}
+use Rattle.model.proofs.Laws.Boards.{boards_on_board, directory_on_board, board_at_same, board_at_other}
 use Rattle.model.specs.Clauses.{Fits}
 use Rattle.model.specs.History.Statement.{HistoryEntry, History, of_board, with_number_of}
 use Rattle.history.specs.Rerun.{Rebuilt, rebuilt}

@@ -19,11 +19,11 @@ use Rattle.model.specs.Definitions.Codec.{page_of}
 use Rattle.model.specs.Definitions.WellFormed.{WellFormed}
 use Rattle.model.specs.Definitions.Steps.{recorded, with_frame, dropped}
 use Rattle.model.specs.Definitions.Replay.{recovery_point}
-use Rattle.model.specs.Laws.Logic.{by_bool, by_option, by_eq, clash}
-use Rattle.model.specs.Laws.Lists.{each_head, each_tail, each_imp, length_update, get_d_update_same}
-use Rattle.model.specs.Laws.Sets.{member_none}
-use Rattle.model.specs.Laws.Boards.{frame_at_same, frame_at_other}
-use Rattle.model.specs.Laws.Keeps.Rights.{entry_in_same, entry_in_other}
+use Rattle.model.proofs.Laws.Logic.{by_bool, by_option, by_eq, clash}
+use Rattle.model.proofs.Laws.Lists.{each_head, each_tail, each_imp, length_update, get_d_update_same}
+use Rattle.model.proofs.Laws.Sets.{member_none}
+use Rattle.model.proofs.Laws.Boards.{frame_at_same, frame_at_other}
+use Rattle.model.proofs.Laws.Keeps.Rights.{entry_in_same, entry_in_other}
 use Rattle.model.specs.History.Statement.{HistoryEntry, History, of_board, discard, zero_memory}
 use Rattle.history.specs.Rerun.{Rebuilt, Logged, logged, next, Joins, Accepts, MayLog, rebuilt}
 use Rattle.history.specs.Invariant.{memory_after, unstable_write, settled_as, is_shown, BoardInvariant, Invariant, only_of}

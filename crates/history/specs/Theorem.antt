@@ -17,11 +17,11 @@ use Rattle.history.specs.Begins.{fresh_invariant}
 use Rattle.history.specs.Recovery.{Counted, fresh_counted, call_counted}
 use Rattle.history.specs.Grants.{call_grants}
 use Rattle.model.specs.History.Banks.{system_of, history_after, grants_after}
-use Rattle.model.specs.History.OnBytes.{decoded, call_encode, after_system, begin_system}
-use Rattle.model.specs.Laws.Moves.Calls.{call_keeps}
+use Rattle.model.proofs.History.OnBytes.{decoded, call_encode, after_system, begin_system}
+use Rattle.model.proofs.Laws.Moves.Calls.{call_keeps}
 use Rattle.model.specs.Definitions.Check.{well_formed}
-use Rattle.model.specs.Laws.Fresh.{fresh_bytes}
-use Rattle.model.specs.Laws.Clean.{calls_among, seen_among_lem}
+use Rattle.model.proofs.Laws.Fresh.{fresh_bytes}
+use Rattle.model.proofs.Laws.Clean.{calls_among, seen_among_lem}
 use Rattle.model.specs.History.CleanStatement.{seen_among, OneMemoryAmong}
 
 -- ---- one call, on the bank

@@ -5,8 +5,8 @@ use Rattle.std.proofs.Common.{sym, inl, inr, le_of_suc-le-suc, not-suc-le-zero, 
 use Rattle.std.proofs.Math.Seq.{drop-nil}
 use Rattle.std.proofs.lemmas.List.{drop-append-le}
 use Rattle.words.specs.Bytes.{each_nil, each_cons}
-use Rattle.model.specs.Laws.Logic.{clash, by_bool, by_eq}
-use Rattle.model.specs.Laws.Lists.{each_append}
+use Rattle.model.proofs.Laws.Logic.{clash, by_bool, by_eq}
+use Rattle.model.proofs.Laws.Lists.{each_append}
 use Rattle.types.specs.declared.CopyOrOwn.TheVariants.{GotOwn}
 use Rattle.model.specs.Definitions.Steps.{Access, Read, Write, ReadCells, cells_read, cells_written, any_cell, any_write, names, takes}
 use Rattle.model.specs.Definitions.Calls.{page_written}

@@ -4,16 +4,20 @@
 -- Assumes nothing.
 use Rattle.std.specs.Prelude.{◌≡◌, ◌≢◌, ℕ, ◌+◌, ◌*◌, ◌≤◌, ◌<◌, true, false, Bool, ◌&&◌, List, [], ◌∷◌, ◌++◌, length, eqb}
 use Rattle.words.specs.Bytes.{Each}
+use Rattle.types.specs.declared.Right.TheVariants.{None, Copy, Own}
+use Rattle.types.specs.declared.Frame.{Frame}
 use Rattle.types.specs.declared.CopyOrOwn.{CopyOrOwn}
+use Rattle.types.specs.declared.CopyOrOwn.TheVariants.{GotCopy}
 use Rattle.types.specs.declared.Kind.{Kind}
+use Rattle.types.specs.declared.Kind.TheVariants.{Got}
 use Rattle.types.specs.declared.State.TheVariants.{Up, Down, Replaying}
 use Rattle.types.specs.declared.Record.{Record}
 use Rattle.model.specs.Definitions.Parts.{member, byte_at}
 use Rattle.model.specs.Definitions.Layout.{byte_values, most_pages, slot_count, last_since, last_number, Form, volatile_count_at_in}
-use Rattle.model.specs.Definitions.Bank.{Entry, Board, Bank, board_at, entry_in, frame_at}
+use Rattle.model.specs.Definitions.Bank.{Entry, Board, Bank, board_at, entry_in, frame_at, with_number, with_since, with_place, with_state, on_working}
 use Rattle.model.specs.Definitions.Codec.{encode, decode}
 use Rattle.model.specs.Definitions.WellFormed.{RecordOk, FieldsOk, FuseOk, RoomOk, PlaceOk, ReplayingOk, DownOk, right_in, EntryOk, SizesOk, PeersOk}
-use Rattle.model.specs.Definitions.Steps.{Access, cells_written, names, giver}
+use Rattle.model.specs.Definitions.Steps.{Access, Cell, cells_written, names, giver, recorded, with_frame}
 use Rattle.model.specs.Definitions.Replay.{lacking}
 use Rattle.model.specs.Definitions.Calls.{fetch_need}
 use Rattle.model.specs.Definitions.Check.{area_count}
@@ -145,3 +149,21 @@ pub record Ready (a : Access) (x : Board) : Type 0 where
   pub since : x.working.since < last_since
   pub number : x.working.number < last_number
   pub right : lacking a x.working.frames ≡ false
+
+-- ---- steps of a board that are parts of a call
+
+-- the board that takes a copy with these bytes from board o
+unfoldable pub took_copy : (o p : ℕ) → List ℕ → Board → Board
+took_copy o p bytes x = with_frame p (record { right = Copy; bytes = bytes }) (on_working (recorded (Got GotCopy p) o bytes) x)
+
+-- the board that takes a page with these bytes
+unfoldable pub took_own : ℕ → List ℕ → Board → Board
+took_own p bytes x = with_frame p (record { right = Own; bytes = bytes }) x
+
+-- all of a restart but its frames
+unfoldable pub restarting : Board → Board
+restarting x = on_working (with_place 0) (on_working (with_since 0) (on_working (with_number x.stable.selected.number) (with_state Replaying x)))
+
+-- bytes are written under a right only
+abbrev pub Writable : List Frame → List (Cell × ℕ) → Type 0
+Writable fs ws = Each (λ w. (w.1 < byte_values) × ((frame_at fs w.0.page).right ≢ None)) ws

@@ -3,9 +3,7 @@
 -- of what an access logs, proved in Laws/Logged, and of the stores that calls cost, proved in Laws/Wear.
 pub mod Statement
 pub mod Banks
-pub mod Tests
 pub mod RecoveryStatement
-pub mod OnBytes
 pub mod ReplayEndsStatement
 pub mod AloneStatement
 pub mod CleanStatement

@@ -21,12 +21,12 @@ use Rattle.model.specs.Definitions.Codec.{page_of}
 use Rattle.model.specs.Definitions.Steps.{Access, names, takes, lacks, lacks_page}
 use Rattle.model.specs.Definitions.Replay.{records_left, used, gots_due, due, same_got, lacking, needs_got, needs_gots, differs, right_got, took_got, took_due}
 use Rattle.model.specs.Definitions.Replay.{replay_over}
-use Rattle.model.specs.Laws.Logic.{by_bool, by_eq, clash, and_left, and_right}
-use Rattle.model.specs.Laws.Below.{page_same, page_enough}
-use Rattle.model.specs.Laws.Boards.{frame_at_same, frame_at_other}
-use Rattle.model.specs.Laws.Keeps.Accesses.{takes_enough}
-use Rattle.model.specs.Laws.Keeps.Replay.{same_got_true}
-use Rattle.model.specs.Laws.Sets.{member_without_same, member_without_other}
+use Rattle.model.proofs.Laws.Logic.{by_bool, by_eq, clash, and_left, and_right}
+use Rattle.model.proofs.Laws.Below.{page_same, page_enough}
+use Rattle.model.proofs.Laws.Boards.{frame_at_same, frame_at_other}
+use Rattle.model.proofs.Laws.Keeps.Accesses.{takes_enough}
+use Rattle.model.proofs.Laws.Keeps.Replay.{same_got_true}
+use Rattle.model.proofs.Laws.Sets.{member_without_same, member_without_other}
 use Rattle.steps.specs.Access.{lacking_test}
 use Rattle.replay.specs.Clauses.{first, fits}
 use Rattle.replay.specs.Next.{ready_past}

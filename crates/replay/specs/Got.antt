@@ -17,10 +17,10 @@ use Rattle.model.specs.Definitions.Bank.{Board, on_working}
 use Rattle.model.specs.Definitions.Codec.{page_of}
 use Rattle.model.specs.Definitions.WellFormed.{is_got, FrameOk, RecordOk, FieldsOk}
 use Rattle.model.specs.Definitions.Replay.{records_left, used, gots_due, due, same_got, right_got, took_got, took_gots, took_due}
-use Rattle.model.specs.Laws.Logic.{by_bool, by_option, clash}
-use Rattle.model.specs.Laws.Codes.Tests.{by_kind}
-use Rattle.model.specs.Laws.Valid.{copy_some, own_some, frames_ok_set}
-use Rattle.model.specs.Laws.BoardFields.{used_fields}
+use Rattle.model.proofs.Laws.Logic.{by_bool, by_option, clash}
+use Rattle.model.proofs.Laws.Codes.Tests.{by_kind}
+use Rattle.model.proofs.Laws.Valid.{copy_some, own_some, frames_ok_set}
+use Rattle.model.proofs.Laws.BoardFields.{used_fields}
 use Rattle.steps.specs.Asked.{got}
 use Rattle.replay.specs.Clauses.{ready_in, ready, first, fits, takes_got, took_first}
 use Rattle.replay.specs.Next.{Ready, ready_in_some, ready_valid}

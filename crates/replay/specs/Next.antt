@@ -12,8 +12,8 @@ use Rattle.model.specs.Definitions.Codec.{decode_record, decode_board_in}
 use Rattle.model.specs.Clauses.{stored_count}
 use Rattle.model.specs.Definitions.WellFormed.{RecordOk, FieldsOk}
 use Rattle.model.specs.Definitions.Replay.{records_left, replay_over}
-use Rattle.model.specs.Laws.Logic.{by_bool, clash}
-use Rattle.model.specs.Laws.Lists.{each_head, each_drop}
+use Rattle.model.proofs.Laws.Logic.{by_bool, clash}
+use Rattle.model.proofs.Laws.Lists.{each_head, each_drop}
 use Rattle.format.specs.Areas.{selected_part}
 use Rattle.replay.specs.declared.next.NextRecord.{NextRecord}
 use Rattle.steps.specs.Selected.{stored_count_lem, stored_record}

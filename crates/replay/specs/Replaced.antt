@@ -6,7 +6,7 @@ use Rattle.model.specs.Definitions.Bank.{Board, on_working, on_frames, frame_at}
 use Rattle.model.specs.Definitions.Codec.{encode_board}
 use Rattle.model.specs.Definitions.WellFormed.{FramesOk, FieldsOk}
 use Rattle.model.specs.Definitions.Steps.{with_frame}
-use Rattle.model.specs.Laws.BlockReplay.{replacing, replacing_none, replacing_all, replacing_fields, replacing_next}
+use Rattle.model.proofs.Laws.BlockReplay.{replacing, replacing_none, replacing_all, replacing_fields, replacing_next}
 use Rattle.steps.specs.Blocks.{IsBlock, board_of}
 use Rattle.steps.specs.BlockLaws.{board_written, block_written}
 

@@ -10,8 +10,8 @@ use Rattle.model.specs.Definitions.Bank.{frame_at, on_working, on_frames}
 use Rattle.model.specs.Definitions.Codec.{encode_frame, decode_frame, state_byte, encode_board}
 use Rattle.model.specs.Definitions.Steps.{with_frame}
 use Rattle.model.specs.Definitions.Replay.{loaded}
-use Rattle.model.specs.Laws.BlockReplay.{restarting, restarting_loaded, restarting_bytes, restarting_fields}
-use Rattle.model.specs.Laws.Valid.{frame_ok_at}
+use Rattle.model.proofs.Laws.BlockReplay.{restarting, restarting_loaded, restarting_bytes, restarting_fields}
+use Rattle.model.proofs.Laws.Valid.{frame_ok_at}
 use Rattle.format.specs.Areas.{selected_part}
 use Rattle.steps.specs.Blocks.{IsBlock, board_of}
 use Rattle.steps.specs.Access.{frame_written}

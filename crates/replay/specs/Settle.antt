@@ -10,10 +10,10 @@ use Rattle.model.specs.Definitions.Codec.{encode_frame, decode_frame, state_byte
 use Rattle.model.specs.Definitions.WellFormed.{FramesOk}
 use Rattle.model.specs.Definitions.Steps.{with_frame}
 use Rattle.model.specs.Definitions.Replay.{settled_frame, settled}
-use Rattle.model.specs.Laws.Boards.{frame_at_each}
-use Rattle.model.specs.Laws.BlockFields.{write_state, write_place, read_frame}
-use Rattle.model.specs.Laws.BlockReplay.{replacing, replacing_here}
-use Rattle.model.specs.Laws.Valid.{frame_ok_empty, frame_ok_at, settled_frames_ok}
+use Rattle.model.proofs.Laws.Boards.{frame_at_each}
+use Rattle.model.proofs.Laws.BlockFields.{write_state, write_place, read_frame}
+use Rattle.model.proofs.Laws.BlockReplay.{replacing, replacing_here}
+use Rattle.model.proofs.Laws.Valid.{frame_ok_empty, frame_ok_at, settled_frames_ok}
 use Rattle.steps.specs.Blocks.{IsBlock, board_of}
 use Rattle.steps.specs.Access.{frame_written}
 use Rattle.replay.specs.Replaced.{replaced_board}

@@ -13,12 +13,12 @@ use Rattle.model.specs.Definitions.Bank.{Working, Board, empty_frame, on_working
 use Rattle.model.specs.Definitions.Codec.{encode_frame, encode_board, decode_board_in}
 use Rattle.model.specs.Definitions.WellFormed.{is_got, FramesOk, FieldsOk}
 use Rattle.model.specs.Definitions.Replay.{records_left, used, use_up, used_up}
-use Rattle.model.specs.Laws.Logic.{by_bool, by_option, clash}
-use Rattle.model.specs.Laws.Keeps.Replay.{use_up_used}
-use Rattle.model.specs.Laws.BlockReplay.{used_shown, used_frame}
-use Rattle.model.specs.Laws.Codes.Tests.{by_kind}
-use Rattle.model.specs.Laws.Valid.{frame_ok_empty, frames_ok_set}
-use Rattle.model.specs.Laws.BoardFields.{on_working_fields, used_fields}
+use Rattle.model.proofs.Laws.Logic.{by_bool, by_option, clash}
+use Rattle.model.proofs.Laws.Keeps.Replay.{use_up_used}
+use Rattle.model.proofs.Laws.BlockReplay.{used_shown, used_frame}
+use Rattle.model.proofs.Laws.Codes.Tests.{by_kind}
+use Rattle.model.proofs.Laws.Valid.{frame_ok_empty, frames_ok_set}
+use Rattle.model.proofs.Laws.BoardFields.{on_working_fields, used_fields}
 use Rattle.steps.specs.Blocks.{IsBlock, board_of}
 use Rattle.replay.specs.Clauses.{ready_in, ready, frames_after, uses_next, used_next}
 use Rattle.replay.specs.Next.{Ready, ready_in_some}

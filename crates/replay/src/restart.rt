@@ -4,7 +4,7 @@ ghost use Rattle.model.specs.Definitions.Bank.{frame_at, on_working, on_frames};
 ghost use Rattle.model.specs.Definitions.Codec.{encode_board};
 ghost use Rattle.model.specs.Definitions.Steps.{with_frame};
 ghost use Rattle.model.specs.Definitions.Replay.{loaded, used_up};
-ghost use Rattle.model.specs.Laws.BlockReplay.{restarting};
+ghost use Rattle.model.specs.Clauses.{restarting};
 ghost use Rattle.steps.specs.Blocks.{IsBlock, board_of};
 
 use crate::used::use_up;

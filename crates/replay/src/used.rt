@@ -5,7 +5,7 @@ ghost use Rattle.model.specs.Definitions.Bank.{on_working};
 ghost use Rattle.model.specs.Definitions.Codec.{encode_board};
 ghost use Rattle.model.specs.Definitions.Steps.{Access, cells_written};
 ghost use Rattle.model.specs.Definitions.Replay.{used, used_up, replayed};
-ghost use Rattle.model.specs.Laws.Valid.{Writable};
+ghost use Rattle.model.specs.Clauses.{Writable};
 ghost use Rattle.steps.specs.Asked.{wrote_byte};
 ghost use Rattle.steps.specs.Blocks.{IsBlock, board_of};
 ghost use Rattle.replay.specs.Clauses.{uses_next, used_next};

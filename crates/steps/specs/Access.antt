@@ -15,14 +15,14 @@ use Rattle.model.specs.Definitions.Codec.{right_of, encode_frame, encode_board, 
 use Rattle.model.specs.Definitions.Steps.{Access, Read, Write, cells_written, names, lacks, lacks_page, cell_byte, with_bytes, accessed, with_frame}
 use Rattle.model.specs.Definitions.Replay.{lacking}
 use Rattle.model.specs.Definitions.Calls.{counters_full}
-use Rattle.model.specs.Laws.Logic.{by_bool, by_eq, clash}
-use Rattle.model.specs.Laws.Sets.{member_with_same, member_with_other, member_none}
-use Rattle.model.specs.Laws.Below.{lacks_no_page, no_page_lacks}
-use Rattle.model.specs.Laws.Codec.{right_of_right_byte}
-use Rattle.model.specs.Laws.Valid.{Writable}
-use Rattle.model.specs.Laws.BlockFields.{read_right, read_byte, write_frame, write_byte}
-use Rattle.model.specs.Laws.BlockWorking.{accessed_read}
-use Rattle.model.specs.Laws.BoardFields.{accessed_fields}
+use Rattle.model.proofs.Laws.Logic.{by_bool, by_eq, clash}
+use Rattle.model.proofs.Laws.Sets.{member_with_same, member_with_other, member_none}
+use Rattle.model.proofs.Laws.Below.{lacks_no_page, no_page_lacks}
+use Rattle.model.proofs.Laws.Codec.{right_of_right_byte}
+use Rattle.model.proofs.Laws.Valid.{Writable}
+use Rattle.model.proofs.Laws.BlockFields.{read_right, read_byte, write_frame, write_byte}
+use Rattle.model.proofs.Laws.BlockWorking.{accessed_read}
+use Rattle.model.proofs.Laws.BoardFields.{accessed_fields}
 use Rattle.steps.specs.Asked.{got, Takes, wrote_byte}
 use Rattle.steps.specs.Blocks.{IsBlock, board_of}
 use Rattle.steps.specs.BlockLaws.{block_written}

@@ -8,10 +8,10 @@ use Rattle.model.specs.Definitions.Layout.{most_pages, state_at, frames_at, bloc
 use Rattle.model.specs.Definitions.Bank.{Board, Bank, board_at, on_board}
 use Rattle.model.specs.Definitions.Codec.{state_of, encode_board, encode}
 use Rattle.model.specs.Definitions.WellFormed.{FieldsOk}
-use Rattle.model.specs.Laws.CodecBank.{state_of_state_byte, decode_encode_board, length_encode}
-use Rattle.model.specs.Laws.Parts.{index_in}
-use Rattle.model.specs.Laws.BlockFields.{read_state}
-use Rattle.model.specs.Laws.BankSteps.{fields_at, block_part, encode_board_lem}
+use Rattle.model.proofs.Laws.CodecBank.{state_of_state_byte, decode_encode_board, length_encode}
+use Rattle.model.proofs.Laws.Parts.{index_in}
+use Rattle.model.proofs.Laws.BlockFields.{read_state}
+use Rattle.model.proofs.Laws.BankSteps.{fields_at, block_part, encode_board_lem}
 use Rattle.model.specs.Clauses.{Fields}
 use Rattle.fields.proofs.Lent.{lent_written}
 use Rattle.steps.specs.Blocks.{IsBlock, board_of}

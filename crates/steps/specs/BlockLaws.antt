@@ -5,7 +5,7 @@ use Rattle.model.specs.Definitions.Layout.{most_pages, block_size}
 use Rattle.model.specs.Definitions.Bank.{Board}
 use Rattle.model.specs.Definitions.Codec.{encode_board}
 use Rattle.model.specs.Definitions.WellFormed.{FieldsOk}
-use Rattle.model.specs.Laws.CodecBank.{decode_encode_board, length_encode_board}
+use Rattle.model.proofs.Laws.CodecBank.{decode_encode_board, length_encode_board}
 use Rattle.steps.specs.Blocks.{IsBlock, board_of}
 
 pub block_length : {pages : ℕ} {l : List ℕ} → IsBlock pages l → length l ≡ block_size pages

@@ -10,13 +10,13 @@ use Rattle.model.specs.Definitions.Bank.{Board, frame_at, on_working}
 use Rattle.model.specs.Definitions.Codec.{encode_frame, decode_frame, selector_byte, encode_board}
 use Rattle.model.specs.Definitions.Steps.{stored_frame, stored_head, stored_selector, rested_working}
 use Rattle.model.specs.Definitions.WellFormed.{FieldsOk, FrameOk}
-use Rattle.model.specs.Laws.Parts.{splice_within, index_in}
-use Rattle.model.specs.Laws.Codec.{length_encode_frame}
-use Rattle.model.specs.Laws.CodecBank.{length_encode_board}
-use Rattle.model.specs.Laws.BlockFields.{read_frame, read_number}
-use Rattle.model.specs.Laws.BlockStable.{area_in, selector_read, stored_frame_bytes, stored_head_bytes, stored_selector_bytes}
-use Rattle.model.specs.Laws.BlockWorking.{rested_bytes}
-use Rattle.model.specs.Laws.Valid.{frame_ok_at}
+use Rattle.model.proofs.Laws.Parts.{splice_within, index_in}
+use Rattle.model.proofs.Laws.Codec.{length_encode_frame}
+use Rattle.model.proofs.Laws.CodecBank.{length_encode_board}
+use Rattle.model.proofs.Laws.BlockFields.{read_frame, read_number}
+use Rattle.model.proofs.Laws.BlockStable.{area_in, selector_read, stored_frame_bytes, stored_head_bytes, stored_selector_bytes}
+use Rattle.model.proofs.Laws.BlockWorking.{rested_bytes}
+use Rattle.model.proofs.Laws.Valid.{frame_ok_at}
 use Rattle.format.specs.Areas.{spare_at, with_part, with_spare, head_stored}
 
 module _ (pages : ℕ) (l : List ℕ) (x : Board) (ok : FieldsOk pages x) (e : encode_board x ≡ l) where

@@ -13,11 +13,11 @@ use Rattle.model.specs.Definitions.Bank.{Board, with_log, on_working, on_selecte
 use Rattle.model.specs.Definitions.WellFormed.{FieldsOk, RoomOk}
 use Rattle.model.specs.Definitions.Steps.{powered_off, with_fuse, burnt, moved_record, stored_record}
 use Rattle.model.specs.Clauses.{stored_count, volatile_count}
-use Rattle.model.specs.Laws.Logic.{by_bool, by_eq}
-use Rattle.model.specs.Laws.BlockWorking.{next_record, powered_off_log}
-use Rattle.model.specs.Laws.BlockFlush.{flushing, flushing_count, flushing_fields, working_stored_records, fuse_after, fuse_after_none, fuse_after_set, stored_burnt}
-use Rattle.model.specs.Laws.BlockFlush.{stored_burnt_parts, stored_burnt_log}
-use Rattle.model.specs.Laws.BoardFields.{with_fuse_fields}
+use Rattle.model.proofs.Laws.Logic.{by_bool, by_eq}
+use Rattle.model.proofs.Laws.BlockWorking.{next_record, powered_off_log}
+use Rattle.model.proofs.Laws.BlockFlush.{flushing, flushing_count, flushing_fields, working_stored_records, fuse_after, fuse_after_none, fuse_after_set, stored_burnt}
+use Rattle.model.proofs.Laws.BlockFlush.{stored_burnt_parts, stored_burnt_log}
+use Rattle.model.proofs.Laws.BoardFields.{with_fuse_fields}
 use Rattle.steps.specs.Blocks.{with_stored, flush_ended}
 
 -- the board after j turns: that of j stores, the fuse lowered after each, with the volatile log of before the flush

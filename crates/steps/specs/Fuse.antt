@@ -8,8 +8,8 @@ use Rattle.model.specs.Definitions.Layout.{no_fuse, fuse_size, fuse_at}
 use Rattle.model.specs.Definitions.Bank.{Board}
 use Rattle.model.specs.Definitions.Codec.{encode_board, decode_board_in}
 use Rattle.model.specs.Definitions.Steps.{with_fuse, burnt}
-use Rattle.model.specs.Laws.BlockFields.{write_fuse}
-use Rattle.model.specs.Laws.BlockWorking.{burnt_none}
+use Rattle.model.proofs.Laws.BlockFields.{write_fuse}
+use Rattle.model.proofs.Laws.BlockWorking.{burnt_none}
 use Rattle.steps.specs.Blocks.{IsBlock, board_of}
 
 burnt_lowered : (x : Board) (v : ℕ) → (x.fuse ≡ no_fuse → ⊥) → x.fuse - 1 ≡ v → burnt x ≡ with_fuse v x

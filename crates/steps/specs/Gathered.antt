@@ -8,7 +8,7 @@ use Rattle.std.proofs.Math.Seq.{append_snoc}
 use Rattle.words.specs.Bytes.{Each}
 use Rattle.types.specs.declared.Frame.{Frame}
 use Rattle.model.specs.Definitions.Steps.{Cell, cells_asked, cell_byte}
-use Rattle.model.specs.Laws.Lists.{each_head, each_tail}
+use Rattle.model.proofs.Laws.Lists.{each_head, each_tail}
 use Rattle.fields.specs.Cells.{CellIn, cell_at, next_cell}
 
 -- the first i bytes stand in `out`, the cells behind them are still to be read

@@ -13,13 +13,13 @@ use Rattle.model.specs.Definitions.Bank.{Board, on_working}
 use Rattle.model.specs.Definitions.Codec.{encode_record, decode_record, selector_byte, encode_board, decode_log_in, decode_board_in}
 use Rattle.model.specs.Definitions.Steps.{recorded}
 use Rattle.model.specs.Definitions.WellFormed.{RecordOk, FieldsOk}
-use Rattle.model.specs.Laws.Logic.{by_bool}
-use Rattle.model.specs.Laws.Parts.{length_splice, splice_within, byte_at_splice_left, index_in, length_decode_all}
-use Rattle.model.specs.Laws.Codec.{length_encode_record}
+use Rattle.model.proofs.Laws.Logic.{by_bool}
+use Rattle.model.proofs.Laws.Parts.{length_splice, splice_within, byte_at_splice_left, index_in, length_decode_all}
+use Rattle.model.proofs.Laws.Codec.{length_encode_record}
 use Rattle.model.specs.Clauses.{stored_count, volatile_count, Recordable}
-use Rattle.model.specs.Laws.BlockFields.{read_since}
-use Rattle.model.specs.Laws.BlockStable.{area_in, with_record_bytes}
-use Rattle.model.specs.Laws.BlockWorking.{recorded_bytes, flushed_bytes}
+use Rattle.model.proofs.Laws.BlockFields.{read_since}
+use Rattle.model.proofs.Laws.BlockStable.{area_in, with_record_bytes}
+use Rattle.model.proofs.Laws.BlockWorking.{recorded_bytes, flushed_bytes}
 use Rattle.format.specs.Areas.{selected_at, with_part, with_selected}
 use Rattle.steps.specs.Blocks.{IsBlock, board_of, with_stored, flush_ended}
 use Rattle.steps.specs.BlockLaws.{block_length}

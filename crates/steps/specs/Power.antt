@@ -12,12 +12,12 @@ use Rattle.model.specs.Definitions.Bank.{Board, Bank, with_state}
 use Rattle.model.specs.Definitions.Codec.{encode_entry, decode_entry, state_byte, encode_board, encode, decode}
 use Rattle.model.specs.Definitions.Steps.{forgotten, with_fuse, powered_off}
 use Rattle.model.specs.Definitions.WellFormed.{FieldsOk}
-use Rattle.model.specs.Laws.BlockFields.{write_state, write_fuse, fixed_inside}
-use Rattle.model.specs.Laws.BlockWorking.{powered_off_bytes}
-use Rattle.model.specs.Laws.Zeros.{zeros_next}
-use Rattle.model.specs.Laws.BankSteps.{is_bank_length, entry_of}
+use Rattle.model.proofs.Laws.BlockFields.{write_state, write_fuse, fixed_inside}
+use Rattle.model.proofs.Laws.BlockWorking.{powered_off_bytes}
+use Rattle.model.proofs.Laws.Zeros.{zeros_next}
+use Rattle.model.proofs.Laws.BankSteps.{is_bank_length, entry_of}
 use Rattle.model.specs.Clauses.{Fields, IsBank}
-use Rattle.model.specs.Laws.BankLoops.{forgotten_first_all, forget_first, pages_forget_first, forget_first_waits, encode_forget_first}
+use Rattle.model.proofs.Laws.BankLoops.{forgotten_first_all, forget_first, pages_forget_first, forget_first_waits, encode_forget_first}
 
 -- the numbers, the place, the count, the frames and the slots
 zero_run : (l : List ℕ) (n : ℕ) → frames_at ≤ length l

@@ -8,9 +8,9 @@ use Rattle.model.specs.Definitions.Layout.{slot_count, number_size, frame_size, 
 use Rattle.model.specs.Definitions.Bank.{frame_at}
 use Rattle.model.specs.Definitions.Codec.{decode_frame, decode_record, encode_area, selector_byte}
 use Rattle.model.specs.Clauses.{stored_count}
-use Rattle.model.specs.Laws.Codec.{area_count_lem}
-use Rattle.model.specs.Laws.BlockAreas.{area_number_read, area_frame_read, area_record_read}
-use Rattle.model.specs.Laws.BlockStable.{selector_read, selected_part_lem}
+use Rattle.model.proofs.Laws.Codec.{area_count_lem}
+use Rattle.model.proofs.Laws.BlockAreas.{area_number_read, area_frame_read, area_record_read}
+use Rattle.model.proofs.Laws.BlockStable.{selector_read, selected_part_lem}
 use Rattle.format.specs.Areas.{selected_at, selected_part}
 use Rattle.steps.specs.Blocks.{IsBlock, board_of}
 

@@ -11,8 +11,8 @@ use Rattle.model.specs.Definitions.Codec.{encode_board}
 use Rattle.model.specs.Definitions.WellFormed.{FieldsOk}
 use Rattle.model.specs.Definitions.Steps.{stored_frame, stored_head, stored_selector, spare_stores, checkpoint_stores, rested_working}
 use Rattle.model.specs.Definitions.BoardRuns.{BoardRun, start_on, store_on, store_all_on, checkpoint_on}
-use Rattle.model.specs.Laws.Lists.{foldl_keeps, each_tabulate}
-use Rattle.model.specs.Laws.BoardFields.{stored_frame_fields, stored_head_fields, stored_selector_fields}
+use Rattle.model.proofs.Laws.Lists.{foldl_keeps, each_tabulate}
+use Rattle.model.proofs.Laws.BoardFields.{stored_frame_fields, stored_head_fields, stored_selector_fields}
 use Rattle.steps.specs.Blocks.{IsBlock, board_of}
 use Rattle.stores.specs.RunLaws.{step_on_lost, store_on_lost, store_all_on_lost, frames_next}
 use Rattle.stores.specs.RunFields.{store_on_fields}

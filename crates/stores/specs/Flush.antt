@@ -18,11 +18,11 @@ use Rattle.model.specs.Definitions.Codec.{decode_record, encode_board}
 use Rattle.model.specs.Definitions.WellFormed.{RecordOk, FieldsOk, RoomOk}
 use Rattle.model.specs.Definitions.Steps.{powered_off, burnt, recorded, stored_record, record_stores}
 use Rattle.model.specs.Definitions.BoardRuns.{BoardRun, start_on, spent, store_on, store_all_on, flush_on, logged_on}
-use Rattle.model.specs.Laws.Lists.{each_get_d}
-use Rattle.model.specs.Laws.BlockFields.{read_record}
-use Rattle.model.specs.Laws.BlockStable.{with_record_fields}
-use Rattle.model.specs.Laws.BlockFlush.{stored_burnt}
-use Rattle.model.specs.Laws.BoardFields.{recorded_fields}
+use Rattle.model.proofs.Laws.Lists.{each_get_d}
+use Rattle.model.proofs.Laws.BlockFields.{read_record}
+use Rattle.model.proofs.Laws.BlockStable.{with_record_fields}
+use Rattle.model.proofs.Laws.BlockFlush.{stored_burnt}
+use Rattle.model.proofs.Laws.BoardFields.{recorded_fields}
 use Rattle.model.specs.Clauses.{RoomFor, Recordable, volatile_count, stored_count}
 use Rattle.steps.specs.Blocks.{IsBlock, board_of, with_stored, flush_ended}
 use Rattle.steps.specs.BlockLaws.{block_length, board_written, block_written}

@@ -14,11 +14,11 @@ use Rattle.model.specs.Definitions.Bank.{Board, Bank, no_board, board_at, on_boa
 use Rattle.model.specs.Definitions.Steps.{Run, step, forgotten, powered_off, power_off, burnt, store, recorded, store_all, note, record_stores, flush}
 use Rattle.model.specs.Definitions.Steps.{checkpoint_stores, rested_working, checkpoint}
 use Rattle.model.specs.Definitions.BoardRuns.{BoardRun, start_on, step_on, store_on, store_all_on, flush_on, logged_on, checkpoint_on}
-use Rattle.model.specs.Laws.Logic.{by_bool}
-use Rattle.model.specs.Laws.Lists.{update_set}
-use Rattle.model.specs.Laws.EachFirst.{update_same}
-use Rattle.model.specs.Laws.Boards.{update_update, boards_on_board, board_at_same, on_board_on_board}
-use Rattle.model.specs.Laws.BankSteps.{store_kept, store_cut}
+use Rattle.model.proofs.Laws.Logic.{by_bool}
+use Rattle.model.proofs.Laws.Lists.{update_set}
+use Rattle.model.proofs.Laws.EachFirst.{update_same}
+use Rattle.model.proofs.Laws.Boards.{update_update, boards_on_board, board_at_same, on_board_on_board}
+use Rattle.model.proofs.Laws.BankSteps.{store_kept, store_cut}
 use Rattle.stores.specs.RunLaws.{step_on_lost, step_on_going, store_on_lost, store_on_cut, store_on_kept}
 
 -- the bank's run that a board's run stands for: n stores were made before it

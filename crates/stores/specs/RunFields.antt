@@ -10,14 +10,14 @@ use Rattle.model.specs.Definitions.Steps.{powered_off, burnt, appended, recorded
 use Rattle.model.specs.Definitions.Steps.{checkpoint_stores, rested_working}
 use Rattle.model.specs.Definitions.BoardRuns.{BoardRun, start_on, spent, store_on, store_all_on, flush_on, logged_on, checkpoint_on}
 use Rattle.model.specs.Definitions.WellFormed.{FieldsOk, RoomOk}
-use Rattle.model.specs.Laws.Logic.{by_bool, cases}
-use Rattle.model.specs.Laws.Lists.{foldl_keeps}
-use Rattle.model.specs.Laws.Boards.{stored_record_cases}
-use Rattle.model.specs.Laws.Runs.{each_record_stores, each_checkpoint_stores}
-use Rattle.model.specs.Laws.Runs.Stores.{burnt_working, burnt_stable, flushed_stored_record}
-use Rattle.model.specs.Laws.BlockFlush.{stored_records, stored_records_fields}
-use Rattle.model.specs.Laws.BoardFields.{recorded_fields, burnt_fields, powered_off_fields, stored_frame_fields, stored_head_fields, stored_selector_fields}
-use Rattle.model.specs.Laws.BoardFields.{rested_fields}
+use Rattle.model.proofs.Laws.Logic.{by_bool, cases}
+use Rattle.model.proofs.Laws.Lists.{foldl_keeps}
+use Rattle.model.proofs.Laws.Boards.{stored_record_cases}
+use Rattle.model.proofs.Laws.Runs.{each_record_stores, each_checkpoint_stores}
+use Rattle.model.proofs.Laws.Runs.Stores.{burnt_working, burnt_stable, flushed_stored_record}
+use Rattle.model.proofs.Laws.BlockFlush.{stored_records, stored_records_fields}
+use Rattle.model.proofs.Laws.BoardFields.{recorded_fields, burnt_fields, powered_off_fields, stored_frame_fields, stored_head_fields, stored_selector_fields}
+use Rattle.model.proofs.Laws.BoardFields.{rested_fields}
 use Rattle.model.specs.Clauses.{RoomFor, Recordable, records_of}
 use Rattle.stores.specs.RunLaws.{step_on_lost, step_on_going}
 

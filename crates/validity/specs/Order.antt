@@ -21,12 +21,12 @@ use Rattle.model.specs.Definitions.Check.{selected_count, is_blank, state_valid,
 use Rattle.model.specs.Definitions.Check.{records_pass, directory_of}
 use Rattle.model.specs.Definitions.Check.{block_of_in, blocks_fit, logs_valid, peers_valid, formed_in}
 use Rattle.words.specs.LittleEndian.{number_of}
-use Rattle.model.specs.Laws.Logic.{by_bool, and_left, and_right}
-use Rattle.model.specs.Laws.Lists.{each_of_get_d, each_every, every_below_all}
-use Rattle.model.specs.Laws.Parts.{part_join, part_part, byte_at_first}
-use Rattle.model.specs.Laws.Tests.{zero_append}
-use Rattle.model.specs.Laws.CodecBank.{state_of_state_byte}
-use Rattle.model.specs.Laws.CodecBankBack.{BytesOk, head_ok}
+use Rattle.model.proofs.Laws.Logic.{by_bool, and_left, and_right}
+use Rattle.model.proofs.Laws.Lists.{each_of_get_d, each_every, every_below_all}
+use Rattle.model.proofs.Laws.Parts.{part_join, part_part, byte_at_first}
+use Rattle.model.proofs.Laws.Tests.{zero_append}
+use Rattle.model.proofs.Laws.CodecBank.{state_of_state_byte}
+use Rattle.model.proofs.Laws.CodecBankBack.{BytesOk, head_ok}
 use Rattle.validity.specs.Pieces.{holds_none, Holders, frame_agrees, stored_frames_valid, stored_page_valid, fixed_fields_valid, blank_fields, own_frames_valid}
 use Rattle.validity.specs.Pieces.{own_page_agrees, own_page_zero, state_fields_valid, board_fields_valid, frames_agree, down_frames_valid, frames_fit, record_valid}
 use Rattle.validity.specs.Search.{below_more, below_both, records_both}

@@ -12,9 +12,9 @@ use Rattle.model.specs.Definitions.Layout.{slot_count, area_slots_at, Form, slot
 use Rattle.model.specs.Definitions.Parts.{part, byte_at, every_from, every_below}
 use Rattle.model.specs.Definitions.Check.{area_count, counts_valid, record_passes, stored_passes, slots_pass, records_pass, block_of_in}
 use Rattle.model.specs.Definitions.Layout.{blocks_at}
-use Rattle.model.specs.Laws.Logic.{cases, clash, by_bool, by_eq, and_left, and_right}
-use Rattle.model.specs.Laws.Lists.{every_below_at, every_below_all}
-use Rattle.model.specs.Laws.CodecBack.{area_inside}
+use Rattle.model.proofs.Laws.Logic.{cases, clash, by_bool, by_eq, and_left, and_right}
+use Rattle.model.proofs.Laws.Lists.{every_below_at, every_below_all}
+use Rattle.model.proofs.Laws.CodecBack.{area_inside}
 use Rattle.validity.specs.Pieces.{volatile_log, logs, log_count, log_slots_at, record_passes_in, log_passes}
 use Rattle.fields.proofs.Lent.{lent_part}
 

@@ -14,11 +14,11 @@ use Rattle.model.specs.Definitions.Layout.{mark1_at, slot_page_at, letter_g, let
 use Rattle.model.specs.Definitions.Parts.{part, byte_at, every, every_from, every_below, member}
 use Rattle.model.specs.Definitions.Codec.{right_byte, right_of, decode_entry}
 use Rattle.model.specs.Definitions.Check.{is_zero, frame_valid, got_mark, bare_mark, mark_fits, peer_allowed, slot_valid, same_right}
-use Rattle.model.specs.Laws.Logic.{clash, by_bool, by_eq, and_left, and_right}
-use Rattle.model.specs.Laws.Parts.{length_part, part_all, part_join, part_part, byte_rest, byte_at_part}
-use Rattle.model.specs.Laws.Codec.{right_of_right_byte}
-use Rattle.model.specs.Laws.Sets.{member_none}
-use Rattle.model.specs.Laws.Tests.{zero_append}
+use Rattle.model.proofs.Laws.Logic.{clash, by_bool, by_eq, and_left, and_right}
+use Rattle.model.proofs.Laws.Parts.{length_part, part_all, part_join, part_part, byte_rest, byte_at_part}
+use Rattle.model.proofs.Laws.Codec.{right_of_right_byte}
+use Rattle.model.proofs.Laws.Sets.{member_none}
+use Rattle.model.proofs.Laws.Tests.{zero_append}
 use Rattle.validity.specs.Pieces.{word_size, page_bits, holds_none}
 use Rattle.validity.specs.Search.{below_more}
 

@@ -8,14 +8,14 @@ use Rattle.types.specs.declared.Frame.{Frame}
 use Rattle.types.specs.declared.State.TheVariants.{Up}
 use Rattle.model.specs.Definitions.Bank.{Working, Stable, Board, Bank, board_at, on_board, on_working, on_frames, on_spare}
 use Rattle.model.specs.Definitions.Steps.{Run, step, powered_off, power_off, burnt, store, stored_frame, stored_head, stored_selector, rested_working, with_frame}
-use Rattle.model.specs.Laws.Logic.{by_eq}
-use Rattle.model.specs.Laws.Boards.{board_at_same, board_at_other, board_at_power_off_same, board_at_power_off_other, power_off_on_board, on_board_on_board}
-use Rattle.model.specs.Laws.Runs.{lost_not, step_cases, store_cases, SameSizes, sizes_same, sizes_trans, sizes_on_board, sizes_power_off}
-use Rattle.model.specs.Laws.Runs.Stores.{burnt_state, burnt_working, burnt_stable}
+use Rattle.model.proofs.Laws.Logic.{by_eq}
+use Rattle.model.proofs.Laws.Boards.{board_at_same, board_at_other, board_at_power_off_same, board_at_power_off_other, power_off_on_board, on_board_on_board}
+use Rattle.model.proofs.Laws.Runs.{lost_not, step_cases, store_cases, SameSizes, sizes_same, sizes_trans, sizes_on_board, sizes_power_off}
+use Rattle.model.proofs.Laws.Runs.Stores.{burnt_state, burnt_working, burnt_stable}
 use Rattle.model.specs.Moves.{Saved}
 use Rattle.model.specs.History.RecoveryStatement.{SameCounters, Change, Selected, Lost, Quiet, Changes, unchanged, next}
 use Rattle.history.specs.Counters.Spacing.{Orderly, orderly_less, selected_orderly, powered_off_orderly, quiet_orderly}
-use Rattle.model.specs.Laws.Keeps.Stores.{powered_off_burnt}
+use Rattle.model.proofs.Laws.Keeps.Stores.{powered_off_burnt}
 
 -- ==== a board
 

@@ -18,11 +18,11 @@ use Rattle.model.specs.Moves.{resumes, closes, MayPerform, local, taken, Guard, 
 use Rattle.model.specs.Moves.{TakesCopy, first, behind, gives_copy, passes_ownership, drops_copies, performs, loses_power, sets_fuse, loads, repeats_access}
 use Rattle.model.specs.Moves.{takes_last, settles, Moves}
 use Rattle.model.specs.History.Statement.{Event}
-use Rattle.model.specs.Laws.Boards.{board_at_same}
-use Rattle.model.specs.Laws.Runs.{step_going}
-use Rattle.model.specs.Laws.Keeps.Rights.{or_cases, holder_up}
-use Rattle.model.specs.Laws.Moves.Formed.{FormedIn, FormedRun, formed_begun, selects_stores, induct_formed}
-use Rattle.model.specs.Laws.Moves.Calls.{call_moves}
+use Rattle.model.proofs.Laws.Boards.{board_at_same}
+use Rattle.model.proofs.Laws.Runs.{step_going}
+use Rattle.model.proofs.Laws.Keeps.Rights.{or_cases, holder_up}
+use Rattle.model.proofs.Laws.Moves.Formed.{FormedIn, FormedRun, formed_begun, selects_stores, induct_formed}
+use Rattle.model.proofs.Laws.Moves.Calls.{call_moves}
 use Rattle.model.specs.History.RecoveryStatement.{Stored}
 use Rattle.history.specs.Replaying.{going_left, over_left}
 use Rattle.history.specs.Counters.Spacing.{stored_record_orderly}

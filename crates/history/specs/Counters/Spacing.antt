@@ -12,10 +12,10 @@ use Rattle.model.specs.Definitions.Bank.{Board, on_working}
 use Rattle.model.specs.Definitions.WellFormed.{is_got}
 use Rattle.model.specs.Definitions.Steps.{powered_off, appended, recorded, stored_record, stored_selector, rested_working, Access, accessed}
 use Rattle.model.specs.Definitions.Replay.{loaded, records_left, used, use_up, used_up, gots_due, due, took_got, took_due, replayed}
-use Rattle.model.specs.Laws.Logic.{by_eq, clash}
-use Rattle.model.specs.Laws.Codes.Order.{never}
-use Rattle.model.specs.Laws.Runs.Stores.{Flushed, flushed_stored_record}
-use Rattle.model.specs.Laws.Keeps.Clauses.{up_not_down, up_not_replaying, down_not_replaying}
+use Rattle.model.proofs.Laws.Logic.{by_eq, clash}
+use Rattle.model.proofs.Laws.Codes.Order.{never}
+use Rattle.model.proofs.Laws.Runs.Stores.{Flushed, flushed_stored_record}
+use Rattle.model.proofs.Laws.Keeps.Clauses.{up_not_down, up_not_replaying, down_not_replaying}
 use Rattle.history.specs.Invariant.{NextWaits}
 use Rattle.model.specs.History.RecoveryStatement.{SameCounters}
 use Rattle.model.specs.Clauses.{records_of}

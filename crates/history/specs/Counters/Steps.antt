@@ -15,10 +15,10 @@ use Rattle.model.specs.Definitions.Bank.{Board, Bank, empty_frame, board_at, ent
 use Rattle.model.specs.Definitions.WellFormed.{is_got}
 use Rattle.model.specs.Definitions.Steps.{with_fuse, recorded, note, Access, accessed, access, frame_of, give_copy, dropped, drop_copies, pass_ownership}
 use Rattle.model.specs.Definitions.Replay.{loaded, records_left, used_up, took_due, replay_over, settled, replayed, settle}
-use Rattle.model.specs.Laws.Logic.{by_eq, cases}
-use Rattle.model.specs.Laws.Boards.{board_at_same, on_board_on_board, took_due_state, took_copy, took_own, dropped_if, board_at_give_copy_same, board_at_give_copy_other}
-use Rattle.model.specs.Laws.Boards.{board_at_drop_copies, board_at_pass_ownership_same, board_at_pass_ownership_other}
-use Rattle.model.specs.Laws.Runs.{sizes_give_copy, sizes_drop_copies, sizes_pass_ownership}
+use Rattle.model.proofs.Laws.Logic.{by_eq, cases}
+use Rattle.model.proofs.Laws.Boards.{board_at_same, on_board_on_board, took_due_state, took_copy, took_own, dropped_if, board_at_give_copy_same, board_at_give_copy_other}
+use Rattle.model.proofs.Laws.Boards.{board_at_drop_copies, board_at_pass_ownership_same, board_at_pass_ownership_other}
+use Rattle.model.proofs.Laws.Runs.{sizes_give_copy, sizes_drop_copies, sizes_pass_ownership}
 use Rattle.model.specs.History.RecoveryStatement.{SameCounters, Made, Accessed, Loaded, Took, Replayed, Settled, unchanged, next}
 use Rattle.model.specs.Clauses.{records_of}
 use Rattle.history.specs.Repeating.{took_stable, took_log}

@@ -1,7 +1,7 @@
 -- A line read word by word. Assumes nothing.
 use Rattle.std.specs.Prelude.{◌≡◌, refl, ℕ, suc, ◌+◌, ◌-◌, ◌≤◌, ◌<◌, true, false, List, [], ◌∷◌, length, take, drop, get_or, eqb}
 use Rattle.std.proofs.Common.{sym, ◌∙◌, arith, add-one, length-drop, drop_of_length-le, length-take-le, get_or-take, drop-cons, drop-drop, take_all, lt-ltb, le-ltb}
-use Rattle.model.specs.Laws.Logic.{by_bool}
+use Rattle.model.proofs.Laws.Logic.{by_bool}
 use Rattle.lines.specs.declared.request.Numbers.{Numbers}
 use Rattle.lines.specs.declared.request.Numbers.TheVariants.{None}
 use Rattle.lines.specs.declared.request.Request.TheVariants.{Unreadable}

@@ -5,7 +5,7 @@ use Rattle.std.proofs.lemmas.Bool.{lt-leb}
 use Rattle.lines.specs.declared.number.Number.TheVariants.{Value, Wrong}
 use Rattle.model.specs.Definitions.Parts.{every}
 use Rattle.lines.specs.Definitions.Numbers.{largest_number}
-use Rattle.model.specs.Laws.Logic.{by_bool, and_left}
+use Rattle.model.proofs.Laws.Logic.{by_bool, and_left}
 use Rattle.lines.specs.Definitions.Numbers.{digit_zero, digits_in, decimal, is_digit, value_from, leading_zero, digits_from, number}
 use Rattle.lines.specs.Clauses.{most_digits}
 

@@ -2,7 +2,7 @@
 use Rattle.std.specs.Prelude.{◌≡◌, refl, ℕ, ◌+◌, ◌/◌, ◌%◌, ◌≤◌, ◌<◌, List, [], ◌∷◌, ◌++◌, length, take, drop, set}
 use Rattle.std.proofs.Common.{sym, ap, ◌∙◌, arith, length-append, take_at}
 use Rattle.model.specs.Definitions.Parts.{splice}
-use Rattle.model.specs.Laws.Parts.{splice_next, splice_one, length_splice}
+use Rattle.model.proofs.Laws.Parts.{splice_next, splice_one, length_splice}
 use Rattle.lines.specs.Definitions.Numbers.{largest_number, digit_zero, decimal}
 use Rattle.lines.specs.Definitions.Output.{field}
 use Rattle.lines.specs.Laws.Numbers.{decimal_fits, decimal_one, decimal_more, length_more}

@@ -2,7 +2,7 @@
 use Rattle.std.specs.Prelude.{◌≡◌, ℕ, ◌+◌, false, eqb}
 use Rattle.std.proofs.Common.{arith, leb-false}
 use Rattle.lines.specs.declared.tally.Tally.{Tally}
-use Rattle.model.specs.Laws.Logic.{by_bool}
+use Rattle.model.proofs.Laws.Logic.{by_bool}
 use Rattle.lines.specs.Definitions.Tally.{counted, most_lines, stopped}
 use Rattle.lines.specs.Clauses.{Sums, Counts}
 

@@ -2,7 +2,7 @@
 use Rattle.std.specs.Prelude.{◌≡◌, refl, ℕ, zero, suc, ◌+◌, ◌-◌, ◌≤◌, ◌<◌, true, false, List, [], ◌∷◌, ◌++◌, length, take, eqb, ltb}
 use Rattle.std.proofs.Common.{sym, ◌∙◌, append_assoc, arith, length-append, length-take, take_all, ne_eqb, lt-ltb, ltb-true, ltb-false, leb-true, leb-false}
 use Rattle.std.proofs.lemmas.List.{take-append-le}
-use Rattle.model.specs.Laws.Logic.{by_bool}
+use Rattle.model.proofs.Laws.Logic.{by_bool}
 use Rattle.lines.specs.Definitions.Lines.{most_bytes, request}
 use Rattle.lines.specs.Definitions.Output.{newline, last_line}
 use Rattle.script.specs.Definitions.Runner.{State, begin, step_of, line, lines_from, run_lines, run}

@@ -9,7 +9,7 @@ use Rattle.std.proofs.Math.Seq.{length-take-le}
 use Rattle.script.specs.declared.feed.Machine.{Machine as Held}
 use Rattle.script.specs.declared.line.Progress.{Progress}
 use Rattle.model.specs.Definitions.Parts.{splice}
-use Rattle.model.specs.Laws.Parts.{splice_zero, splice_next, splice_one}
+use Rattle.model.proofs.Laws.Parts.{splice_zero, splice_next, splice_one}
 use Rattle.lines.specs.Definitions.Lines.{most_bytes}
 use Rattle.lines.specs.Definitions.Output.{newline, last_line}
 use Rattle.lines.specs.Definitions.Tally.{stopped}

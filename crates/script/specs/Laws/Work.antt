@@ -20,7 +20,7 @@ use Rattle.model.specs.Definitions.Calls.{Call, refused, call, make}
 use Rattle.lines.specs.Definitions.Output.{printed_of, unreadable}
 use Rattle.script.specs.Definitions.Runner.{Worked, unread, worked, made, work}
 use Rattle.fields.proofs.Splices.{splice_none}
-use Rattle.model.specs.Laws.Parts.{splice_zero}
+use Rattle.model.proofs.Laws.Parts.{splice_zero}
 use Rattle.lines.specs.Clauses.{Put}
 use Rattle.lines.specs.Laws.Output.{put_as}
 use Rattle.script.specs.Clauses.{most_bank, Works, called}

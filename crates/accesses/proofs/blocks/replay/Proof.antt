@@ -10,7 +10,7 @@ use Rattle.model.specs.Definitions.Codec.{encode_board}
 use Rattle.model.specs.Definitions.WellFormed.{FieldsOk}
 use Rattle.model.specs.Definitions.Steps.{Access, cells_asked, cell_byte}
 use Rattle.model.specs.Definitions.Replay.{took_due, replay_over, replayed}
-use Rattle.model.specs.Laws.Logic.{clash}
+use Rattle.model.proofs.Laws.Logic.{clash}
 use Rattle.steps.specs.Blocks.{IsBlock, board_of}
 use Rattle.steps.specs.BlockLaws.{board_written, block_written}
 use Rattle.replay.specs.Got.{took_due_fields}

@@ -1,8 +1,8 @@
 -- `accesses::live::prepare` meets its contract: a fetch, copies dropped, or nothing. Assumes nothing.
 use mathlib.Core.Path.{sym}
 use native.Mathlib.Omega.{arith}
-use Rattle.model.specs.Laws.Keeps.Rights as rights
-use Rattle.model.specs.Laws.Keeps.Live.{can_fetch}
+use Rattle.model.proofs.Laws.Keeps.Rights as rights
+use Rattle.model.proofs.Laws.Keeps.Live.{can_fetch}
 use Rattle.accesses.specs.Prepared.{asks_frames, pages_lacking_lem, one_lacking, prepared_fetch, prepared_own_write, prepared_local_read}
 use Rattle.accesses.specs.Prepared.{holder_space, came_idle}
 use borrow.Author.Rules.{rules}

@@ -13,7 +13,7 @@ use Rattle.model.specs.Definitions.Codec.{decode}
 use Rattle.model.specs.Definitions.Bank.{Board, board_at}
 use Rattle.model.specs.Definitions.Parts.{member}
 use Rattle.model.specs.Definitions.BoardRuns.{BoardRun, checkpoint_on}
-use Rattle.model.specs.Laws.BoardFields.{settled_fields}
+use Rattle.model.proofs.Laws.BoardFields.{settled_fields}
 use native.Mathlib.Omega.{arith}
 use mathlib.Core.Path.{◌≡◌}
 use Prim.Native.Nat.{ℕ}

@@ -8,8 +8,8 @@ use Rattle.model.specs.Definitions.Bank.{Bank, board_at, on_board}
 use Rattle.model.specs.Definitions.Codec.{decode}
 use Rattle.model.specs.Definitions.Steps.{start, Cell, Access, cell_byte, read_from}
 use Rattle.model.specs.Definitions.Replay.{took_due}
-use Rattle.model.specs.Laws.Boards.{boards_on_board, directory_on_board}
-use Rattle.model.specs.Laws.Keeps.Entered.{taken_in_replay, live_can, replayed_keeps}
+use Rattle.model.proofs.Laws.Boards.{boards_on_board, directory_on_board}
+use Rattle.model.proofs.Laws.Keeps.Entered.{taken_in_replay, live_can, replayed_keeps}
 use Rattle.copies.specs.Banks.{Holds, OfBank, holds_decode, holds_of}
 use Rattle.accesses.specs.Asks.{GoesOn, Enters}
 use Rattle.accesses.specs.BlockReplay.{Repeats, replayed_board, replayed_to}

@@ -1,7 +1,7 @@
 -- `checks::bank::page_count` meets its contract: the head has the number. Assumes nothing.
 use mathlib.Core.Path.{sym, ◌∙◌}
 use native.Mathlib.Omega.{arith}
-use Rattle.model.specs.Laws.CodecBankBack.{decode_pages}
+use Rattle.model.proofs.Laws.CodecBankBack.{decode_pages}
 use Rattle.model.specs.Definitions.Layout.{today}
 use Rattle.checks.specs.Head.{head_in}
 use borrow.Author.Rules.{rules}

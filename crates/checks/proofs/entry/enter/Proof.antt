@@ -7,7 +7,7 @@ use lib.ListN.{length}
 use borrow.Author.Tests.{lt-ltb, le-ltb}
 use Rattle.model.specs.Definitions.Codec.{decode}
 use Rattle.model.specs.Definitions.Check.{well_formed}
-use Rattle.model.specs.Laws.BankSteps.{is_bank_test}
+use Rattle.model.proofs.Laws.BankSteps.{is_bank_test}
 use Rattle.validity.specs.Search.{failed, passed}
 use Rattle.checks.specs.Findings.{finds_unreadable, finds_none, finds_board}
 use borrow.Author.Rules.{rules}

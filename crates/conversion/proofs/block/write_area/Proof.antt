@@ -6,8 +6,8 @@ use mathlib.Core.List.{List}
 use lib.ListN.{length}
 use Rattle.model.specs.Definitions.Parts.{part, zeros}
 use Rattle.model.specs.Definitions.Layout.{area_slots_at, slots_size}
-use Rattle.model.specs.Laws.Parts.{length_part}
-use Rattle.model.specs.Laws.Zeros.{zeros_length}
+use Rattle.model.proofs.Laws.Parts.{length_part}
+use Rattle.model.proofs.Laws.Zeros.{zeros_length}
 use Rattle.fields.proofs.Lent.{lent_cleared}
 use Rattle.fields.proofs.Splices.{splice_pair}
 use Rattle.conversion.specs.Blocks.{area_written}

@@ -6,7 +6,7 @@ use lib.ListN.{take, drop, length-take, length-drop}
 use Rattle.model.specs.Definitions.Layout.{today}
 use Rattle.model.specs.Definitions.Codec.{encode_area, decode_area_in}
 use Rattle.model.specs.Definitions.Older.{older}
-use Rattle.model.specs.Laws.CodecBack.{area_inside}
+use Rattle.model.proofs.Laws.CodecBack.{area_inside}
 use Rattle.fields.proofs.Lent.{lent_written}
 use Rattle.conversion.specs.Blocks.{lent_area, lent_widened}
 use borrow.Author.Rules.{rules}

@@ -12,7 +12,7 @@ use Rattle.model.specs.Definitions.Codec.{page_of}
 use Rattle.model.specs.Definitions.WellFormed.{is_got}
 use Rattle.model.specs.Definitions.Steps.{dropped}
 use Rattle.model.specs.Clauses.{Recordable}
-use Rattle.model.specs.Laws.Valid.{recordable_plain}
+use Rattle.model.proofs.Laws.Valid.{recordable_plain}
 use Rattle.copies.specs.Blocks.{recorded_block, recorded_frame}
 use borrow.Author.Rules.{rules}
 use Rattle.copies.proofs.boards.drop_right.Statement.{statement}

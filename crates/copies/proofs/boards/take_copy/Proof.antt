@@ -1,8 +1,8 @@
 -- `copies::boards::take_copy` meets its contract: the record, then the frame. Assumes nothing.
 use native.Mathlib.Omega.{arith}
 use Rattle.types.specs.declared.CopyOrOwn.TheVariants.{GotCopy}
-use Rattle.model.specs.Laws.Boards.{took_copy}
-use Rattle.model.specs.Laws.Valid.{recordable_got}
+use Rattle.model.proofs.Laws.Boards.{took_copy}
+use Rattle.model.proofs.Laws.Valid.{recordable_got}
 use Rattle.copies.specs.Blocks.{recorded_block, recorded_frame}
 use borrow.Author.Rules.{rules}
 use Rattle.copies.proofs.boards.take_copy.Statement.{statement}

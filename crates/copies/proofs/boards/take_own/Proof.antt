@@ -1,5 +1,5 @@
 -- `copies::boards::take_own` meets its contract. Assumes nothing.
-use Rattle.model.specs.Laws.Boards.{took_own}
+use Rattle.model.proofs.Laws.Boards.{took_own}
 use borrow.Author.Rules.{rules}
 use Rattle.copies.proofs.boards.take_own.Statement.{statement}
 use Rattle.copies.proofs.boards.take_own.Tie as tie

@@ -1,8 +1,8 @@
 -- `copies::copies::copy_to` meets its contract: a copy taken in the board's block, which is lent. Assumes nothing.
 use native.Mathlib.Omega.{arith}
 use Rattle.model.specs.Definitions.Codec.{decode}
-use Rattle.model.specs.Laws.Boards.{took_copy}
-use Rattle.model.specs.Laws.BoardFields.{took_copy_fields}
+use Rattle.model.proofs.Laws.Boards.{took_copy}
+use Rattle.model.proofs.Laws.BoardFields.{took_copy_fields}
 use Rattle.steps.specs.BankBlocks.{LentBlock, lent_in, lent_fields, lent_block, lent_board}
 use Rattle.copies.specs.Banks.{lent_of, lent_holds}
 use borrow.Author.Rules.{rules}

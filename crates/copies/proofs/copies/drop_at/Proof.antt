@@ -2,7 +2,7 @@
 use native.Mathlib.Omega.{arith}
 use Rattle.model.specs.Definitions.Codec.{decode}
 use Rattle.model.specs.Definitions.Steps.{dropped}
-use Rattle.model.specs.Laws.BoardFields.{dropped_fields}
+use Rattle.model.proofs.Laws.BoardFields.{dropped_fields}
 use Rattle.steps.specs.BankBlocks.{LentBlock, lent_in, lent_fields, lent_block, lent_board}
 use Rattle.copies.specs.Banks.{lent_of, lent_holds}
 use borrow.Author.Rules.{rules}

@@ -2,7 +2,7 @@
 use mathlib.Core.Path.{◌∙◌}
 use native.Mathlib.Omega.{arith}
 use Rattle.model.specs.Definitions.Codec.{decode}
-use Rattle.model.specs.Laws.BankSteps.{frame_of_ok}
+use Rattle.model.proofs.Laws.BankSteps.{frame_of_ok}
 use Rattle.steps.specs.BankBlocks.{LentBlock, lent_in}
 use Rattle.copies.specs.Banks.{lent_of, lent_frame}
 use borrow.Author.Rules.{rules}

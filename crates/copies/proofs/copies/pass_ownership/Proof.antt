@@ -5,7 +5,7 @@ use lib.ListN.{length}
 use Rattle.model.specs.Definitions.Parts.{with_member}
 use Rattle.model.specs.Definitions.Bank.{Bank, on_board}
 use Rattle.model.specs.Definitions.Steps.{drop_at}
-use Rattle.model.specs.Laws.Boards.{boards_drop_at}
+use Rattle.model.proofs.Laws.Boards.{boards_drop_at}
 use Rattle.copies.specs.Banks.{of_holds, holds_of, holds_decode, entry_in}
 use Rattle.copies.specs.Exchanges.{losers_below, losers_can, page_passed}
 use borrow.Author.Rules.{rules}

@@ -1,8 +1,8 @@
 -- `engine::access::give` meets its contract: the bytes of a done call are copied, and of no other. Assumes nothing.
 use mathlib.Core.Path.{sym, ap, ◌∙◌}
 use Rattle.model.specs.Definitions.Parts.{splice}
-use Rattle.model.specs.Laws.Parts.{splice_all}
-use Rattle.model.specs.Laws.Parts.{part_all}
+use Rattle.model.proofs.Laws.Parts.{splice_all}
+use Rattle.model.proofs.Laws.Parts.{part_all}
 use Rattle.engine.specs.Cells.{when_done, when_other}
 use borrow.Author.Rules.{rules}
 use Rattle.engine.proofs.access.give.Statement.{statement}

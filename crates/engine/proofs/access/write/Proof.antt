@@ -1,6 +1,6 @@
 -- `engine::access::write` meets its contract: the access by its flag. Assumes nothing.
 use mathlib.Core.Path.{refl}
-use Rattle.model.specs.Laws.Logic.{clash}
+use Rattle.model.proofs.Laws.Logic.{clash}
 use Rattle.engine.specs.Admissions.{read_or_write}
 use borrow.Author.Rules.{rules}
 use Rattle.engine.proofs.access.write.Statement.{statement}

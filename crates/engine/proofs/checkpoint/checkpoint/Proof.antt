@@ -5,7 +5,7 @@ use Rattle.model.specs.Definitions.WellFormed.{is_up}
 use Rattle.model.specs.Definitions.Steps.{start}
 use Rattle.model.specs.Definitions.Calls.{Checkpointing}
 use Rattle.model.specs.Laws.Codes.Statement.{board_named}
-use Rattle.model.specs.Laws.Keeps.Clauses.{up_not_replaying, is_up_up}
+use Rattle.model.proofs.Laws.Keeps.Clauses.{up_not_replaying, is_up_up}
 use Rattle.validity.specs.Search.{failed, passed}
 use Rattle.checks.specs.Findings.{OnBoard, on_bank, on_formed, on_small, board_says}
 use Rattle.engine.specs.Replies.{refused_replied, found_replied, ended_replied, checkpoint_refused, checkpoint_done}

@@ -6,7 +6,7 @@ use mathlib.Core.List.{List}
 use Prim.Native.Nat.{ℕ}
 use Rattle.model.specs.Definitions.Layout.{today}
 use Rattle.model.specs.Definitions.Older.{stale_well_formed}
-use Rattle.model.specs.Laws.Clean.{cleaned, clean_refuses}
+use Rattle.model.proofs.Laws.Clean.{cleaned, clean_refuses}
 use Rattle.validity.specs.Search.{failed, passed}
 use Rattle.conversion.specs.Formed.{FormedBank}
 use Rattle.engine.specs.Replies.{refused_replied, left_replied}

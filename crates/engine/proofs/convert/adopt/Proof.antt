@@ -3,7 +3,7 @@ use mathlib.Core.Path.{◌≡◌, refl}
 use mathlib.Core.Bool.{true}
 use Rattle.model.specs.Definitions.Layout.{today}
 use Rattle.model.specs.Definitions.Older.{earlier_well_formed}
-use Rattle.model.specs.Laws.Conversion.{adopted, adopt_malformed, adopt_records}
+use Rattle.model.proofs.Laws.Conversion.{adopted, adopt_malformed, adopt_records}
 use Rattle.validity.specs.Search.{failed, passed}
 use Rattle.engine.specs.Replies.{refused_replied, left_replied}
 use Rattle.engine.specs.Converting.{formed_head}

@@ -17,7 +17,7 @@ use borrow.Author.Rules.{rules}
 use Rattle.engine.proofs.convert.convert.Statement.{statement}
 use Rattle.engine.proofs.convert.convert.Tie as tie
 use Prim.Native.Nat.{ℕ}
-use Rattle.model.specs.Laws.CodecBankBack.{bytes_ok}
+use Rattle.model.proofs.Laws.CodecBankBack.{bytes_ok}
 
 -- what the test of the old bank says, once it passed, and then the numbers that were read
 formed : (c : tie.Else1) → older_well_formed c.before.before.before.before.args.old.now ≡ true

@@ -6,7 +6,7 @@ use native.Mathlib.Omega.{arith}
 use Rattle.model.specs.Definitions.Bank.{Bank, on_board}
 use Rattle.model.specs.Definitions.Codec.{encode, decode}
 use Rattle.model.specs.Definitions.Steps.{with_fuse, fuse_board}
-use Rattle.model.specs.Laws.BoardFields.{with_fuse_fields}
+use Rattle.model.proofs.Laws.BoardFields.{with_fuse_fields}
 use Rattle.steps.specs.BankBlocks.{LentBlock, lent_in, lent_fields, lent_block, lent_step}
 use Rattle.copies.specs.Banks.{lent_of}
 use borrow.Author.Rules.{rules}

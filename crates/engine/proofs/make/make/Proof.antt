@@ -9,7 +9,7 @@ use borrow.Author.Rules.{rules}
 use Rattle.engine.proofs.make.make.Statement.{statement}
 use Rattle.engine.proofs.make.make.Tie as tie
 use Rattle.model.specs.Definitions.Check.{sizes_allowed}
-use Rattle.model.specs.Laws.Fresh.{sizes_say}
+use Rattle.model.proofs.Laws.Fresh.{sizes_say}
 
 -- what the test of the sizes says, once it passed
 sizes : (c : tie.Else1) → sizes_allowed c.before.before.before.args.boards c.before.before.before.args.pages ≡ true

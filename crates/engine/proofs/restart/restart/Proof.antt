@@ -4,7 +4,7 @@ use mathlib.Core.Bool.{true}
 use Rattle.model.specs.Definitions.WellFormed.{is_down}
 use Rattle.model.specs.Definitions.Calls.{Restarting}
 use Rattle.model.specs.Laws.Codes.Statement.{board_named}
-use Rattle.model.specs.Laws.Keeps.Clauses.{is_down_down}
+use Rattle.model.proofs.Laws.Keeps.Clauses.{is_down_down}
 use Rattle.validity.specs.Search.{failed, passed}
 use Rattle.copies.specs.Banks.{holds_decode}
 use Rattle.checks.specs.Findings.{OnBoard, on_bank, on_formed, on_small, board_says}

@@ -2,7 +2,7 @@
 use native.Mathlib.Omega.{arith}
 use Rattle.types.specs.declared.CopyOrOwn.TheVariants.{GotOwn}
 use Rattle.model.specs.Definitions.Steps.{step}
-use Rattle.model.specs.Laws.Valid.{recordable_got}
+use Rattle.model.proofs.Laws.Valid.{recordable_got}
 use borrow.Author.Rules.{rules}
 use Rattle.exchange.proofs.fetch.get_own.Statement.{statement}
 use Rattle.exchange.proofs.fetch.get_own.Tie as tie

@@ -5,7 +5,7 @@ use Rattle.model.specs.Definitions.Parts.{zeros}
 use Rattle.model.specs.Definitions.Codec.{page_of}
 use Rattle.model.specs.Definitions.WellFormed.{is_got}
 use Rattle.model.specs.Definitions.Steps.{show}
-use Rattle.model.specs.Laws.Valid.{recordable_plain}
+use Rattle.model.proofs.Laws.Valid.{recordable_plain}
 use borrow.Author.Rules.{rules}
 use Rattle.exchange.proofs.fetch.show.Statement.{statement}
 use Rattle.exchange.proofs.fetch.show.Tie as tie

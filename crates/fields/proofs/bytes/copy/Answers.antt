@@ -4,7 +4,7 @@ use Prim.Native.Nat.{◌≤◌, ◌-◌}
 use native.Mathlib.Omega.{arith}
 use lib.ListN.{length, take, length-set}
 use Rattle.model.specs.Definitions.Parts.{part, splice}
-use Rattle.model.specs.Laws.Parts.{length_part, get_d_part}
+use Rattle.model.proofs.Laws.Parts.{length_part, get_d_part}
 use Rattle.fields.proofs.Splices.{splice_none, splice_done, splice_more}
 use Rattle.fields.proofs.bytes.copy.Goals as goal
 

@@ -5,7 +5,7 @@ use native.Mathlib.Omega.{arith}
 use lib.ListN.{length, take}
 use Rattle.model.specs.Definitions.Layout.{page_size}
 use Rattle.model.specs.Definitions.Parts.{part, splice}
-use Rattle.model.specs.Laws.Parts.{length_part}
+use Rattle.model.proofs.Laws.Parts.{length_part}
 use Rattle.fields.proofs.Splices.{splice_none, splice_whole, splice_done, splice_more_part}
 use Rattle.fields.proofs.bytes.read_page.Given as goal
 

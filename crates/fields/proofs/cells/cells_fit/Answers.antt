@@ -5,7 +5,7 @@ use native.Mathlib.Omega.{arith}
 use Rattle.model.specs.Definitions.Calls.{cell_in_range}
 use Rattle.fields.specs.Cells.{PassedTo, passed_next, passed_not, passed_all}
 use borrow.Author.Tests.{not-false}
-use Rattle.model.specs.Laws.Logic.{not_true}
+use Rattle.model.proofs.Laws.Logic.{not_true}
 use borrow.Author.Rules.{rules}
 use Rattle.fields.proofs.cells.cells_fit.Goals as goal
 

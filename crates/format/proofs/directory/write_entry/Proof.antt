@@ -8,7 +8,7 @@ use lib.ListN.{length}
 use Rattle.model.specs.Definitions.Layout.{owner_at, copies_at}
 use Rattle.model.specs.Definitions.Parts.{splice}
 use Rattle.model.specs.Definitions.Codec.{encode_entry}
-use Rattle.model.specs.Laws.Parts.{splice_next}
+use Rattle.model.proofs.Laws.Parts.{splice_next}
 use borrow.Author.Rules.{rules}
 use Rattle.format.proofs.directory.write_entry.Statement.{statement}
 use Rattle.format.proofs.directory.write_entry.Tie as tie

@@ -7,7 +7,7 @@ use lib.ListN.{length}
 use Rattle.model.specs.Definitions.Parts.{splice}
 use Rattle.model.specs.Definitions.Layout.{head_size, entry_size}
 use Rattle.model.specs.Definitions.Codec.{encode_entry}
-use Rattle.model.specs.Laws.Codec.{length_encode_entry}
+use Rattle.model.proofs.Laws.Codec.{length_encode_entry}
 use Rattle.fresh.specs.SideBySide.{none_written, one_more}
 use Rattle.fresh.specs.Fresh.{fresh_entry, fresh_directory}
 use Rattle.fresh.proofs.bank.write_directory.Statement.{statement}

@@ -4,7 +4,7 @@ use Prim.Native.Nat.{◌-◌, ◌%◌}
 use native.Mathlib.Nat.{mod-eq_of_lt}
 use native.Mathlib.Omega.{arith}
 use Rattle.model.specs.Definitions.Layout.{block_size}
-use Rattle.model.specs.Laws.Zeros.{zeros_length}
+use Rattle.model.proofs.Laws.Zeros.{zeros_length}
 use Rattle.fresh.specs.Rights.{own_again}
 use Rattle.fresh.specs.Block.{block_below, below_length, below_first, below_next, below_last}
 use Rattle.fresh.proofs.block.write_block.Statement.{statement}

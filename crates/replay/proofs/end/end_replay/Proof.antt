@@ -5,7 +5,7 @@ use Rattle.model.specs.Definitions.Replay.{settled}
 use Rattle.model.specs.Definitions.WellFormed.{FieldsOk}
 use Rattle.model.specs.Definitions.Bank.{Board}
 use Rattle.model.specs.Definitions.Parts.{member}
-use Rattle.model.specs.Laws.BoardFields.{settled_fields}
+use Rattle.model.proofs.Laws.BoardFields.{settled_fields}
 use borrow.Author.Rules.{rules}
 use Rattle.replay.proofs.end.end_replay.Statement.{statement}
 use Rattle.replay.proofs.end.end_replay.Tie as tie

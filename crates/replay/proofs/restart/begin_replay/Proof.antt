@@ -4,7 +4,7 @@ use borrow.Author.Rules.{rules}
 use Rattle.model.specs.Definitions.Bank.{Board}
 use Rattle.model.specs.Definitions.Codec.{encode_board}
 use Rattle.model.specs.Definitions.Replay.{used_up}
-use Rattle.model.specs.Laws.BoardFields.{loaded_fields}
+use Rattle.model.proofs.Laws.BoardFields.{loaded_fields}
 use Rattle.steps.specs.BlockLaws.{board_written, block_written}
 use Rattle.steps.specs.Blocks.{board_of}
 use Rattle.replay.proofs.restart.begin_replay.Statement.{statement}

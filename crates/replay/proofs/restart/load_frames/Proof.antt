@@ -4,7 +4,7 @@ use Prim.Native.Nat.{◌≤◌, ◌-◌}
 use native.Mathlib.Omega.{arith}
 use Rattle.model.specs.Definitions.Bank.{on_working}
 use Rattle.model.specs.Definitions.Codec.{encode_board}
-use Rattle.model.specs.Laws.BlockReplay.{replacing}
+use Rattle.model.proofs.Laws.BlockReplay.{replacing}
 use Rattle.steps.specs.BlockLaws.{block_length}
 use Rattle.steps.specs.Blocks.{board_of}
 use Rattle.replay.specs.Replaced.{replaced_none, replaced_block, replaced_board, replaced_more, replaced_last}

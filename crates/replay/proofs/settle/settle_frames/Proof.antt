@@ -8,7 +8,7 @@ use Rattle.model.specs.Definitions.Parts.{each, member}
 use Rattle.model.specs.Definitions.Bank.{on_working, on_frames}
 use Rattle.model.specs.Definitions.Codec.{encode_board}
 use Rattle.model.specs.Definitions.Replay.{settled_frame}
-use Rattle.model.specs.Laws.BlockReplay.{replacing}
+use Rattle.model.proofs.Laws.BlockReplay.{replacing}
 use Rattle.steps.specs.BlockLaws.{block_length}
 use Rattle.steps.specs.Blocks.{board_of}
 use Rattle.replay.specs.Replaced.{replaced_none, replaced_block, replaced_more, replaced_last}

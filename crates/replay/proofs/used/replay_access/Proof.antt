@@ -5,7 +5,7 @@ use Rattle.model.specs.Definitions.Bank.{Board, on_working}
 use Rattle.model.specs.Definitions.Codec.{encode_board}
 use Rattle.model.specs.Definitions.Steps.{accessed}
 use Rattle.model.specs.Definitions.Replay.{used_up, replayed}
-use Rattle.model.specs.Laws.BoardFields.{accessed_fields}
+use Rattle.model.proofs.Laws.BoardFields.{accessed_fields}
 use Rattle.steps.specs.Access.{performed_block}
 use Rattle.steps.specs.BlockLaws.{board_written}
 use Rattle.steps.specs.Blocks.{board_of}

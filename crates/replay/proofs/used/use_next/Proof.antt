@@ -15,7 +15,7 @@ use Rattle.model.specs.Definitions.Layout.{slot_count}
 use Rattle.model.specs.Definitions.Bank.{Board, on_working}
 use Rattle.model.specs.Definitions.Codec.{page_of, encode_board}
 use Rattle.model.specs.Definitions.WellFormed.{RecordOk, is_got}
-use Rattle.model.specs.Laws.Valid.{frame_ok_empty}
+use Rattle.model.proofs.Laws.Valid.{frame_ok_empty}
 use Rattle.steps.specs.Blocks.{board_of}
 use Rattle.steps.specs.Selected.{stored_most}
 use Rattle.replay.specs.Clauses.{frames_after, ready}

@@ -11,7 +11,7 @@ use borrow.Author.Rules.{rules}
 use Rattle.script.proofs.work.make_bank.Statement.{statement}
 use Rattle.script.proofs.work.make_bank.Tie as tie
 use Rattle.model.specs.Definitions.Check.{sizes_allowed}
-use Rattle.model.specs.Laws.Fresh.{sizes_say}
+use Rattle.model.proofs.Laws.Fresh.{sizes_say}
 
 -- the sizes are allowed, so the bank fits
 allowed : (c : tie.Else1) → sizes_allowed c.before.before.before.args.boards c.before.before.before.args.pages ≡ true

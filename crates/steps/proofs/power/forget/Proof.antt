@@ -4,7 +4,7 @@ use Prim.Native.Nat.{◌≤◌, ◌-◌}
 use native.Mathlib.Omega.{arith}
 use lib.ListN.{length}
 use Rattle.model.specs.Definitions.Codec.{encode, decode}
-use Rattle.model.specs.Laws.BankLoops.{forget_first, forget_first_none}
+use Rattle.model.proofs.Laws.BankLoops.{forget_first, forget_first_none}
 use Rattle.steps.specs.Power.{forget_next, forget_all, directory_in}
 use Rattle.steps.proofs.power.forget.Statement.{statement}
 use Rattle.steps.proofs.power.forget.Tie as tie

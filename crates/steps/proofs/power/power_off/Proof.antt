@@ -6,7 +6,7 @@ use lib.ListN.{length-map}
 use Rattle.model.specs.Definitions.Bank.{Bank}
 use Rattle.model.specs.Definitions.Codec.{decode}
 use Rattle.model.specs.Definitions.Steps.{forgotten, powered_off, power_off}
-use Rattle.model.specs.Laws.BoardFields.{powered_off_fields}
+use Rattle.model.proofs.Laws.BoardFields.{powered_off_fields}
 use Rattle.steps.specs.BankBlocks.{LentBlock, lent_in, lent_fields, lent_block, lent_step}
 use Rattle.steps.specs.Power.{forget_fields}
 use borrow.Author.Rules.{rules}

@@ -2,7 +2,7 @@
 use mathlib.Core.Path.{sym, ap, ◌∙◌}
 use Rattle.model.specs.Definitions.Codec.{encode_board}
 use Rattle.model.specs.Definitions.Steps.{powered_off}
-use Rattle.model.specs.Laws.BoardFields.{burnt_fields}
+use Rattle.model.proofs.Laws.BoardFields.{burnt_fields}
 use Rattle.steps.specs.BlockLaws.{board_written, block_written}
 use Rattle.stores.specs.RunLaws.{spent_cut, spent_kept}
 use borrow.Author.Rules.{rules}

@@ -13,8 +13,8 @@ use borrow.Author.Tests.{ltb-true, ltb-false, eq-eqb, ne_eqb}
 use Rattle.model.specs.Definitions.Layout.{slot_count, head_size, entry_size, Form, form_of, slot_size_in, block_size_in}
 use Rattle.model.specs.Definitions.Parts.{every_below}
 use Rattle.model.specs.Definitions.Check.{counts_valid, block_fits, records_pass, directory_of, block_of_in}
-use Rattle.model.specs.Laws.Logic.{by_bool, and_both}
-use Rattle.model.specs.Laws.Parts.{length_part, index_in}
+use Rattle.model.proofs.Laws.Logic.{by_bool, and_both}
+use Rattle.model.proofs.Laws.Parts.{length_part, index_in}
 use Rattle.fields.proofs.Lent.{lent_part, lent_read}
 use Rattle.validity.specs.Sizes.{BlockSized}
 use Rattle.validity.specs.Pieces.{logs, log_count, log_slots_at, log_passes, record_passes_in, record_valid}

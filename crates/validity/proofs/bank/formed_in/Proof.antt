@@ -9,7 +9,7 @@ use lib.ListN.{length-take, length-drop}
 use Rattle.model.specs.Definitions.Layout.{entry_size, head_size, Form, form_of}
 use Rattle.model.specs.Definitions.Parts.{byte_at}
 use Rattle.model.specs.Definitions.Check.{directory_valid, formed_in, directory_of, blocks_fit, logs_valid, peers_valid}
-use Rattle.model.specs.Laws.CodecBankBack.{HeadOk, head_ok}
+use Rattle.model.proofs.Laws.CodecBankBack.{HeadOk, head_ok}
 use Rattle.fields.proofs.Lent.{lent_read}
 use Rattle.validity.specs.Sizes.{BankSized}
 use Rattle.validity.specs.Search.{failed, passed}

@@ -3,7 +3,7 @@ use native.Mathlib.Omega.{arith}
 use mathlib.Core.Path.{sym}
 use mathlib.Core.List.{[]}
 use Rattle.model.specs.Definitions.Layout.{form_of}
-use Rattle.model.specs.Laws.CodecBack.{area_inside}
+use Rattle.model.proofs.Laws.CodecBack.{area_inside}
 use Rattle.validity.specs.Pieces.{log_slots_at}
 use Rattle.validity.specs.Search.{area_at}
 use borrow.Author.Rules.{rules}

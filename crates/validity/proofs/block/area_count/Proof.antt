@@ -3,7 +3,7 @@ use borrow.Author.Rules.{rules}
 use native.Mathlib.Omega.{arith}
 use Rattle.model.specs.Definitions.Layout.{form_of}
 use Rattle.model.specs.Definitions.Check.{area_count}
-use Rattle.model.specs.Laws.CodecBack.{area_inside}
+use Rattle.model.proofs.Laws.CodecBack.{area_inside}
 use Rattle.validity.proofs.block.area_count.Statement.{statement}
 use Rattle.validity.proofs.block.area_count.Tie as tie
 

@@ -2,7 +2,7 @@
 use borrow.Author.Rules.{rules}
 use native.Mathlib.Omega.{arith}
 use Rattle.model.specs.Definitions.Layout.{form_of}
-use Rattle.model.specs.Laws.CodecBack.{area_inside}
+use Rattle.model.proofs.Laws.CodecBack.{area_inside}
 use Rattle.validity.proofs.block.area_frames_at.Statement.{statement}
 use Rattle.validity.proofs.block.area_frames_at.Tie as tie
 

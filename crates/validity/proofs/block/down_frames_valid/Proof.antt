@@ -6,7 +6,7 @@ use mathlib.Core.Bool.{Bool, true, ◌&&◌}
 use mathlib.Core.List.{List}
 use Rattle.model.specs.Definitions.Layout.{Form, form_of}
 use Rattle.model.specs.Definitions.Parts.{every_below}
-use Rattle.model.specs.Laws.Logic.{and_both}
+use Rattle.model.proofs.Laws.Logic.{and_both}
 use Rattle.validity.specs.Pieces.{stored_page_valid, own_page_zero, down_frames_valid}
 use Rattle.validity.specs.Search.{failed, passed, first_failed, second_failed, below_none, below_next, below_stop, below_end}
 use Rattle.validity.proofs.block.down_frames_valid.Statement.{statement}

@@ -7,7 +7,7 @@ use mathlib.Core.List.{List}
 use lib.ListN.{take, drop, length-take, length-drop}
 use Rattle.model.specs.Definitions.Layout.{entry_size, frame_size, Form, form_of, frames_at_in}
 use Rattle.model.specs.Definitions.Parts.{part, every_below}
-use Rattle.model.specs.Laws.Logic.{and_both}
+use Rattle.model.proofs.Laws.Logic.{and_both}
 use Rattle.fields.proofs.Lent.{lent_read}
 use Rattle.validity.specs.Pieces.{stored_page_valid, own_page_agrees, frame_agrees, frames_agree}
 use Rattle.validity.specs.Search.{failed, passed, first_failed, second_failed, below_none, below_next, below_stop, below_end}

@@ -2,7 +2,7 @@
 use mathlib.Core.Path.{sym, ◌∙◌}
 use Rattle.model.specs.Definitions.Parts.{byte_at}
 use Rattle.model.specs.Definitions.Codec.{decode_entry}
-use Rattle.model.specs.Laws.Boards.{right_in_owner, right_in_copy, right_in_none}
+use Rattle.model.proofs.Laws.Boards.{right_in_owner, right_in_copy, right_in_none}
 use borrow.Author.Rules.{rules}
 use Rattle.validity.proofs.block.right_given.Statement.{statement}
 use Rattle.validity.proofs.block.right_given.Tie as tie

@@ -11,9 +11,9 @@ use Rattle.model.specs.Definitions.Codec.{decode_in}
 use Rattle.model.specs.Definitions.Check.{block_of_in}
 use Rattle.model.specs.Definitions.Older.{no_records}
 use Rattle.model.specs.Clauses.{counts_zero}
-use Rattle.model.specs.Laws.Parts.{index_in}
-use Rattle.model.specs.Laws.CodecBankBack.{HeadOk, head_ok}
-use Rattle.model.specs.Laws.Counts.{no_records_counts}
+use Rattle.model.proofs.Laws.Parts.{index_in}
+use Rattle.model.proofs.Laws.CodecBankBack.{HeadOk, head_ok}
+use Rattle.model.proofs.Laws.Counts.{no_records_counts}
 use Rattle.validity.specs.Sizes.{BankSized}
 use Rattle.validity.specs.Search.{failed, passed, below_none, below_next, below_stop, below_end, lent_block}
 use borrow.Author.Rules.{rules}

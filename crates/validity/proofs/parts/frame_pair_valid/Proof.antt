@@ -5,7 +5,7 @@ use Rattle.model.specs.Definitions.Layout.{frame_size}
 use Rattle.model.specs.Definitions.Parts.{part, byte_at}
 use Rattle.model.specs.Definitions.Codec.{right_byte}
 use Rattle.model.specs.Definitions.Check.{frame_valid}
-use Rattle.model.specs.Laws.Parts.{byte_at_first}
+use Rattle.model.proofs.Laws.Parts.{byte_at_first}
 use Rattle.fields.proofs.Lent.{lent_read}
 use Rattle.validity.specs.Search.{failed, passed, first_failed}
 use Rattle.validity.specs.Words.{or_none, frame_page, frames_none}

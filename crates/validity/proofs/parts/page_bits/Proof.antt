@@ -6,7 +6,7 @@ use native.Mathlib.Omega.{arith}
 use Rattle.words.specs.LittleEndian.{number_of}
 use Rattle.model.specs.Definitions.Layout.{page_size}
 use Rattle.model.specs.Definitions.Parts.{part}
-use Rattle.model.specs.Laws.Parts.{part_part}
+use Rattle.model.proofs.Laws.Parts.{part_part}
 use Rattle.fields.proofs.Lent.{lent_read}
 use Rattle.validity.specs.Pieces.{word_size, page_bits}
 use borrow.Author.Rules.{rules}

@@ -1,6 +1,6 @@
 -- `validity::parts::zero_page` meets its contract: the law of a page's bits. Assumes nothing.
 use native.Mathlib.Omega.{arith}
-use Rattle.model.specs.Laws.Parts.{length_part}
+use Rattle.model.proofs.Laws.Parts.{length_part}
 use Rattle.validity.specs.Words.{page_zero}
 use borrow.Author.Rules.{rules}
 use Rattle.validity.proofs.parts.zero_page.Statement.{statement}

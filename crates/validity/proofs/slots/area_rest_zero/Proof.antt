@@ -2,7 +2,7 @@
 use borrow.Author.Rules.{rules}
 use native.Mathlib.Omega.{arith}
 use Rattle.model.specs.Definitions.Layout.{today}
-use Rattle.model.specs.Laws.CodecBack.{area_inside}
+use Rattle.model.proofs.Laws.CodecBack.{area_inside}
 use Rattle.validity.specs.Search.{few_stored}
 use Rattle.validity.proofs.slots.area_rest_zero.Statement.{statement}
 use Rattle.validity.proofs.slots.area_rest_zero.Tie as tie

@@ -8,8 +8,8 @@ use lib.ListN.{length, take, drop, length-take, length-drop}
 use Rattle.model.specs.Definitions.Layout.{since_size, today, block_size, boards_at, pages_at}
 use Rattle.model.specs.Definitions.Parts.{byte_at, every_below}
 use Rattle.model.specs.Definitions.Check.{counts_valid, block_of_in, block_clean, slots_clean}
-use Rattle.model.specs.Laws.Parts.{index_in}
-use Rattle.model.specs.Laws.CodecBankBack.{BytesOk, bytes_ok}
+use Rattle.model.proofs.Laws.Parts.{index_in}
+use Rattle.model.proofs.Laws.CodecBankBack.{BytesOk, bytes_ok}
 use Rattle.validity.specs.Sizes.{BankSized}
 use Rattle.validity.specs.Search.{failed, passed, below_none, below_next, below_stop, below_end, lent_block}
 use Rattle.validity.specs.Order.{counts_passed}
