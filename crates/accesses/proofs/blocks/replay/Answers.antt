@@ -29,24 +29,24 @@ small c = omega arith
 
 -- the bytes after the gots, and the board that they stand for
 took_board : (c : After-take_due) → board_of c.args.pages c.take_due.new.block ≡ (took_due (board_of c.args.pages c.args.block.now))
-took_board c =  board_written (took_due (board_of c.args.pages c.args.block.now)) c.requires.0.few (took_due_fields (board_of c.args.pages c.args.block.now) c.requires.0.fields) c.take_due.ensures
+took_board c = board_written (took_due (board_of c.args.pages c.args.block.now)) c.requires.0.few (took_due_fields (board_of c.args.pages c.args.block.now) c.requires.0.fields) c.take_due.ensures
 
 took_block : (c : After-take_due) → IsBlock c.args.pages c.take_due.new.block
-took_block c =  block_written (took_due (board_of c.args.pages c.args.block.now)) c.requires.0.few (took_due_fields (board_of c.args.pages c.args.block.now) c.requires.0.fields) c.take_due.ensures
+took_block c = block_written (took_due (board_of c.args.pages c.args.block.now)) c.requires.0.few (took_due_fields (board_of c.args.pages c.args.block.now) c.requires.0.fields) c.take_due.ensures
 
 -- records are left behind them
 left : (c : Else-replay_over) → replay_over (took_due (board_of c.args.pages c.args.block.now)) ≡ false
-left c = sym (c.replay_over.ensures ∙ ap replay_over ( board_written (took_due (board_of c.args.pages c.args.block.now)) c.requires.0.few (took_due_fields (board_of c.args.pages c.args.block.now) c.requires.0.fields) c.take_due.ensures)) ∙ c.if-replay_over.false
+left c = sym (c.replay_over.ensures ∙ ap replay_over (board_written (took_due (board_of c.args.pages c.args.block.now)) c.requires.0.few (took_due_fields (board_of c.args.pages c.args.block.now) c.requires.0.fields) c.take_due.ensures)) ∙ c.if-replay_over.false
 
 -- the access repeated, and the bytes after it
 again_ok : (c : Else-replay_over) (a : Access) → Stands c.args.pages a c.args.ask → Repeats a (board_of c.args.pages c.args.block.now)
     → FieldsOk c.args.pages (replayed a (took_due (board_of c.args.pages c.args.block.now)))
-again_ok c a s h =  repeated_fields c.requires.0.fields a h c.args.ask s (omega arith) (sym (c.replay_over.ensures ∙ ap replay_over ( board_written (took_due (board_of c.args.pages c.args.block.now)) c.requires.0.few (took_due_fields (board_of c.args.pages c.args.block.now) c.requires.0.fields) c.take_due.ensures)) ∙ c.if-replay_over.false)
+again_ok c a s h = repeated_fields c.requires.0.fields a h c.args.ask s (omega arith) (sym (c.replay_over.ensures ∙ ap replay_over (board_written (took_due (board_of c.args.pages c.args.block.now)) c.requires.0.few (took_due_fields (board_of c.args.pages c.args.block.now) c.requires.0.fields) c.take_due.ensures)) ∙ c.if-replay_over.false)
 
 did : (c : After-replay_access) (a : Access) → Stands c.args.pages a c.args.ask
     → c.replay_access.new.block ≡ encode_board (replayed a (took_due (board_of c.args.pages c.args.block.now)))
 did c a s =
-    c.replay_access.ensures a s.writes ∙ ap (λ (x : Board). encode_board (replayed a x)) ( board_written (took_due (board_of c.args.pages c.args.block.now)) c.requires.0.few (took_due_fields (board_of c.args.pages c.args.block.now) c.requires.0.fields) c.take_due.ensures)
+    c.replay_access.ensures a s.writes ∙ ap (λ (x : Board). encode_board (replayed a x)) (board_written (took_due (board_of c.args.pages c.args.block.now)) c.requires.0.few (took_due_fields (board_of c.args.pages c.args.block.now) c.requires.0.fields) c.take_due.ensures)
 
 pub replay_over-requires : goal.replay_over-requires
 replay_over-requires c = took_block (goal.at.replay_over-requires c).After-take_due
@@ -54,9 +54,12 @@ replay_over-requires c = took_block (goal.at.replay_over-requires c).After-take_
 pub returns-then-replay_over : goal.returns-then-replay_over
 returns-then-replay_over c =
     let over = sym (c.replay_over.ensures ∙ ap replay_over (took_board (goal.at.returns-then-replay_over c).After-take_due)) ∙ c.if-replay_over.true in
-    record { read = λ on. clash over on; did = λ a s h.
+    record {
+      read = λ on. clash over on;
+      did = λ a s h.
           let m = to_live a (board_of c.args.pages c.args.block.now) over in
-          (m.0, c.take_due.ensures ∙ ap encode_board m.1) }
+          (m.0, c.take_due.ensures ∙ ap encode_board m.1);
+    }
 
 pub gather-requires : goal.gather-requires
 gather-requires c =
@@ -82,20 +85,26 @@ replay_over-requires-2 c =
 
 pub returns-then-replay_over-2 : goal.returns-then-replay_over-2
 returns-then-replay_over-2 c =
-    record { read = λ t.
+    record {
+      read = λ t.
           c.gather.ensures
           ∙ ap (λ (x : Board). map (cell_byte x.working.frames) (cells_asked c.args.cells.now))
-          (took_board (goal.at.returns-then-replay_over-2 c).After-take_due); did = λ a s h.
+          (took_board (goal.at.returns-then-replay_over-2 c).After-take_due);
+      did = λ a s h.
           let e = board_written (replayed a (took_due (board_of c.args.pages c.args.block.now))) c.requires.0.few (again_ok (goal.at.returns-then-replay_over-2 c).Else-replay_over a s h) (did (goal.at.returns-then-replay_over-2 c).After-replay_access a s) in
           let m = to_last a (board_of c.args.pages c.args.block.now) (left (goal.at.returns-then-replay_over-2 c).Else-replay_over) (sym (c.replay_over-2.ensures ∙ ap replay_over e) ∙ c.if-replay_over-2.true) in
-          (m.0, did (goal.at.returns-then-replay_over-2 c).After-replay_access a s ∙ ap encode_board m.1) }
+          (m.0, did (goal.at.returns-then-replay_over-2 c).After-replay_access a s ∙ ap encode_board m.1);
+    }
 
 pub returns : goal.returns
 returns c =
-    record { read = λ t.
+    record {
+      read = λ t.
           c.gather.ensures
           ∙ ap (λ (x : Board). map (cell_byte x.working.frames) (cells_asked c.args.cells.now))
-          (took_board (goal.at.returns c).After-take_due); did = λ a s h.
+          (took_board (goal.at.returns c).After-take_due);
+      did = λ a s h.
           let e = board_written (replayed a (took_due (board_of c.args.pages c.args.block.now))) c.requires.0.few (again_ok (goal.at.returns c).Else-replay_over a s h) (did (goal.at.returns c).After-replay_access a s) in
           let m = to_going a (board_of c.args.pages c.args.block.now) (left (goal.at.returns c).Else-replay_over) (sym (c.replay_over-2.ensures ∙ ap replay_over e) ∙ c.if-replay_over-2.false) in
-          (m.0, did (goal.at.returns c).After-replay_access a s ∙ ap encode_board m.1) }
+          (m.0, did (goal.at.returns c).After-replay_access a s ∙ ap encode_board m.1);
+    }

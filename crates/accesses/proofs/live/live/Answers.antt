@@ -10,7 +10,7 @@ use borrow.Author.Rules.{rules}
 use Rattle.accesses.proofs.live.live.Goals as goal
 
 pub live_verdict-verdict-requires : goal.live_verdict-verdict-requires
-live_verdict-verdict-requires c =  (c.requires.0, λ w. (c.requires.1.byte w).0)
+live_verdict-verdict-requires c = (c.requires.0, λ w. (c.requires.1.byte w).0)
 
 pub proceed-requires : goal.proceed-requires
 unfolding refusal
@@ -31,10 +31,13 @@ unfolding refusal
 returns-in-Refuse c =
     let told = c.live_verdict-verdict in
     let z : told.result ≡ Refuse c.in-Refuse.answer = c.in-Refuse.is in
-    record { run = λ a goes read n.
+    record {
+      run = λ a goes read n.
           live_refused _ a (running n (decode c.args.bank.now)) _ _
           (rw z at (told.ensures a (c.board_lacks-lacking.ensures a goes.stands)))
-          (sym c.requires.0.bank.bank.back); few = omega arith }
+          (sym c.requires.0.bank.bank.back);
+      few = omega arith;
+    }
 
 pub returns-in-Pass : goal.returns-in-Pass
 unfolding refusal
@@ -42,8 +45,11 @@ returns-in-Pass c =
     let told = c.live_verdict-verdict in
     let z : told.result ≡ Pass = c.in-Pass.is in
     let did = c.proceed.ensures in
-    record { run = λ a goes read n.
+    record {
+      run = λ a goes read n.
           let lacking = c.board_lacks-lacking.ensures a goes.stands in
           let pass = rw z at (told.ensures a lacking) in
           rw (live_passed _ a (running n (decode c.args.bank.now)) pass)
-          (did.run a (record { lacking = lacking; can = goes.can; passed = sym pass }) read n); few = did.few }
+          (did.run a (record { lacking = lacking; can = goes.can; passed = sym pass }) read n);
+      few = did.few;
+    }

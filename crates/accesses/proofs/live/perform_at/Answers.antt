@@ -37,6 +37,9 @@ returns c =
     let q = c.args.ask in
     let block = lent (goal.at.returns c).After-block_size-size in
     let did = c.perform_cells in
-    record { read = did.ensures.read ∙ ap (λ (x : Board). map (cell_byte x.working.frames) (cells_asked c.args.cells.now)) (lent_board block); did = λ a s ready.
+    record {
+      read = did.ensures.read ∙ ap (λ (x : Board). map (cell_byte x.working.frames) (cells_asked c.args.cells.now)) (lent_board block);
+      did = λ a s ready.
           lent_holds c.requires.0 block (on_working (accessed a)) did.new.block
-          (performed_fields a q s (omega arith) (lent_fields block) ready.right ready.number ready.since) did.auto.block (did.ensures.did a s) }
+          (performed_fields a q s (omega arith) (lent_fields block) ready.right ready.number ready.since) did.auto.block (did.ensures.did a s);
+    }

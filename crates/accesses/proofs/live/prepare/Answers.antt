@@ -38,13 +38,19 @@ drop_out-requires c =
 
 pub returns-then-writes : goal.returns-then-writes
 returns-then-writes c =
-    record { run = λ a l n.
+    record {
+      run = λ a l n.
           rw (← prepared_own_write l (asks_frames c.requires.0) (omega arith) n c.if-writes.true
           c.if-lacking-ne0.false)
-          (came_idle n _ c.drop_out.ensures.bytes); few = omega arith }
+          (came_idle n _ c.drop_out.ensures.bytes);
+      few = omega arith;
+    }
 
 pub returns-else-writes : goal.returns-else-writes
 returns-else-writes c =
-    record { run = λ a l n.
+    record {
+      run = λ a l n.
           rw (← prepared_local_read l (asks_frames c.requires.0) (omega arith) n c.if-writes.false c.if-lacking-ne0.false)
-          (came_idle n _ (sym c.requires.0.bank.bank.back)); few = omega arith }
+          (came_idle n _ (sym c.requires.0.bank.bank.back));
+      few = omega arith;
+    }

@@ -39,10 +39,13 @@ returns-in-Nobody c =
     let went = c.prepare-progress in
     let did = c.perform_at in
     let z : went.result.loss ≡ Nobody = c.in-Nobody.is in
-    record { run = λ a way read n.
+    record {
+      run = λ a way read n.
           let came = went.ensures.run a way.lacking n in
           let ready = ahead_ready _ a n _ asks.formed way.can way.passed came.bytes (rw z at came.lost) in
           answered_done _ a n _ asks.formed way.can way.passed _ _ z came
           (did.ensures.read
           ∙ ap (λ (cs : List Cell). map (cell_byte (board_at (decode went.new.bank) c.args.ask.board).working.frames) cs) (sym read))
-          (did.ensures.did a way.lacking.stands ready); few = went.ensures.few }
+          (did.ensures.did a way.lacking.stands ready);
+      few = went.ensures.few;
+    }

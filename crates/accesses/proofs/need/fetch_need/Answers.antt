@@ -11,26 +11,38 @@ returns-then-board-taker c =
 
 pub returns-then-writes : goal.returns-then-writes
 returns-then-writes c =
-    record { need = λ k p e.
+    record {
+      need = λ k p e.
           rw c.if-writes.true
-          (need_giver_writing k c.args.taker c.args.giver p c.args.board c.if-board-taker.false c.if-board-giver.true); few = omega arith }
+          (need_giver_writing k c.args.taker c.args.giver p c.args.board c.if-board-taker.false c.if-board-giver.true);
+      few = omega arith;
+    }
 
 pub returns-then-board-giver : goal.returns-then-board-giver
 returns-then-board-giver c =
-    record { need = λ k p e.
+    record {
+      need = λ k p e.
           rw c.if-writes.false
-          (need_giver_reading k c.args.taker c.args.giver p c.args.board c.if-board-taker.false c.if-board-giver.true); few = omega arith }
+          (need_giver_reading k c.args.taker c.args.giver p c.args.board c.if-board-taker.false c.if-board-giver.true);
+      few = omega arith;
+    }
 
 pub returns-then-writes-2 : goal.returns-then-writes-2
 returns-then-writes-2 c =
-    record { need = λ k p e.
+    record {
+      need = λ k p e.
           c.holder_need.ensures.need
           ∙ rw c.if-writes-2.true
           (need_holder k c.args.taker c.args.giver p c.args.board c.args.copies e c.if-board-taker.false
-          c.if-board-giver.false); few = c.holder_need.ensures.few }
+          c.if-board-giver.false);
+      few = c.holder_need.ensures.few;
+    }
 
 pub returns : goal.returns
 returns c =
-    record { need = λ k p e.
+    record {
+      need = λ k p e.
           rw c.if-writes-2.false
-          (need_other k c.args.taker c.args.giver p c.args.board c.if-board-taker.false c.if-board-giver.false); few = omega arith }
+          (need_other k c.args.taker c.args.giver p c.args.board c.if-board-taker.false c.if-board-giver.false);
+      few = omega arith;
+    }

@@ -17,9 +17,12 @@ page_need-requires c = let pre = c.requires in (pre.0, pre.1, pre.2 c.if-ask.tru
 pub returns-then-ask : goal.returns-then-ask
 returns-then-ask c =
     let written = c.if-ask.true in
-    record { need = λ a l.
+    record {
+      need = λ a l.
           c.page_need.ensures.need a l
-          ∙ (need_written l c.args.board written (c.requires.2 written) ∙ need_of _ _ a _ _ c.requires.0.count); few = omega (arith, c.page_need.ensures.few, c.requires.2 written) }
+          ∙ (need_written l c.args.board written (c.requires.2 written) ∙ need_of _ _ a _ _ c.requires.0.count);
+      few = omega (arith, c.page_need.ensures.few, c.requires.2 written);
+    }
 
 pub returns-then-lacking-eq0 : goal.returns-then-lacking-eq0
 returns-then-lacking-eq0 c =

@@ -15,10 +15,13 @@ read_copies-copies-requires c = let pre = c.requires in entry_at_lem pre.0 _ pre
 pub returns-then-has : goal.returns-then-has
 returns-then-has c =
     let in_set = sym c.has.ensures ∙ c.if-has.true in
-    record { need = λ a l.
+    record {
+      need = λ a l.
           c.fetch_need.ensures.need _ _
           (c.read_copies-copies.ensures ∙ copies_told c.requires.0 _ c.requires.2)
-          ∙ need_fetch l c.args.board c.args.page in_set _ c.giver-giver.ensures; few = c.fetch_need.ensures.few }
+          ∙ need_fetch l c.args.board c.args.page in_set _ c.giver-giver.ensures;
+      few = c.fetch_need.ensures.few;
+    }
 
 pub read_copies-requires : goal.read_copies-requires
 read_copies-requires c = let pre = c.requires in entry_at_lem pre.0 _ pre.2
@@ -26,10 +29,13 @@ read_copies-requires c = let pre = c.requires in entry_at_lem pre.0 _ pre.2
 pub returns-then-page-ask : goal.returns-then-page-ask
 returns-then-page-ask c =
     let out = sym c.has.ensures ∙ c.if-has.false in
-    record { need = λ a l.
+    record {
+      need = λ a l.
           c.holder_need.ensures.need
           ∙ need_own_write l c.args.board c.args.page out c.if-writes.true c.if-page-ask.true _
-          (c.read_copies.ensures ∙ copies_told c.requires.0 _ c.requires.2); few = c.holder_need.ensures.few }
+          (c.read_copies.ensures ∙ copies_told c.requires.0 _ c.requires.2);
+      few = c.holder_need.ensures.few;
+    }
 
 pub returns-else-page-ask : goal.returns-else-page-ask
 returns-else-page-ask c =

@@ -37,9 +37,12 @@ short_of-requires c =
 pub returns-then-short_of : goal.returns-then-short_of
 returns-then-short_of c =
     let loop = c.loop-board in
-    record { found = λ a l.
+    record {
+      found = λ a l.
           found_at c.args.boards loop.board _ (loop.invariant.1 a l) (omega arith) (sym (told (goal.at.returns-then-short_of c).After-short_of a l) ∙ c.if-short_of.true)
-          ∙ search_of c.args.boards _ _ _ c.requires.0.count; within = omega arith }
+          ∙ search_of c.args.boards _ _ _ c.requires.0.count;
+      within = omega arith;
+    }
 
 pub loop-board-preserved : goal.loop-board-preserved
 loop-board-preserved c =

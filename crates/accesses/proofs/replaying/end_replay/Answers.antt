@@ -29,11 +29,11 @@ lent : (c : After-block_size-size)
 lent c = lent_of c.requires.0 _ _ c.block_at-a.ensures c.block_size-size.ensures
 
 -- what the board's block goes through
-abbrev run : After-block_size-size → Board → BoardRun
-run c x = checkpoint_on c.args.pages (settled (λ p. member p c.owned_pages-owned.result) x)
+abbrev run : (pages owned : ℕ) → Board → BoardRun
+run pages owned x = checkpoint_on pages (settled (λ p. member p owned) x)
 
 fields : (c : After-block_size-size) → FieldsOk c.args.pages
-    (run c (board_at (decode c.args.bank.now) c.args.board)).board
+    (run c.args.pages c.owned_pages-owned.result (board_at (decode c.args.bank.now) c.args.board)).board
 fields c = checkpoint_on_fields c.args.pages _ (lent c).few
     (settled_fields (lent_fields (lent c)) (λ p. member p c.owned_pages-owned.result))
 
@@ -41,9 +41,8 @@ fields c = checkpoint_on_fields c.args.pages _ (lent c).few
 is_run : (c : After-block_size-size) (n : ℕ)
     → end_replay c.args.board (running n (decode c.args.bank.now))
     ≡ lifted c.args.board n (decode c.args.bank.now)
-    (run c (board_at (decode c.args.bank.now) c.args.board))
+    (run c.args.pages c.owned_pages-owned.result (board_at (decode c.args.bank.now) c.args.board))
 is_run c n =
-    
     end_replay_told c.args.board n (decode c.args.bank.now) c.requires.0.board c.args.pages c.owned_pages-owned.result
     c.requires.0.count (lent_fields (lent c)).working.frames.count c.owned_pages-owned.ensures
 
@@ -59,21 +58,27 @@ end_replay-stored-requires c = lent_block (lent (goal.at.end_replay-stored-requi
 pub forget-requires : goal.forget-requires
 forget-requires c =
     let ran = c.end_replay-stored in
-    let bank = run_of c.requires.0 (lent (goal.at.forget-requires c).After-block_size-size) (run c) (fields (goal.at.forget-requires c).After-block_size-size) ran.new.block ran.auto.block ran.ensures.run.0 in
+    let bank = run_of c.requires.0 (lent (goal.at.forget-requires c).After-block_size-size) (run c.args.pages c.owned_pages-owned.result) (fields (goal.at.forget-requires c).After-block_size-size) ran.new.block ran.auto.block ran.ensures.run.0 in
     (bank.bank, bank.count, omega (arith, bank.board, bank.bank.sizes.boards))
 
 pub returns-then-stored : goal.returns-then-stored
 returns-then-stored c =
     let ran = c.end_replay-stored in
-    record { run = λ n.
+    record {
+      run = λ n.
           rw (is_run (goal.at.returns-then-stored c).After-block_size-size n)
-          (run_lost c.requires.0 (lent (goal.at.returns-then-stored c).After-block_size-size) (run c) (fields (goal.at.returns-then-stored c).After-block_size-size) ran.new.block ran.auto.block ran.ensures.run.0 _ _ ran.ensures.run.1
-          ran.ensures.run.2 c.if-stored.true _ c.forget.ensures n); few = ran.ensures.few }
+          (run_lost c.requires.0 (lent (goal.at.returns-then-stored c).After-block_size-size) (run c.args.pages c.owned_pages-owned.result) (fields (goal.at.returns-then-stored c).After-block_size-size) ran.new.block ran.auto.block ran.ensures.run.0 _ _ ran.ensures.run.1
+          ran.ensures.run.2 c.if-stored.true _ c.forget.ensures n);
+      few = ran.ensures.few;
+    }
 
 pub returns-else-stored : goal.returns-else-stored
 returns-else-stored c =
     let ran = c.end_replay-stored in
-    record { run = λ n.
+    record {
+      run = λ n.
           rw (is_run (goal.at.returns-else-stored c).After-block_size-size n)
-          (run_going c.requires.0 (lent (goal.at.returns-else-stored c).After-block_size-size) (run c) (fields (goal.at.returns-else-stored c).After-block_size-size) ran.new.block ran.auto.block ran.ensures.run.0 _ _ ran.ensures.run.1
-          ran.ensures.run.2 c.if-stored.false n); few = ran.ensures.few }
+          (run_going c.requires.0 (lent (goal.at.returns-else-stored c).After-block_size-size) (run c.args.pages c.owned_pages-owned.result) (fields (goal.at.returns-else-stored c).After-block_size-size) ran.new.block ran.auto.block ran.ensures.run.0 _ _ ran.ensures.run.1
+          ran.ensures.run.2 c.if-stored.false n);
+      few = ran.ensures.few;
+    }

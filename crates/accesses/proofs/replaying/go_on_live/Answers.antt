@@ -9,9 +9,12 @@ use Rattle.accesses.proofs.replaying.go_on_live.Goals as goal
 pub returns-then-stored : goal.returns-then-stored
 returns-then-stored c =
     let made = c.end_replay-stored.ensures in
-    record { run = λ a goes read.
+    record {
+      run = λ a goes read.
           ended_lost c.args.ask _ c.requires.0.board c.requires.3 _ _ _ _ a c.if-stored.true (made.run 0) c.ended.ensures.0
-          c.ended.ensures.1; few = omega (arith, c.ended.ensures.1, made.few) }
+          c.ended.ensures.1;
+      few = omega (arith, c.ended.ensures.1, made.few);
+    }
 
 pub live-outcome-requires : goal.live-outcome-requires
 unfolding lost_by
@@ -35,8 +38,11 @@ returns c =
     let made = c.end_replay-stored.ensures in
     let lost = c.if-stored.false in
     let went = c.live-outcome.ensures in
-    record { run = λ a goes read.
+    record {
+      run = λ a goes read.
           let on = rw lost at (made.run 0).lost in
           let d = ended_decode q _ c.requires.0.board c.requires.3 (made.run 0).bytes in
           ended_live q _ c.requires.0.board c.requires.3 _ _ _ a lost (made.run 0)
-          (went.run a (rw d (record { stands = goes.stands; can = goes.can (sym on) })) read); few = omega (arith, made.few, went.few) }
+          (went.run a (rw d (record { stands = goes.stands; can = goes.can (sym on) })) read);
+      few = omega (arith, made.few, went.few);
+    }

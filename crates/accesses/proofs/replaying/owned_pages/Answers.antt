@@ -20,7 +20,7 @@ pub loop-page-init : goal.loop-page-init
 loop-page-init c = (omega arith, set_none _ _)
 
 pub overflow_mul-owned : goal.overflow_mul-owned
-overflow_mul-owned c =  let loop = c.loop-page
+overflow_mul-owned c = let loop = c.loop-page
     in omega (
       arith,
       set_fits _ c.args.pages loop.page loop.owned (omega arith) loop.invariant.0 loop.invariant.1
@@ -31,7 +31,7 @@ pub read_owner-requires : goal.read_owner-requires
 read_owner-requires c = entry_at_lem c.requires _ (omega arith)
 
 pub overflow_add-owned : goal.overflow_add-owned
-overflow_add-owned c =  let loop = c.loop-page
+overflow_add-owned c = let loop = c.loop-page
     in omega (
       arith,
       set_fits _ c.args.pages loop.page loop.owned (omega arith) loop.invariant.0 loop.invariant.1

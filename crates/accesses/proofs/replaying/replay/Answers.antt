@@ -36,7 +36,6 @@ told c a h = c.replay_at-replayed.ensures.did a h.stands (repeats h)
 
 after_of : (c : After-replay_at-replayed) → OfBank c.args.pages c.args.ask.board c.replay_at-replayed.new.bank
 after_of c =
-    
     let b = c.args.ask.board in
     let a = c.requires.3.0 in
     holds_of (told c a c.requires.3.1).1 c.args.pages b
@@ -52,7 +51,6 @@ goes_on : (c : After-replay_at-replayed) (a : Access) → EntersAt c a → Live 
     → GoesOn c.args.pages a c.args.ask (decode c.replay_at-replayed.new.bank)
 unfolding start
 goes_on c a h e =
-    
     rw (live_bank c a h e)
     (record {
       stands = h.stands;
@@ -87,10 +85,13 @@ pub returns-in-Live : goal.returns-in-Live
 returns-in-Live c =
     let b = c.args.ask.board in
     let went = c.go_on_live.ensures in
-    record { run = λ a h read.
+    record {
+      run = λ a h read.
           let e = sym c.in-Live.is ∙ (told (goal.at.returns-in-Live c).After-replay_at-replayed a h).0 in
           rw (← replaying_live b a (decode c.args.bank.now) c.requires.0.bank.board e, ← holds_decode (told (goal.at.returns-in-Live c).After-replay_at-replayed a h).1)
-          (went.run a (goes_on (goal.at.returns-in-Live c).After-replay_at-replayed a h e) read); few = went.few }
+          (went.run a (goes_on (goal.at.returns-in-Live c).After-replay_at-replayed a h e) read);
+      few = went.few;
+    }
 
 pub returns-in-Last : goal.returns-in-Last
 unfolding read_from
@@ -99,20 +100,26 @@ returns-in-Last c =
     let below = c.requires.0.bank.board in
     let made = c.end_replay-stored in
     let said = c.ended.ensures in
-    record { run = λ a h read.
+    record {
+      run = λ a h read.
           let e = sym c.in-Last.is ∙ (told (goal.at.returns-in-Last c).After-replay_at-replayed a h).0 in
           let fs = frames b a (decode c.args.bank.now) below in
           let bytes = c.replay_at-replayed.ensures.read (last_over b a (decode c.args.bank.now) below e).on ∙ ap (λ (cs : List Cell). map (cell_byte fs) cs) (sym read) in
           rw (← replaying_last b a (decode c.args.bank.now) below e, ← holds_decode (told (goal.at.returns-in-Last c).After-replay_at-replayed a h).1)
-          (answered_ended a fs bytes c.ended.result b made.result.lost _ _ (made.ensures.run 0) said.0 said.1); few = omega (arith, said.1, made.ensures.few) }
+          (answered_ended a fs bytes c.ended.result b made.result.lost _ _ (made.ensures.run 0) said.0 said.1);
+      few = omega (arith, said.1, made.ensures.few);
+    }
 
 pub returns-in-Going : goal.returns-in-Going
 unfolding read_from
 returns-in-Going c =
     let b = c.args.ask.board in
     let below = c.requires.0.bank.board in
-    record { run = λ a h read.
+    record {
+      run = λ a h read.
           let e = sym c.in-Going.is ∙ (told (goal.at.returns-in-Going c).After-replay_at-replayed a h).0 in
           let fs = frames b a (decode c.args.bank.now) below in
           let bytes = c.replay_at-replayed.ensures.read (going_on b a (decode c.args.bank.now) below e).on ∙ ap (λ (cs : List Cell). map (cell_byte fs) cs) (sym read) in
-          rw (← replaying_going b a (decode c.args.bank.now) below e) (answered_repeated a fs bytes _ (told (goal.at.returns-in-Going c).After-replay_at-replayed a h).1.bytes); few = omega arith }
+          rw (← replaying_going b a (decode c.args.bank.now) below e) (answered_repeated a fs bytes _ (told (goal.at.returns-in-Going c).After-replay_at-replayed a h).1.bytes);
+      few = omega arith;
+    }

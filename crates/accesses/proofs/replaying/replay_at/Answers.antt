@@ -33,9 +33,12 @@ returns c =
     let block = lent (goal.at.returns c).After-block_size-size in
     let e = lent_board block in
     let did = c.replay in
-    record { read = λ on. rw e at did.ensures.read on; did = λ a s h.
+    record {
+      read = λ on. rw e at did.ensures.read on;
+      did = λ a s h.
           let told = did.ensures.did a s (rw e h) in (
             told.0 ∙ ap (replayed_to a) e,
             lent_holds c.requires.0 block (replayed_board a) did.new.block
                 (replayed_fields (lent_fields block) a h c.args.ask s (omega arith)) did.auto.block told.1,
-          ) }
+          );
+    }
