@@ -2,7 +2,6 @@
 -- Assumes nothing.
 use mathlib.Core.Path.{refl, sym, ◌∙◌}
 use native.Mathlib.Omega.{arith}
-use borrow.Author.Tests.{not-true, not-false}
 use Rattle.lines.specs.Laws.Numbers.{digits_end_at, digits_over, digit_least, digits_other_at, digits_next_at}
 use Rattle.lines.proofs.number.read_digits.Goals as goal
 
@@ -11,23 +10,23 @@ loop-i-init c = (omega arith, omega arith, refl)
 
 pub returns-then-not-is_digit : goal.returns-then-not-is_digit
 returns-then-not-is_digit c =
-    sym (c.loop-i.invariant.2 ∙ digits_other_at c.loop-i.v _ c.loop-i.i (omega arith) (sym c.is_digit.ensures ∙ not-true _ c.if-not-is_digit.true-raw))
+    sym (c.loop-i.invariant.2 ∙ digits_other_at c.loop-i.v _ c.loop-i.i (omega arith) (sym c.is_digit.ensures ∙ c.if-not-is_digit.true))
 
 pub overflow_sub-c : goal.overflow_sub-c
-overflow_sub-c c = digit_least _ (sym c.is_digit.ensures ∙ not-false _ c.if-not-is_digit.false-raw)
+overflow_sub-c c = digit_least _ (sym c.is_digit.ensures ∙ c.if-not-is_digit.false)
 
 pub overflow_add-v : goal.overflow_add-v
 overflow_add-v c = omega (arith, c.wide.ensures.1)
 
 pub returns-then-v-gt-LAST : goal.returns-then-v-gt-LAST
 returns-then-v-gt-LAST c =
-    let digit = sym c.is_digit.ensures ∙ not-false _ c.if-not-is_digit.false-raw in
+    let digit = sym c.is_digit.ensures ∙ c.if-not-is_digit.false in
     sym (c.loop-i.invariant.2 ∙ digits_next_at c.loop-i.v _ c.loop-i.i (omega arith) digit
     ∙ digits_over _ _ (rw (← c.wide.ensures.0) c.if-v-gt-LAST.true))
 
 pub loop-i-preserved : goal.loop-i-preserved
 loop-i-preserved c =
-    let digit = sym c.is_digit.ensures ∙ not-false _ c.if-not-is_digit.false-raw in
+    let digit = sym c.is_digit.ensures ∙ c.if-not-is_digit.false in
     (omega arith, omega arith, c.loop-i.invariant.2 ∙ digits_next_at c.loop-i.v _ c.loop-i.i (omega arith) digit ∙ rw c.wide.ensures.0)
 
 pub returns : goal.returns
