@@ -1,5 +1,6 @@
 // Little-endian numbers at a place of a slice.
 #![tactic(auto)]
+
 ghost use Rattle.std.specs.Prelude.{◌≡◌, ◌++◌, ◌+◌, ◌≤◌, ◌<◌, length, take, drop};
 ghost use Rattle.words.specs.LittleEndian.{bytes_of, number_of};
 
