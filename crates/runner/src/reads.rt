@@ -3,10 +3,11 @@ ghost use Rattle.std.specs.Prelude.{◌+◌, ◌*◌, ◌≤◌, length};
 ghost use Rattle.lines.specs.Clauses.{most_line, most_last};
 ghost use Rattle.script.specs.Clauses.{InBuffers, Buffers};
 
-use libc::STDOUT_FILENO;
 use lines::tally::stopped;
 use script::feed::{Machine, start};
 use script::stream::{BANK_BUFFER, LINE_BUFFER, OUT_PER_BYTE, end_input, feed_read};
+use std::io;
+use std::io::{Read, Write};
 
 // How much is read at once.
 const READ_BUFFER: usize = 4096;
@@ -14,12 +15,18 @@ const READ_BUFFER: usize = 4096;
 // The end of input prints a line and three numbers: less than two bytes more of input may print.
 const OUT_BUFFER: usize = OUT_PER_BYTE * (READ_BUFFER + 2);
 
+// A read or a write that failed.
+#[derive(Debug, Drop)]
+pub enum Failure {
+    Input(io::Error),
+    Output(io::Error),
+}
+
 // What comes after a read.
 #[derive(Clone, Copy)]
 enum Next {
     Read,
     End,
-    Failed,
 }
 
 #[derive(Clone, Copy)]
@@ -28,105 +35,93 @@ struct Turn {
     next: Next,
 }
 
-// Writes all that was printed, or says why it can't.
-fn write_out(printed: &[u8]) -> bool {
-    let is_written = io::write_all(STDOUT_FILENO, printed);
-    if !is_written {
-        os::fail(b"standard output");
-    }
-    is_written
+// Writes all that was printed.
+fn write_out<W: Write>(output: &mut W, printed: &[u8]) -> Result<(), Failure> {
+    output.write_all(printed).map_err(Failure::Output)
 }
 
-// After a write: nothing more where it failed or where the runner has stopped reading.
-fn next_of(is_written: bool, machine: Machine) -> Next {
-    if !is_written {
-        return Next::Failed;
-    }
+// After a write: nothing more where the runner has stopped reading.
+fn next_of(machine: Machine) -> Next {
     let progress = machine.progress;
-    let tally = progress.tally;
-    if stopped(tally) {
-        return Next::End;
+    if stopped(progress.tally) {
+        Next::End
+    } else {
+        Next::Read
     }
-    Next::Read
 }
 
 // Reads once, feeds what came and writes out what it prints.
-fn run_read(
-    fd: i32,
-    name: &[u8],
-    input: &mut [u8],
+fn run_read<R: Read, W: Write>(
+    input: &mut R,
+    output: &mut W,
+    buffer: &mut [u8],
     line: &mut [u8],
     bank: &mut [u8],
     out: &mut [u8],
     from: Machine,
-) -> Turn
-    requires { InBuffers line.old bank.old from × (most_line * length input.old ≤ length out.old) }
-    ensures { InBuffers line.new bank.new result.machine }
+) -> Result<Turn, Failure>
+    requires { InBuffers line.old bank.old from × (most_line * length buffer.old ≤ length out.old) }
 {
-    let got = libc::read(fd, input);
-    if got < 0 {
-        os::fail(name);
-        return Turn {
-            machine: from,
-            next: Next::Failed,
-        };
-    }
-    let n = io::count(got, input);
+    let n = input.read(buffer).map_err(Failure::Input)?;
     if n == 0 {
-        return Turn {
+        return Ok(Turn {
             machine: from,
             next: Next::End,
-        };
+        });
     }
-    let machine = feed_read(&input[..n], line, bank, out, from);
+    let machine = feed_read(&buffer[..n], line, bank, out, from);
     let progress = machine.progress;
     let end = progress.at;
-    let is_written = write_out(&out[..end]);
-    Turn {
+    write_out(output, &out[..end])?;
+    Ok(Turn {
         machine,
-        next: next_of(is_written, machine),
-    }
+        next: next_of(machine),
+    })
 }
 
 // The end of input: a last line without its byte 10, and the three numbers.
-fn run_end(line: &[u8], bank: &mut [u8], out: &mut [u8], from: Machine) -> bool
+fn run_end<W: Write>(
+    output: &mut W,
+    line: &[u8],
+    bank: &mut [u8],
+    out: &mut [u8],
+    from: Machine,
+) -> Result<(), Failure>
     requires { InBuffers line.now bank.old from × (most_line + most_last ≤ length out.old) }
 {
     let end = end_input(line, bank, out, from);
-    write_out(&out[..end])
+    write_out(output, &out[..end])
 }
 
 // All reads, then the end of input. A proved loop has to end and nothing says that an input does, so it counts down from a number that no run uses up.
-fn run_reads(
-    fd: i32,
-    name: &[u8],
-    input: &mut [u8],
+fn run_reads<R: Read, W: Write>(
+    input: &mut R,
+    output: &mut W,
+    buffer: &mut [u8],
     line: &mut [u8],
     bank: &mut [u8],
     out: &mut [u8],
-) -> bool
-    requires { Buffers (length input.old) line.old bank.old out.old }
+) -> Result<(), Failure>
+    requires { Buffers (length buffer.old) line.old bank.old out.old }
 {
     let mut machine = start();
     let mut turns = u64::MAX;
     while 0 < turns {
-        let turn = run_read(fd, name, input, line, bank, out, machine);
-        let next = turn.next;
+        let turn = run_read(input, output, buffer, line, bank, out, machine)?;
         machine = turn.machine;
-        match next {
+        match turn.next {
             Next::Read => turns -= 1,
-            Next::End => return run_end(line, bank, out, machine),
-            Next::Failed => return false,
+            Next::End => return run_end(output, line, bank, out, machine),
         }
     }
-    run_end(line, bank, out, machine)
+    run_end(output, line, bank, out, machine)
 }
 
-// A whole input. Whether it was run to its end. It promises nothing: no contract can say what is read and written, and the buffers are its own.
-pub fn run_input(fd: i32, name: &[u8]) -> bool {
-    let mut input = [0u8; READ_BUFFER];
+// A whole input.
+pub fn run_input<R: Read, W: Write>(input: &mut R, output: &mut W) -> Result<(), Failure> {
+    let mut buffer = [0u8; READ_BUFFER];
     let mut line = [0u8; LINE_BUFFER];
     let mut bank = [0u8; BANK_BUFFER];
     let mut out = [0u8; OUT_BUFFER];
-    run_reads(fd, name, &mut input, &mut line, &mut bank, &mut out)
+    run_reads(input, output, &mut buffer, &mut line, &mut bank, &mut out)
 }
