@@ -1,0 +1,53 @@
+-- `replay::settle::settle_frames` meets its contract. The invariant: the first pages have their settled frames. Assumes nothing.
+use mathlib.Core.Path.{◌≡◌, sym, ◌∙◌}
+use Prim.Native.Nat.{ℕ, ◌≤◌, ◌-◌}
+use native.Mathlib.Omega.{arith}
+use mathlib.Core.List.{List}
+use Rattle.types.specs.declared.Frame.{Frame}
+use Rattle.model.specs.Definitions.Parts.{each, member}
+use Rattle.model.specs.Definitions.Bank.{on_working, on_frames}
+use Rattle.model.specs.Definitions.Codec.{encode_board}
+use Rattle.model.specs.Definitions.Replay.{settled_frame}
+use Rattle.model.proofs.Laws.BlockReplay.{replacing}
+use Rattle.steps.specs.BlockLaws.{block_length}
+use Rattle.steps.specs.Blocks.{board_of}
+use Rattle.replay.specs.Replaced.{replaced_none, replaced_block, replaced_more, replaced_last}
+use Rattle.replay.specs.Settle.{settling_ok, settling_next}
+use Rattle.replay.proofs.settle.settle_frames.Invariants.{settling}
+use Rattle.replay.proofs.settle.settle_frames.Goals as goal
+
+pub loop-page-init : goal.loop-page-init
+loop-page-init c = (omega arith, replaced_none c.requires _ (settling_ok c.requires (λ p. member p c.args.owned)))
+
+pub has-requires : goal.has-requires
+has-requires c = omega (arith, c.requires.few)
+
+pub settle_frame-requires : goal.settle_frame-requires
+settle_frame-requires c = (
+  replaced_block c.requires _ (settling_ok c.requires (λ p. member p c.args.owned)) _ _ c.loop-page.invariant.1
+      c.loop-page.invariant.0,
+  c.loop-page-test.true,
+)
+
+pub loop-page-preserved : goal.loop-page-preserved
+loop-page-preserved c =
+    let loop = c.loop-page in
+    let h = c.loop-page-test.true in
+    let next = settling_next c.requires (λ p. member p c.args.owned) loop.page loop.block c.has.result h
+    c.has.ensures loop.invariant.1 in (
+      omega arith,
+      replaced_more c.requires _ (settling_ok c.requires (λ p. member p c.args.owned)) _ _ loop.invariant.1 _ _ h
+          c.settle_frame.ensures next,
+    )
+
+pub shape_of-block : goal.shape_of-block
+shape_of-block c =
+    block_length (replaced_block c.requires _ (settling_ok c.requires (λ p. member p c.args.owned)) _ _ c.loop-page.invariant.1
+    c.loop-page.invariant.0)
+    ∙ sym (block_length c.requires)
+
+pub returns : goal.returns
+unfolding on_working on_frames
+returns c =
+    replaced_last c.requires _ (settling_ok c.requires (λ p. member p c.args.owned)) _ _ c.loop-page.invariant.1 c.loop-page.invariant.0
+    c.loop-page-test.false

@@ -1,0 +1,19 @@
+-- `steps::checkpoint::store_frame` meets its contract. Assumes nothing.
+use mathlib.Core.Path.{◌∙◌}
+use native.Mathlib.Omega.{arith}
+use Rattle.steps.specs.Checkpoint.{store_frame_bytes}
+use borrow.Author.Rules.{rules}
+use Rattle.steps.specs.BlockLaws.{block_length}
+use Rattle.steps.proofs.checkpoint.store_frame.Goals as goal
+
+pub read_page_frame-frame-requires : goal.read_page_frame-frame-requires
+read_page_frame-frame-requires c = omega (arith, block_length c.requires.0)
+
+pub store_frame-requires : goal.store_frame-requires
+store_frame-requires c = omega (arith, block_length c.requires.0)
+
+pub returns : goal.returns
+returns c =
+    let block = c.requires.0 in
+    c.store_frame.ensures
+    ∙ store_frame_bytes _ _ _ block.fields block.back _ _ c.requires.1 c.read_page_frame-frame.ensures
