@@ -1,6 +1,7 @@
 // The line runner: runs the script on standard input, or the files that it is given one after the other, and writes the output to standard output.
 // It only reads, feeds and writes. A read or write that fails ends it, with the error on standard error and status 1.
 #![tactic(auto)]
+
 mod reads;
 
 use crate::reads::{Failure, run_input};
@@ -48,7 +49,11 @@ fn main(rt: HostRuntime) -> io::Result<ExitCode> {
     let _program = paths.next();
     if paths.len() == 0 {
         let is_run = run_named(&rt, "standard input", &mut rt.stdin())?;
-        return Ok(if is_run { ExitCode::SUCCESS } else { ExitCode::FAILURE });
+        return Ok(if is_run {
+            ExitCode::SUCCESS
+        } else {
+            ExitCode::FAILURE
+        });
     }
     for path in paths {
         if !run_file(&rt, &path)? {

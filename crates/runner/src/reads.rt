@@ -1,7 +1,13 @@
 // One input, read by read: what a read prints is written out before the next one.
-ghost use Rattle.std.specs.Prelude.{◌+◌, ◌*◌, ◌≤◌, length};
+ghost use Rattle.std.specs.Prelude.{◌+◌, ◌-◌, ◌*◌, ◌^◌, ◌≤◌, ◌<◌, ◌≡◌, true, length, OnOk, IfOk, IfErr, IfSome};
+ghost use Rattle.std.specs.Io.KnownBytes.{Appends, Keeps};
 ghost use Rattle.lines.specs.Clauses.{most_line, most_last};
-ghost use Rattle.script.specs.Clauses.{InBuffers, Buffers};
+ghost use Rattle.script.specs.Definitions.Runner.{run};
+ghost use Rattle.script.specs.Feeding.{finish};
+ghost use Rattle.script.specs.Clauses.{InBuffers, Buffers, machine_of};
+ghost use Rattle.lines.specs.Definitions.Tally.{stopped};
+ghost use Rattle.runner.specs.declared.reads.Next.TheVariants.{End};
+ghost use Rattle.runner.specs.Reads.{IfInput, PrintedSoFar, Turned};
 
 use lines::tally::stopped;
 use script::feed::{Machine, start};
@@ -36,12 +42,20 @@ struct Turn {
 }
 
 // Writes all that was printed.
-fn write_out<W: Write>(output: &mut W, printed: &[u8]) -> Result<(), Failure> {
-    output.write_all(printed).map_err(Failure::Output)
+fn write_out<W: Write>(output: &mut W, printed: &[u8]) -> Result<(), Failure>
+    ensures ok { OnOk result (Appends (W.contents output.old) (W.contents output.new) printed.now) }
+    ensures err { IfErr result (λ e. IfInput e ⊥) }
+{
+    match output.write_all(printed) {
+        Ok(()) => Ok(()),
+        Err(error) => Err(Failure::Output(error)),
+    }
 }
 
 // After a write: nothing more where the runner has stopped reading.
-fn next_of(machine: Machine) -> Next {
+fn next_of(machine: Machine) -> Next
+    ensures { result ≡ End → stopped machine.progress.tally ≡ true }
+{
     let progress = machine.progress;
     if stopped(progress.tally) {
         Next::End
@@ -61,8 +75,15 @@ fn run_read<R: Read, W: Write>(
     from: Machine,
 ) -> Result<Turn, Failure>
     requires { InBuffers line.old bank.old from × (most_line * length buffer.old ≤ length out.old) }
+    ensures ok { IfOk result (λ t. Turned t (length buffer.old) from line.old bank.old line.new
+        bank.new (R.remaining input.old) (R.remaining input.new) (W.contents output.old) (W.contents output.new)) }
+    ensures err { IfErr result (λ e. IfInput e (Keeps (R.remaining input.old) (R.remaining input.new)
+        × Keeps (W.contents output.old) (W.contents output.new))) }
 {
-    let n = input.read(buffer).map_err(Failure::Input)?;
+    let n = match input.read(buffer) {
+        Ok(n) => n,
+        Err(error) => return Err(Failure::Input(error)),
+    };
     if n == 0 {
         return Ok(Turn {
             machine: from,
@@ -88,6 +109,9 @@ fn run_end<W: Write>(
     from: Machine,
 ) -> Result<(), Failure>
     requires { InBuffers line.now bank.old from × (most_line + most_last ≤ length out.old) }
+    ensures ok { OnOk result (Appends (W.contents output.old) (W.contents output.new)
+        (finish (machine_of line.now bank.old from))) }
+    ensures err { IfErr result (λ e. IfInput e ⊥) }
 {
     let end = end_input(line, bank, out, from);
     write_out(output, &out[..end])
@@ -103,6 +127,10 @@ fn run_reads<R: Read, W: Write>(
     out: &mut [u8],
 ) -> Result<(), Failure>
     requires { Buffers (length buffer.old) line.old bank.old out.old }
+    ensures ok { OnOk result (IfSome (R.remaining input.old) (λ cs. 0 < length buffer.old
+        → length cs < 2 ^ 64 - 1 → Appends (W.contents output.old) (W.contents output.new) (run cs))) }
+    ensures err { IfErr result (λ e. IfInput e (PrintedSoFar (R.remaining input.old)
+        (R.remaining input.new) (W.contents output.old) (W.contents output.new))) }
 {
     let mut machine = start();
     let mut turns = u64::MAX;
@@ -117,8 +145,14 @@ fn run_reads<R: Read, W: Write>(
     run_end(output, line, bank, out, machine)
 }
 
-// A whole input.
-pub fn run_input<R: Read, W: Write>(input: &mut R, output: &mut W) -> Result<(), Failure> {
+// A whole input. Of a reader and a writer whose bytes are known: what is written is `run` of what is read, however it is cut into reads. Where a read fails,
+// what was written is what the bytes before it print.
+pub fn run_input<R: Read, W: Write>(input: &mut R, output: &mut W) -> Result<(), Failure>
+    ensures ok { OnOk result (IfSome (R.remaining input.old) (λ cs. length cs < 2 ^ 64 - 1
+        → Appends (W.contents output.old) (W.contents output.new) (run cs))) }
+    ensures err { IfErr result (λ e. IfInput e (PrintedSoFar (R.remaining input.old)
+        (R.remaining input.new) (W.contents output.old) (W.contents output.new))) }
+{
     let mut buffer = [0u8; READ_BUFFER];
     let mut line = [0u8; LINE_BUFFER];
     let mut bank = [0u8; BANK_BUFFER];
