@@ -1,0 +1,16 @@
+-- `validity::parts::directory_valid` meets its contract. The loop's invariant: those before `page` are valid. Assumes nothing.
+use mathlib.Core.Path.{◌≡◌}
+use Prim.Native.Nat.{◌≤◌, ◌-◌, ◌*◌}
+use mathlib.Core.Bool.{true}
+use Rattle.model.specs.Definitions.Layout.{entry_size}
+use Rattle.model.specs.Definitions.Parts.{part, every_below}
+use Rattle.model.specs.Definitions.Codec.{decode_entry}
+use Rattle.model.specs.Definitions.Check.{entry_valid}
+use Rattle.validity.proofs.parts.directory_valid.Given as goal
+
+abbrev pub invariant-loop-page : goal.invariant-loop-page
+invariant-loop-page l =
+    (l.page ≤ l.pages) × (every_below l.page (λ p. entry_valid l.boards (decode_entry (part l.directory (p * entry_size) entry_size))) ≡ true)
+
+abbrev pub decreases-loop-page : goal.decreases-loop-page
+decreases-loop-page l = l.pages - l.page
