@@ -134,7 +134,7 @@ module _ (b : ℕ) (a : Access) (r : Run) where
         run = record { bank = access b a r.bank; stores = r.stores; lost = none };
         given = given_of a (board_at r.bank b).working.frames;
       }
-  unfolding performed finished step value_of access
+  unfolding performed finished step value_of access board_at given_of
   performed_done e = cc
 
 -- ---- codes 6 and 7

@@ -1,5 +1,6 @@
 // Reads, writes and cells read of a board, on a bank that is known to be well formed: live, or repeated from the log.
 #![tactic(auto)]
+
 pub mod ask;
 pub mod blocks;
 pub mod live;

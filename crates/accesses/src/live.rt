@@ -87,7 +87,7 @@ fn missing_page(bank: &[u8], pages: usize, lacking: u16, writes: bool) -> usize
 fn live_verdict(bank: &[u8], boards: usize, pages: usize, ask: Ask, lacking: u16) -> Verdict
     requires { Asks boards pages ask bank.now × (ask.writes ≡ true → ask.page < pages) }
     ensures { (a : Access) → Lacking pages a ask lacking (decode bank.now)
-        → refusal result ≡ first_of (live_refusals ask.board a (decode bank.now)) }
+        → refusal result ≡ first_given (live_refusals ask.board a (decode bank.now)) }
 {
     let writes = ask.writes;
     if lacking == 0 {

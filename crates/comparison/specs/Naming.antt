@@ -21,15 +21,15 @@ wanted false = is_got
 module _ (shown : Bool) (p : ℕ) where
   pub wanted_got : (g : CopyOrOwn) → not shown ≡ wanted shown (Got g p)
   unfolding is_got is_shown
-  wanted_got g = elim shown [ true ↦ refl | false ↦ refl ]
+  wanted_got g = elim shown as (λ v. not v ≡ wanted v (Got g p)) [ true ↦ refl | false ↦ refl ]
 
   pub wanted_shown : shown ≡ wanted shown (Shown p)
   unfolding is_got is_shown
-  wanted_shown = elim shown [ true ↦ refl | false ↦ refl ]
+  wanted_shown = elim shown as (λ v. v ≡ wanted v (Shown p)) [ true ↦ refl | false ↦ refl ]
 
   pub wanted_dropped : false ≡ wanted shown (Dropped p)
   unfolding is_got is_shown
-  wanted_dropped = elim shown [ true ↦ refl | false ↦ refl ]
+  wanted_dropped = elim shown as (λ v. false ≡ wanted v (Dropped p)) [ true ↦ refl | false ↦ refl ]
 
 -- the pages of the records before place i are the first n of l, those of the others are to come
 pub record NamedTo (such : Kind → Bool) (peer : ℕ) (rs : List Record) (i n : ℕ) (l : List ℕ) : Type 0 where

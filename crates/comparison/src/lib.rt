@@ -1,4 +1,5 @@
 // Document 02, F-7: two boards' stored logs held against each other.
 #![tactic(auto)]
+
 mod naming;
 pub mod unmatched;

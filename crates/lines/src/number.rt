@@ -61,6 +61,7 @@ fn read_digits(word: &[u8]) -> Number
 }
 
 // The number that a word is.
+#[tactic(auto, using(crate::specs::Laws::Numbers::number_empty, crate::specs::Laws::Numbers::number_leading, crate::specs::Laws::Numbers::number_digits))]
 pub fn read_number(word: &[u8]) -> Number
     ensures { result ≡ number word.now }
 {

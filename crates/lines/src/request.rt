@@ -142,6 +142,7 @@ fn request_of(letter: u8, numbers: Numbers) -> Request
 }
 
 // A line of any length, without the byte 10 that ends it.
+#[tactic(auto, using(crate::specs::Laws::Lines::word_within, crate::specs::Laws::Lines::tail_part, crate::specs::Laws::Lines::request_long, crate::specs::Laws::Lines::request_other, crate::specs::Laws::Lines::request_letter))]
 pub fn read_request(line: &[u8]) -> Request
     ensures { result ≡ request line.now }
 {

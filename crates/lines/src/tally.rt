@@ -20,6 +20,7 @@ pub fn stopped(tally: Tally) -> bool
 }
 
 // The tally with one line more: "done is code 0, refused all others".
+#[tactic(auto, unfolding(crate::specs::Definitions::Tally::counted))]
 fn next(tally: Tally, code: u8) -> Tally
     requires { Counts tally }
     ensures { result ≡ counted code tally }

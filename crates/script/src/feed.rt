@@ -88,6 +88,7 @@ pub fn start() -> Machine
 }
 
 // The end of input: a line that has begun ends, then come the three numbers. The answer is the place behind the output.
+#[tactic(auto, using(crate::specs::Laws::Machine::empty_output, crate::specs::Laws::Machine::empty_bank))]
 pub fn finish(line: &[u8], bank: &mut [u8], out: &mut [u8], from: Machine) -> usize
     requires { InBuffers line.now bank.old from × (from.progress.at + most_line + most_last ≤ length out.old) }
     ensures output { Put out.old from.progress.at (finishing (machine_of line.now bank.old from))

@@ -18,7 +18,7 @@ pub struct Progress {
 // One line's bytes, without the byte 10 that ends it.
 pub fn run_line(line: &[u8], bank: &mut [u8], out: &mut [u8], from: Progress) -> Progress
     requires { Ready bank.old out.old from }
-    ensures { Ran (lineStep line.now (state_of bank.old from)) from result bank.old out.old bank.new
+    ensures { Ran (line_step line.now (state_of bank.old from)) from result bank.old out.old bank.new
         out.new }
 {
     let size = from.size;

@@ -71,6 +71,7 @@ fn call_line(bank: &mut [u8], size: usize, request: Request) -> Work
 }
 
 // Line `number`, which asks for `request`.
+#[tactic(auto, using(crate::specs::Laws::Work::work_called))]
 pub fn line_work(bank: &mut [u8], size: usize, number: u32, request: Request) -> Work
     requires { (length bank.old ≡ most_bank) × (size ≤ length bank.old) }
     ensures { Works (work number request (take size bank.old)) result bank.old bank.new }

@@ -15,7 +15,8 @@ use Rattle.lines.specs.Clauses.{most_digits}
 value_grows : (v : ℕ) (w : List ℕ) → v ≤ value_from v w
 unfolding value_from
 value_grows v [] = omega arith
-value_grows v (c ∷ w) = let h : 10 * v + (c - digit_zero) ≤ value_from (10 * v + (c - digit_zero)) w = value_grows _ w in omega arith
+value_grows v (c ∷ w) =
+    let h : 10 * v + (c - digit_zero) ≤ value_from (10 * v + (c - digit_zero)) w = value_grows (10 * v + (c - digit_zero)) w in omega arith
 
 pub digits_end : (v : ℕ) → v ≤ largest_number → digits_from v [] ≡ Value v
 unfolding digits_from every value_from

@@ -190,6 +190,18 @@ module _ (line' bank : List ℕ) (m : Held) where
     unfolding machine_of
     ends_empty e = let a : length (take m.pending line') ≡ 0 = rw e in quiet_end (end_empty held (eq-eqb _ 0 a))
 
+  -- the same, said by equations
+  pub empty_output : m.pending ≡ 0 → finish (machine_of line' bank m) ≡ last_line m.progress.tally
+  unfolding machine_of state_of
+  empty_output e = finish_as held _ (end_empty held (eq-eqb _ 0 (ap (λ (k : ℕ). length (take k line')) e)))
+
+  pub empty_bank : m.pending ≡ 0 → m.progress.size ≤ length bank
+      → splice bank 0 (at_end (machine_of line' bank m)).machine.state.bank ≡ bank
+  unfolding machine_of state_of
+  empty_bank e k =
+      let a : at_end held ≡ record { machine = held; output = [] } = end_empty held (eq-eqb _ 0 (ap (λ (k : ℕ). length (take k line')) e)) in
+      rw a (sym (splice_held bank m.progress.size k))
+
   -- the last line's output, and the three numbers behind it
   pub ends_line : (r : Progress) (bank' before after last : List ℕ) (b : ℕ) → stopped m.progress.tally ≡ false → (m.pending ≡ 0 → ⊥)
       → m.pending ≤ length line' → m.progress.at ≤ length before

@@ -3,7 +3,6 @@ use mathlib.Core.Path.{sym}
 use native.Mathlib.Omega.{arith}
 use Rattle.model.specs.Definitions.Codec.{decode}
 use Rattle.steps.specs.BankBlocks.{LentBlock, lent_in, lent_block, lent_board}
-use borrow.Author.Rules.{rules}
 use Rattle.comparison.proofs.naming.board_pages.Goals.{After-block_size-size}
 use Rattle.comparison.proofs.naming.board_pages.Goals as goal
 
@@ -35,6 +34,4 @@ pages_naming-requires c = (lent_block (lent (goal.at.pages_naming-requires c).Af
 pub returns : goal.returns
 returns c =
     let told = c.pages_naming.ensures in
-    let both =
-    (rw (lent_board (lent (goal.at.returns c).After-block_size-size)) at told.0, told.1) in
-    record { written = both.0; few = both.1 }
+    record { written = rw (lent_board (lent (goal.at.returns c).After-block_size-size)) at told.written; few = told.few }

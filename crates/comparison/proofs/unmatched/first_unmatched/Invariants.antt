@@ -1,10 +1,7 @@
 -- `comparison::unmatched::first_unmatched` meets its contract. The invariant: the gots so far fit their showns, so the others decide. Assumes nothing.
-use mathlib.Core.Path.{refl, sym, ◌∙◌}
 use Prim.Native.Nat.{◌-◌}
-use native.Mathlib.Omega.{arith}
 use lib.ListN.{length}
-use borrow.Author.Tests.{not-true, not-false}
-use Rattle.comparison.specs.Matched.{MatchedTo, matched_all, matched_not, matched_next}
+use Rattle.comparison.specs.Matched.{MatchedTo}
 use Rattle.comparison.proofs.unmatched.first_unmatched.Given as goal
 
 abbrev pub invariant-loop-i : goal.invariant-loop-i

@@ -1,7 +1,6 @@
 -- `comparison::unmatched::shows_page` meets its contract: no shown stands there, or the test of its page. Assumes nothing.
 use native.Mathlib.Omega.{arith}
 use borrow.Author.Tests.{lt-ltb, le-ltb}
-use borrow.Author.Rules.{rules}
 use lib.ListN.{length}
 use Rattle.comparison.proofs.unmatched.shows_page.Goals as goal
 

@@ -126,18 +126,20 @@ module _ (c : goal.Else-not-block_fits) where
 records_inside : (c : goal.After-log_count)
     → c.log_slots_at-at.result + c.log_count.result * c.slot_size_in-slot.result ≤ block_size_in (form (goal.at.After-log_count c).After-block_at_in-a) (pages_of (goal.at.After-log_count c).After-block_at_in-a)
 records_inside c =
+    let after_block_at_in_a = (goal.at.After-log_count c).After-block_at_in-a in
+    let else_not_block_fits = (goal.at.After-log_count c).Else-not-block_fits in
     let size = c.slot_size_in-slot.result in
     let few : c.log_count.result ≤ slot_count =
     omega (
       arith,
       c.log_count.ensures,
-      log_few (form (goal.at.After-log_count c).After-block_at_in-a) (pages_of (goal.at.After-log_count c).After-block_at_in-a) (block (goal.at.After-log_count c).After-block_at_in-a) (counted (goal.at.After-log_count c).Else-not-block_fits)
+      log_few (form after_block_at_in_a) (pages_of after_block_at_in_a) (block after_block_at_in_a) (counted else_not_block_fits)
           c.loop-log.log c.loop-log-test.true,
     )
     in
     omega (
       arith,
-      log_inside (form (goal.at.After-log_count c).After-block_at_in-a) (pages_of (goal.at.After-log_count c).After-block_at_in-a) (block (goal.at.After-log_count c).After-block_at_in-a) c.loop-log.log c.loop-log-test.true,
+      log_inside (form after_block_at_in_a) (pages_of after_block_at_in_a) (block after_block_at_in_a) c.loop-log.log c.loop-log-test.true,
       c.log_slots_at-at.ensures,
       c.slot_size_in-slot.ensures,
       mul-le-mul_right {m = c.log_count.result} {n = slot_count} size few,
@@ -163,8 +165,10 @@ tested : (c : goal.After-record_valid)
     → c.record_valid.result ≡ record_passes_in (form (goal.at.After-record_valid c).After-block_at_in-a) (test_of (goal.at.After-record_valid c).After-block_at_in-a) (pages_of (goal.at.After-record_valid c).After-block_at_in-a) (block (goal.at.After-record_valid c).After-block_at_in-a) c.loop-log.log
     (index_of (goal.at.After-record_valid c).In-loop-from)
 tested c =
-    record_tested (form (goal.at.After-record_valid c).After-block_at_in-a) (test_of (goal.at.After-record_valid c).After-block_at_in-a) (pages_of (goal.at.After-record_valid c).After-block_at_in-a) (block (goal.at.After-record_valid c).After-block_at_in-a) c.loop-log.log
-    (index_of (goal.at.After-record_valid c).In-loop-from) _ _ _ _ c.log_slots_at-at.ensures
+    let after_block_at_in_a = (goal.at.After-record_valid c).After-block_at_in-a in
+    let in_loop_from = (goal.at.After-record_valid c).In-loop-from in
+    record_tested (form after_block_at_in_a) (test_of after_block_at_in_a) (pages_of after_block_at_in_a) (block after_block_at_in_a) c.loop-log.log
+    (index_of in_loop_from) _ _ _ _ c.log_slots_at-at.ensures
     c.slot_size_in-slot.ensures
     c.loop-from.invariant.1.0
     c.record_valid.ensures
@@ -219,7 +223,8 @@ block_at_in-a-requires c = omega arith
 
 pub block_fits-requires : goal.block_fits-requires
 block_fits-requires c =
-    (simp (length-take, length-drop) (omega arith), sized (goal.at.block_fits-requires c).After-block_at_in-a, omega arith, c.all_holders-holders.ensures)
+    let after_block_at_in_a = (goal.at.block_fits-requires c).After-block_at_in-a in
+    (simp (length-take, length-drop) (omega arith), sized after_block_at_in_a, omega arith, c.all_holders-holders.ensures)
 
 pub log_count-requires : goal.log_count-requires
 log_count-requires c = (sized (goal.at.log_count-requires c).After-block_at_in-a, omega arith)
@@ -266,10 +271,12 @@ slice_bounds-record_valid-end c = omega (arith, record_inside c, sized (goal.at.
 
 pub record_valid-requires : goal.record_valid-requires
 record_valid-requires c =
+    let after_block_at_in_a = (goal.at.record_valid-requires c).After-block_at_in-a in
+    let in_loop_from = (goal.at.record_valid-requires c).In-loop-from in
     let known = c.requires in
     let size = c.slot_size_in-slot in (
       known.0,
-      lent_length (block (goal.at.record_valid-requires c).After-block_at_in-a) _ size.result (omega (arith, record_inside (goal.at.record_valid-requires c).In-loop-from, sized (goal.at.record_valid-requires c).After-block_at_in-a)) ∙ size.ensures,
+      lent_length (block after_block_at_in_a) _ size.result (omega (arith, record_inside in_loop_from, sized after_block_at_in_a)) ∙ size.ensures,
       known.3,
     )
 
@@ -286,14 +293,16 @@ loop-from-smaller c = omega (
 )
 
 pub loop-from-preserved : goal.loop-from-preserved
-loop-from-preserved c = (
-  index_of (goal.at.loop-from-preserved c).In-loop-from + 1,
-  (
-    omega (arith, c.loop-from.invariant.1.0, next_index (size_of (goal.at.loop-from-preserved c).In-loop-from) (index_of (goal.at.loop-from-preserved c).In-loop-from)),
-    omega (arith, counts (goal.at.loop-from-preserved c).In-loop-from, c.log_count.ensures),
-    below_next _ _ c.loop-from.invariant.1.2 (passed (tested (goal.at.loop-from-preserved c).After-record_valid) c.if-not-record_valid.false-raw),
-  ),
-)
+loop-from-preserved c =
+    let in_loop_from = (goal.at.loop-from-preserved c).In-loop-from in
+    let after_record_valid = (goal.at.loop-from-preserved c).After-record_valid in (
+      index_of in_loop_from + 1,
+      (
+        omega (arith, c.loop-from.invariant.1.0, next_index (size_of in_loop_from) (index_of in_loop_from)),
+        omega (arith, counts in_loop_from, c.log_count.ensures),
+        below_next _ _ c.loop-from.invariant.1.2 (passed (tested after_record_valid) c.if-not-record_valid.false-raw),
+      ),
+    )
 
 pub overflow_add-log : goal.overflow_add-log
 overflow_add-log c = omega (arith, c.loop-log-test.true)

@@ -57,10 +57,11 @@ module _ (c : goal.After-wide-pages) where
       (passed c.head_valid.ensures c.if-not-head_valid.false-raw)
 
 directory_test : (c : goal.After-directory_valid)
-    → c.directory_valid.result ≡ directory_valid (boards (goal.at.After-directory_valid c).After-wide-pages) (pages (goal.at.After-directory_valid c).After-wide-pages) (directory_of (pages (goal.at.After-directory_valid c).After-wide-pages) (bytes (goal.at.After-directory_valid c).After-wide-pages))
+    → c.directory_valid.result ≡ directory_valid c.wide-boards.result c.wide-pages.result (directory_of c.wide-pages.result c.args.bank.now)
 unfolding directory_of
 directory_test c =
-    lent_read (bytes (goal.at.After-directory_valid c).After-wide-pages) head_size (pages (goal.at.After-directory_valid c).After-wide-pages * entry_size) (λ d. directory_valid (boards (goal.at.After-directory_valid c).After-wide-pages) (pages (goal.at.After-directory_valid c).After-wide-pages) d) _ c.directory_valid.ensures
+    let n = c.wide-pages.result in
+    lent_read c.args.bank.now head_size (n * entry_size) (λ d. directory_valid c.wide-boards.result n d) _ c.directory_valid.ensures
 
 pub returns-then-not-head_valid : goal.returns-then-not-head_valid
 returns-then-not-head_valid c = sym (not_well_formed _ _ _ (failed c.head_valid.ensures c.if-not-head_valid.true-raw))
@@ -75,14 +76,21 @@ pub slice_bounds-directory_valid-end : goal.slice_bounds-directory_valid-end
 slice_bounds-directory_valid-end c = omega (arith, sized c)
 
 pub directory_valid-requires : goal.directory_valid-requires
-directory_valid-requires c = (simp (length-take, length-drop) (omega (arith, sized (goal.at.directory_valid-requires c).After-wide-pages)), (sized (goal.at.directory_valid-requires c).After-wide-pages).2)
+directory_valid-requires c =
+    let after_wide_pages = (goal.at.directory_valid-requires c).After-wide-pages in
+    (simp (length-take, length-drop) (omega (arith, sized after_wide_pages)), (sized after_wide_pages).2)
 
 pub returns-then-not-directory_valid : goal.returns-then-not-directory_valid
-returns-then-not-directory_valid c = rw (split (goal.at.returns-then-not-directory_valid c).After-wide-pages, failed (directory_test (goal.at.returns-then-not-directory_valid c).After-directory_valid) c.if-not-directory_valid.true-raw)
+returns-then-not-directory_valid c =
+    let after_wide_pages = (goal.at.returns-then-not-directory_valid c).After-wide-pages in
+    let after_directory_valid = (goal.at.returns-then-not-directory_valid c).After-directory_valid in
+    rw (split after_wide_pages, failed (directory_test after_directory_valid) c.if-not-directory_valid.true-raw)
 
 pub boards_valid-requires : goal.boards_valid-requires
 boards_valid-requires c = sized (goal.at.boards_valid-requires c).After-wide-pages
 
 pub returns : goal.returns
 returns c =
-    rw (split (goal.at.returns c).After-wide-pages, passed (directory_test (goal.at.returns c).After-directory_valid) c.if-not-directory_valid.false-raw, c.boards_valid.ensures)
+    let after_wide_pages = (goal.at.returns c).After-wide-pages in
+    let after_directory_valid = (goal.at.returns c).After-directory_valid in
+    rw (split after_wide_pages, passed (directory_test after_directory_valid) c.if-not-directory_valid.false-raw, c.boards_valid.ensures)

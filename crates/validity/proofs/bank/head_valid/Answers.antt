@@ -55,7 +55,8 @@ returns-then-not-in_range c =
 pub returns-then-not-in_range-2 : goal.returns-then-not-in_range-2
 unfolding byte_at
 returns-then-not-in_range-2 c =
-    rw (boards_known (goal.at.returns-then-not-in_range-2 c).Else-not-in_range, ← c.wide-pages.ensures.0, failed c.in_range-2.ensures c.if-not-in_range-2.true-raw)
+    let else_not_in_range = (goal.at.returns-then-not-in_range-2 c).Else-not-in_range in
+    rw (boards_known else_not_in_range, ← c.wide-pages.ensures.0, failed c.in_range-2.ensures c.if-not-in_range-2.true-raw)
 
 pub bank_size_in-requires : goal.bank_size_in-requires
 bank_size_in-requires c = (

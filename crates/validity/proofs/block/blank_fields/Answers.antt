@@ -31,7 +31,9 @@ returns-then-not-zero_run c =
     rw (← c.read_number.ensures, c.if-read_number-ne0.false, number_zero, failed c.zero_run.ensures c.if-not-zero_run.true-raw)
 
 pub returns-then-volatile_count-ne0 : goal.returns-then-volatile_count-ne0
-returns-then-volatile_count-ne0 c = rw (counters_zero (goal.at.returns-then-volatile_count-ne0 c).Else-not-zero_run, ← c.volatile_count.ensures.0, ne_eqb _ _ c.if-volatile_count-ne0.true)
+returns-then-volatile_count-ne0 c =
+    let else_not_zero_run = (goal.at.returns-then-volatile_count-ne0 c).Else-not-zero_run in
+    rw (counters_zero else_not_zero_run, ← c.volatile_count.ensures.0, ne_eqb _ _ c.if-volatile_count-ne0.true)
 
 pub returns : goal.returns
 returns c =

@@ -40,11 +40,13 @@ returns-then-not-frame_pair_valid c =
     (sym (failed (stored_tested (goal.at.returns-then-not-frame_pair_valid c).After-frame_pair_valid) c.if-not-frame_pair_valid.true-raw))))
 
 pub loop-page-preserved : goal.loop-page-preserved
-loop-page-preserved c = (
-  omega arith,
-  below_next _ _ c.loop-page.invariant.1
-      (and_both (passed (zero_tested (goal.at.loop-page-preserved c).After-zero_frame) c.if-not-zero_frame.false-raw) (passed (stored_tested (goal.at.loop-page-preserved c).After-frame_pair_valid) c.if-not-frame_pair_valid.false-raw)),
-)
+loop-page-preserved c =
+    let after_zero_frame = (goal.at.loop-page-preserved c).After-zero_frame in
+    let after_frame_pair_valid = (goal.at.loop-page-preserved c).After-frame_pair_valid in (
+      omega arith,
+      below_next _ _ c.loop-page.invariant.1
+          (and_both (passed (zero_tested after_zero_frame) c.if-not-zero_frame.false-raw) (passed (stored_tested after_frame_pair_valid) c.if-not-frame_pair_valid.false-raw)),
+    )
 
 pub returns : goal.returns
 unfolding down_frames_valid

@@ -46,7 +46,9 @@ frame_agrees-requires c = (simp (length-take, length-drop) (omega arith), simp (
 
 pub returns-then-not-frame_agrees : goal.returns-then-not-frame_agrees
 unfolding frames_agree
-returns-then-not-frame_agrees c = below_stop _ _ _ (omega arith) (sym (first_failed _ (sym (failed (agreed (goal.at.returns-then-not-frame_agrees c).After-frame_agrees) c.if-not-frame_agrees.true-raw))))
+returns-then-not-frame_agrees c =
+    let after_frame_agrees = (goal.at.returns-then-not-frame_agrees c).After-frame_agrees in
+    below_stop _ _ _ (omega arith) (sym (first_failed _ (sym (failed (agreed after_frame_agrees) c.if-not-frame_agrees.true-raw))))
 
 pub frame_pair_valid-requires : goal.frame_pair_valid-requires
 frame_pair_valid-requires c = (omega arith, omega arith)
@@ -60,11 +62,13 @@ returns-then-not-frame_pair_valid c =
     (sym (failed (stored_tested (goal.at.returns-then-not-frame_pair_valid c).After-frame_pair_valid) c.if-not-frame_pair_valid.true-raw))))
 
 pub loop-page-preserved : goal.loop-page-preserved
-loop-page-preserved c = (
-  omega arith,
-  below_next _ _ c.loop-page.invariant.1
-      (and_both (passed (agreed (goal.at.loop-page-preserved c).After-frame_agrees) c.if-not-frame_agrees.false-raw) (passed (stored_tested (goal.at.loop-page-preserved c).After-frame_pair_valid) c.if-not-frame_pair_valid.false-raw)),
-)
+loop-page-preserved c =
+    let after_frame_agrees = (goal.at.loop-page-preserved c).After-frame_agrees in
+    let after_frame_pair_valid = (goal.at.loop-page-preserved c).After-frame_pair_valid in (
+      omega arith,
+      below_next _ _ c.loop-page.invariant.1
+          (and_both (passed (agreed after_frame_agrees) c.if-not-frame_agrees.false-raw) (passed (stored_tested after_frame_pair_valid) c.if-not-frame_pair_valid.false-raw)),
+    )
 
 pub returns : goal.returns
 unfolding frames_agree

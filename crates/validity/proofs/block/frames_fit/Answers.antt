@@ -48,7 +48,9 @@ returns-then-state-state_byte-2 c =
 
 pub returns-then-not-stored_frames_valid : goal.returns-then-not-stored_frames_valid
 unfolding frames_fit
-returns-then-not-stored_frames_valid c = rw (replays (goal.at.returns-then-not-stored_frames_valid c).Else-state-state_byte-2) (first_failed _ (sym (failed c.stored_frames_valid.ensures c.if-not-stored_frames_valid.true-raw)))
+returns-then-not-stored_frames_valid c =
+    let else_state_state_byte_2 = (goal.at.returns-then-not-stored_frames_valid c).Else-state-state_byte-2 in
+    rw (replays else_state_state_byte_2) (first_failed _ (sym (failed c.stored_frames_valid.ensures c.if-not-stored_frames_valid.true-raw)))
 
 pub returns : goal.returns
 unfolding frames_fit own_frames_valid

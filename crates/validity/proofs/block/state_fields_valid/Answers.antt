@@ -34,19 +34,27 @@ returns-then-state-state_byte c =
 pub returns-then-place-ne0 : goal.returns-then-place-ne0
 unfolding state_fields_valid state_valid
 returns-then-place-ne0 c =
-    rw (is_down (goal.at.returns-then-place-ne0 c).Then-state-state_byte-2, ← place (goal.at.returns-then-place-ne0 c).After-wide-place, ne_eqb _ _ c.if-place-ne0.true)
+    let then_state_state_byte_2 = (goal.at.returns-then-place-ne0 c).Then-state-state_byte-2 in
+    let after_wide_place = (goal.at.returns-then-place-ne0 c).After-wide-place in
+    rw (is_down then_state_state_byte_2, ← place after_wide_place, ne_eqb _ _ c.if-place-ne0.true)
 
 pub returns-then-state-state_byte-2 : goal.returns-then-state-state_byte-2
 unfolding state_fields_valid state_valid
 returns-then-state-state_byte-2 c =
-    rw (is_down (goal.at.returns-then-state-state_byte-2 c).Then-state-state_byte-2, ← place (goal.at.returns-then-state-state_byte-2 c).After-wide-place, eq-eqb _ _ c.if-place-ne0.false, c.blank_fields.ensures)
+    let then_state_state_byte_2 = (goal.at.returns-then-state-state_byte-2 c).Then-state-state_byte-2 in
+    let after_wide_place = (goal.at.returns-then-state-state_byte-2 c).After-wide-place in
+    rw (is_down then_state_state_byte_2, ← place after_wide_place, eq-eqb _ _ c.if-place-ne0.false, c.blank_fields.ensures)
 
 pub returns-then-selected_count-place : goal.returns-then-selected_count-place
 unfolding state_fields_valid state_valid
 returns-then-selected_count-place c =
-    rw (replays (goal.at.returns-then-selected_count-place c).Else-state-state_byte-2, ← c.selected_count.ensures.0, ← place (goal.at.returns-then-selected_count-place c).After-wide-place, le-ltb _ _ c.if-selected_count-place.true)
+    let else_state_state_byte_2 = (goal.at.returns-then-selected_count-place c).Else-state-state_byte-2 in
+    let after_wide_place = (goal.at.returns-then-selected_count-place c).After-wide-place in
+    rw (replays else_state_state_byte_2, ← c.selected_count.ensures.0, ← place after_wide_place, le-ltb _ _ c.if-selected_count-place.true)
 
 pub returns : goal.returns
 unfolding state_fields_valid state_valid
 returns c =
-    rw (replays (goal.at.returns c).Else-state-state_byte-2, ← c.selected_count.ensures.0, ← place (goal.at.returns c).After-wide-place, lt-ltb _ _ c.if-selected_count-place.false, c.volatile_count.ensures.0)
+    let else_state_state_byte_2 = (goal.at.returns c).Else-state-state_byte-2 in
+    let after_wide_place = (goal.at.returns c).After-wide-place in
+    rw (replays else_state_state_byte_2, ← c.selected_count.ensures.0, ← place after_wide_place, lt-ltb _ _ c.if-selected_count-place.false, c.volatile_count.ensures.0)

@@ -68,11 +68,11 @@ module _ (c : goal.After-block_at_in-a) where
 
 -- what the callee says of the block that it was lent
 tested : (c : goal.After-counts_zero)
-    → c.counts_zero.result ≡ test (read (goal.at.After-counts_zero c).After-block_at_in-a) c.loop-board.board
+    → c.counts_zero.result ≡ test (goal.at.After-counts_zero c).After-block_size_in-size c.loop-board.board
 tested c =
     c.counts_zero.ensures
-    ∙ rw (lent_block (form (read (goal.at.After-counts_zero c).After-block_at_in-a)) (bytes (read (goal.at.After-counts_zero c).After-block_at_in-a)) (pages_of (read (goal.at.After-counts_zero c).After-block_at_in-a)) c.loop-board.board _ _ c.block_at_in-a.ensures
-    (read (goal.at.After-counts_zero c).After-block_at_in-a).block_size_in-size.ensures)
+    ∙ rw (lent_block (form_of c.args.since) c.args.bank.now c.wide-pages.result c.loop-board.board _ _ c.block_at_in-a.ensures
+    c.block_size_in-size.ensures)
 
 pub bounds-bank-2 : goal.bounds-bank-2
 bounds-bank-2 c = omega (arith, (head_ok c.args.bank.now c.requires.1).size)
@@ -98,16 +98,22 @@ slice_bounds-counts_zero-end c = inside c
 
 pub counts_zero-requires : goal.counts_zero-requires
 counts_zero-requires c =
-    (omega (arith, sized (read (goal.at.counts_zero-requires c).After-block_at_in-a)), simp (length-take, length-drop) (omega (arith, inside (goal.at.counts_zero-requires c).After-block_at_in-a)), omega (arith, sized (read (goal.at.counts_zero-requires c).After-block_at_in-a)))
+    let after_block_at_in_a = (goal.at.counts_zero-requires c).After-block_at_in-a in
+    (omega (arith, sized (read after_block_at_in_a)), simp (length-take, length-drop) (omega (arith, inside after_block_at_in_a)), omega (arith, sized (read after_block_at_in_a)))
 
 pub returns-then-not-counts_zero : goal.returns-then-not-counts_zero
-returns-then-not-counts_zero c = below_stop _ _ _ (omega arith) (failed (tested (goal.at.returns-then-not-counts_zero c).After-counts_zero) c.if-not-counts_zero.true-raw) ∙ tests (read (goal.at.returns-then-not-counts_zero c).After-block_at_in-a)
+returns-then-not-counts_zero c =
+    let after_counts_zero = (goal.at.returns-then-not-counts_zero c).After-counts_zero in
+    let after_block_at_in_a = (goal.at.returns-then-not-counts_zero c).After-block_at_in-a in
+    below_stop _ _ _ (omega arith) (failed (tested after_counts_zero) c.if-not-counts_zero.true-raw) ∙ tests (read after_block_at_in_a)
 
 pub overflow_add-board : goal.overflow_add-board
 overflow_add-board c = omega (arith, sized (read (goal.at.overflow_add-board c).After-block_at_in-a))
 
 pub loop-board-preserved : goal.loop-board-preserved
-loop-board-preserved c = (omega arith, below_next _ _ c.loop-board.invariant.1 (passed (tested (goal.at.loop-board-preserved c).After-counts_zero) c.if-not-counts_zero.false-raw))
+loop-board-preserved c =
+    let after_counts_zero = (goal.at.loop-board-preserved c).After-counts_zero in
+    (omega arith, below_next _ _ c.loop-board.invariant.1 (passed (tested after_counts_zero) c.if-not-counts_zero.false-raw))
 
 pub returns : goal.returns
 returns c = below_end _ _ _ (omega arith) (omega arith) c.loop-board.invariant.1 ∙ tests (goal.at.returns c).After-block_size_in-size

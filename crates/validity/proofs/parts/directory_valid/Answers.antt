@@ -28,10 +28,14 @@ entry_valid-requires c = (simp (length-take, length-drop) (omega arith), omega a
 
 pub returns-then-not-entry_valid : goal.returns-then-not-entry_valid
 unfolding directory_valid
-returns-then-not-entry_valid c = below_stop _ _ _ (omega arith) (failed (tested (goal.at.returns-then-not-entry_valid c).After-entry_valid) c.if-not-entry_valid.true-raw)
+returns-then-not-entry_valid c =
+    let after_entry_valid = (goal.at.returns-then-not-entry_valid c).After-entry_valid in
+    below_stop _ _ _ (omega arith) (failed (tested after_entry_valid) c.if-not-entry_valid.true-raw)
 
 pub loop-page-preserved : goal.loop-page-preserved
-loop-page-preserved c = (omega arith, below_next _ _ c.loop-page.invariant.1 (passed (tested (goal.at.loop-page-preserved c).After-entry_valid) c.if-not-entry_valid.false-raw))
+loop-page-preserved c =
+    let after_entry_valid = (goal.at.loop-page-preserved c).After-entry_valid in
+    (omega arith, below_next _ _ c.loop-page.invariant.1 (passed (tested after_entry_valid) c.if-not-entry_valid.false-raw))
 
 pub returns : goal.returns
 unfolding directory_valid

@@ -31,7 +31,9 @@ returns-then-s-first c =
     (frame_page s c.args.second _ (omega arith) c.page_bits-then-s-first.ensures)
 
 pub returns-then-not-frame_valid : goal.returns-then-not-frame_valid
-returns-then-not-frame_valid c = first_failed _ (sym (failed (first (goal.at.returns-then-not-frame_valid c).After-frame_valid) c.if-not-frame_valid.true-raw))
+returns-then-not-frame_valid c =
+    let after_frame_valid = (goal.at.returns-then-not-frame_valid c).After-frame_valid in
+    first_failed _ (sym (failed (first after_frame_valid) c.if-not-frame_valid.true-raw))
 
 pub returns : goal.returns
 returns c =

@@ -26,10 +26,14 @@ frame_valid-requires c = simp (length-take, length-drop) (omega arith)
 
 pub returns-then-not-frame_valid : goal.returns-then-not-frame_valid
 unfolding frames_valid
-returns-then-not-frame_valid c = below_stop _ _ _ (omega arith) (failed (tested (goal.at.returns-then-not-frame_valid c).After-frame_valid) c.if-not-frame_valid.true-raw)
+returns-then-not-frame_valid c =
+    let after_frame_valid = (goal.at.returns-then-not-frame_valid c).After-frame_valid in
+    below_stop _ _ _ (omega arith) (failed (tested after_frame_valid) c.if-not-frame_valid.true-raw)
 
 pub loop-page-preserved : goal.loop-page-preserved
-loop-page-preserved c = (omega arith, below_next _ _ c.loop-page.invariant.1 (passed (tested (goal.at.loop-page-preserved c).After-frame_valid) c.if-not-frame_valid.false-raw))
+loop-page-preserved c =
+    let after_frame_valid = (goal.at.loop-page-preserved c).After-frame_valid in
+    (omega arith, below_next _ _ c.loop-page.invariant.1 (passed (tested after_frame_valid) c.if-not-frame_valid.false-raw))
 
 pub returns : goal.returns
 unfolding frames_valid

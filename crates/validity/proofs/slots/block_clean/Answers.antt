@@ -26,7 +26,8 @@ returns-then-not-rest_zero c = rw (failed (volatile_test (goal.at.returns-then-n
 pub returns-then-not-area_rest_zero : goal.returns-then-not-area_rest_zero
 unfolding block_clean
 returns-then-not-area_rest_zero c =
-    rw (passed (volatile_test (goal.at.returns-then-not-area_rest_zero c).After-rest_zero) c.if-not-rest_zero.false-raw, failed c.area_rest_zero.ensures c.if-not-area_rest_zero.true-raw)
+    let after_rest_zero = (goal.at.returns-then-not-area_rest_zero c).After-rest_zero in
+    rw (passed (volatile_test after_rest_zero) c.if-not-rest_zero.false-raw, failed c.area_rest_zero.ensures c.if-not-area_rest_zero.true-raw)
 
 pub returns : goal.returns
 unfolding block_clean

@@ -97,20 +97,26 @@ pub slice_bounds-block_clean-end : goal.slice_bounds-block_clean-end
 slice_bounds-block_clean-end c = inside c
 
 pub block_clean-requires : goal.block_clean-requires
-block_clean-requires c = (
-  simp (length-take, length-drop) (omega (arith, inside (goal.at.block_clean-requires c).After-block_at-a)),
-  omega (arith, sized (read (goal.at.block_clean-requires c).After-block_at-a)),
-  rw (lent (goal.at.block_clean-requires c).After-block_at-a) (counts (read (goal.at.block_clean-requires c).After-block_at-a) c.loop-board.board c.loop-board-test.true),
-)
+block_clean-requires c =
+    let after_block_at_a = (goal.at.block_clean-requires c).After-block_at-a in (
+      simp (length-take, length-drop) (omega (arith, inside after_block_at_a)),
+      omega (arith, sized (read after_block_at_a)),
+      rw (lent after_block_at_a) (counts (read after_block_at_a) c.loop-board.board c.loop-board-test.true),
+    )
 
 pub returns-then-not-block_clean : goal.returns-then-not-block_clean
-returns-then-not-block_clean c = below_stop _ _ _ (omega arith) (failed (tested (goal.at.returns-then-not-block_clean c).After-block_clean) c.if-not-block_clean.true-raw) ∙ tests (read (goal.at.returns-then-not-block_clean c).After-block_at-a)
+returns-then-not-block_clean c =
+    let after_block_clean = (goal.at.returns-then-not-block_clean c).After-block_clean in
+    let after_block_at_a = (goal.at.returns-then-not-block_clean c).After-block_at-a in
+    below_stop _ _ _ (omega arith) (failed (tested after_block_clean) c.if-not-block_clean.true-raw) ∙ tests (read after_block_at_a)
 
 pub overflow_add-board : goal.overflow_add-board
 overflow_add-board c = omega (arith, sized (read (goal.at.overflow_add-board c).After-block_at-a))
 
 pub loop-board-preserved : goal.loop-board-preserved
-loop-board-preserved c = (omega arith, below_next _ _ c.loop-board.invariant.1 (passed (tested (goal.at.loop-board-preserved c).After-block_clean) c.if-not-block_clean.false-raw))
+loop-board-preserved c =
+    let after_block_clean = (goal.at.loop-board-preserved c).After-block_clean in
+    (omega arith, below_next _ _ c.loop-board.invariant.1 (passed (tested after_block_clean) c.if-not-block_clean.false-raw))
 
 pub returns : goal.returns
 returns c = below_end _ _ _ (omega arith) (omega arith) c.loop-board.invariant.1 ∙ tests (goal.at.returns c).After-block_size-size

@@ -1,0 +1,22 @@
+-- `accesses::need::short_board` meets its contract: the loop's invariant says that no lower board is short. Assumes nothing.
+use mathlib.Core.Path.{◌≡◌, sym, ◌∙◌}
+use Prim.Native.Nat.{◌-◌, ◌≤◌, ◌<◌}
+use native.Mathlib.Omega.{arith}
+use lib.ListN.{length}
+use Rattle.model.specs.Definitions.Parts.{first_from, first_below}
+use Rattle.model.specs.Definitions.Codec.{decode}
+use Rattle.model.specs.Definitions.Steps.{Access}
+use Rattle.model.specs.Definitions.Calls.{short}
+use Rattle.copies.specs.Directory.{of_board}
+use Rattle.accesses.specs.Asks.{Lacking}
+use Rattle.accesses.specs.Needs.{found_at, found_none, search_on, search_begins, search_of}
+use Rattle.accesses.proofs.need.short_board.Given as goal
+
+abbrev pub invariant-loop-board : goal.invariant-loop-board
+invariant-loop-board l =
+    (l.board ≤ l.boards)
+    × ((a : Access) → Lacking l.pages a l.ask l.lacking (decode l.bank)
+    → first_below l.boards (short l.ask.board a (decode l.bank)) ≡ first_from l.board (l.boards - l.board) (short l.ask.board a (decode l.bank)))
+
+abbrev pub decreases-loop-board : goal.decreases-loop-board
+decreases-loop-board l = l.boards - l.board

@@ -1,0 +1,18 @@
+-- `accesses::replaying::owned_pages` meets its contract: the loop goes from the highest page down, and a page's bit comes in at the bottom. Assumes nothing.
+use Rattle.accesses.specs.Ends.{set_from, set_none, set_in, set_out, set_fits}
+use Rattle.copies.specs.Directory.{entry_at_lem, owner_told}
+use Rattle.model.specs.Definitions.Codec.{decode}
+use Rattle.model.specs.Definitions.Bank.{entry_at}
+use borrow.Author.Rules.{rules}
+use borrow.Author.Tests.{eq-eqb, ne_eqb}
+use lib.Dec.{eqb}
+use native.Mathlib.Omega.{arith}
+use Prim.Native.Nat.{◌-◌, ◌≤◌}
+use mathlib.Core.Path.{◌≡◌, sym, ◌∙◌}
+use Rattle.accesses.proofs.replaying.owned_pages.Given as goal
+
+abbrev pub invariant-loop-page : goal.invariant-loop-page
+invariant-loop-page l = (l.page ≤ l.pages) × (l.owned ≡ set_from (λ p. eqb (entry_at (decode l.bank) p).owner l.board) l.page (l.pages - l.page))
+
+abbrev pub decreases-loop-page : goal.decreases-loop-page
+decreases-loop-page l = l.page

@@ -1,0 +1,13 @@
+-- `checks::bank::board_count` meets its contract: the head has the number. Assumes nothing.
+use mathlib.Core.Path.{sym, ◌∙◌}
+use native.Mathlib.Omega.{arith}
+use Rattle.model.proofs.Laws.CodecBankBack.{decode_boards}
+use Rattle.model.specs.Definitions.Layout.{today}
+use Rattle.checks.specs.Head.{head_in}
+use Rattle.checks.proofs.bank.board_count.Goals as goal
+
+pub get-requires : goal.get-requires
+get-requires c = omega (arith, head_in _ c.requires)
+
+pub returns : goal.returns
+returns c = c.wide.ensures.0 ∙ (c.get.ensures ∙ sym (decode_boards today c.args.bank.now))
