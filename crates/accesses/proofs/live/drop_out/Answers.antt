@@ -6,7 +6,6 @@ use Rattle.model.specs.Definitions.Codec.{decode}
 use native.Mathlib.Omega.{arith}
 use lib.Count.{ones}
 use mathlib.Core.Path.{ap, ◌∙◌}
-use borrow.Author.Rules.{rules}
 use Rattle.accesses.proofs.live.drop_out.Goals as goal
 
 pub read_copies-requires : goal.read_copies-requires

@@ -6,7 +6,6 @@ use Rattle.model.specs.Definitions.Codec.{decode}
 use Rattle.exchange.specs.Progress.{running}
 use Rattle.accesses.specs.Results.{refusal}
 use Rattle.accesses.specs.Prepared.{live_refused, live_passed}
-use borrow.Author.Rules.{rules}
 use Rattle.accesses.proofs.live.live.Goals as goal
 
 pub live_verdict-verdict-requires : goal.live_verdict-verdict-requires

@@ -17,7 +17,6 @@ use Rattle.accesses.specs.Repeated.{frames, last_over, going_on, repeated_live, 
 use Rattle.accesses.specs.Repeated.{answered_repeated, answered_ended}
 use Prim.Native.Nat.{ℕ}
 use Rattle.accesses.specs.declared.ask.Ask.{Ask}
-use borrow.Author.Rules.{rules}
 use Rattle.accesses.proofs.replaying.replay.Goals.{After-replay_at-replayed}
 use Rattle.accesses.proofs.replaying.replay.Goals as goal
 
