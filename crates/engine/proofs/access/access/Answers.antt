@@ -1,5 +1,5 @@
 -- `engine::access::access` meets its contract: each return is one way through the call. Assumes nothing.
-use mathlib.Core.Path.{◌≡◌, refl, sym, ap, ◌∙◌}
+use mathlib.Core.Path.{◌≡◌, refl, ◌∙◌}
 use mathlib.Core.Bool.{true}
 use Prim.Native.Nat.{◌<◌}
 use native.Mathlib.Omega.{arith}
@@ -11,7 +11,6 @@ use Rattle.checks.specs.Admission.{numbers_fit, value_fits}
 use Rattle.engine.specs.Replies.{replied_few, refused_replied, found_replied}
 use Rattle.engine.specs.Admissions.{read_or_write, range_refused, flag_write, flag_read, page_fits, offset_fits, numbers}
 use Rattle.engine.specs.Cells.{few_pages}
-use borrow.Author.Rules.{rules}
 use Rattle.engine.proofs.access.access.Goals.{Else-not-numbers_fit, In-Board}
 use Rattle.engine.proofs.access.access.Goals as goal
 

@@ -1,6 +1,6 @@
 -- `engine::access::access_board` meets its contract: each return is one finding, or what the access answers. Assumes nothing.
 use mathlib.Core.Path.{◌≡◌, sym, ap, ◌∙◌}
-use mathlib.Core.Bool.{Bool, true, false}
+use mathlib.Core.Bool.{Bool, false}
 use Rattle.model.specs.Definitions.Bank.{board_at}
 use Rattle.model.specs.Definitions.Codec.{decode}
 use Rattle.model.specs.Definitions.WellFormed.{is_down, is_replaying}
@@ -8,7 +8,6 @@ use Rattle.model.specs.Definitions.Steps.{Access}
 use Rattle.checks.specs.Admission.{admission_of}
 use Rattle.engine.specs.Admissions.{WellAsked, asks_counted, answers_down, answers_full, answers_differs, replays, can_repeat, can_access}
 use Rattle.engine.specs.Admissions.{answers_repeated, answers_live}
-use borrow.Author.Rules.{rules}
 use Rattle.engine.proofs.access.access_board.Goals.{After-admit}
 use Rattle.engine.proofs.access.access_board.Goals as goal
 

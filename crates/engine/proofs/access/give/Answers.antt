@@ -4,7 +4,6 @@ use Rattle.model.specs.Definitions.Parts.{splice}
 use Rattle.model.proofs.Laws.Parts.{splice_all}
 use Rattle.model.proofs.Laws.Parts.{part_all}
 use Rattle.engine.specs.Cells.{when_done, when_other}
-use borrow.Author.Rules.{rules}
 use Rattle.engine.proofs.access.give.Goals as goal
 
 pub returns-then-is_done : goal.returns-then-is_done

@@ -3,7 +3,6 @@ use mathlib.Core.Path.{ap}
 use lib.Dec.{eqb}
 use Rattle.types.specs.declared.AnswerNumbers.{AnswerNumbers}
 use Rattle.model.specs.Definitions.Answers.{code}
-use borrow.Author.Rules.{rules}
 use Rattle.engine.proofs.access.is_done.Goals as goal
 
 pub returns : goal.returns

@@ -1,6 +1,5 @@
 -- `engine::access::read` meets its contract: the access by its flag. Assumes nothing.
 use Rattle.engine.specs.Admissions.{read_or_write}
-use borrow.Author.Rules.{rules}
 use Rattle.engine.proofs.access.read.Goals as goal
 
 pub returns : goal.returns

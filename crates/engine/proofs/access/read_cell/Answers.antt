@@ -3,7 +3,6 @@ use mathlib.Core.Path.{refl, sym}
 use Rattle.model.specs.Definitions.Steps.{Read}
 use Rattle.model.specs.Definitions.Calls.{wrong_cells}
 use Rattle.engine.specs.Cells.{one_cell, reads_within, read_asked, read_range, few_pages, asks_of, value_replied, byte_read}
-use borrow.Author.Rules.{rules}
 use Rattle.engine.proofs.access.read_cell.Goals as goal
 
 pub named_pages-requires : goal.named_pages-requires

@@ -10,7 +10,7 @@ use Rattle.model.specs.Definitions.Answers.{code}
 use Rattle.model.specs.Definitions.Parts.{every}
 use Rattle.model.specs.Definitions.Layout.{most_cells}
 use Rattle.model.specs.Definitions.Codec.{decode}
-use Rattle.model.specs.Definitions.Steps.{Access, ReadCells, cells_asked}
+use Rattle.model.specs.Definitions.Steps.{ReadCells, cells_asked}
 use Rattle.model.specs.Definitions.Calls.{Accessing, cell_in_range, access_in_range, wrong_cells}
 use Rattle.model.specs.Laws.Codes.Statement.{board_named}
 use Rattle.validity.specs.Search.{failed, passed}
@@ -18,7 +18,6 @@ use Rattle.checks.specs.Findings.{OnBoard, board_says, refusal_answer}
 use Rattle.engine.specs.Replies.{listed, replied_few, refused_replied, found_refused}
 use Rattle.engine.specs.Admissions.{range_refused, cells_refused}
 use Rattle.engine.specs.Cells.{cells_range, right_cells, buffer_kept, refusal_code}
-use borrow.Author.Rules.{rules}
 use Rattle.engine.proofs.access.read_cells.Goals.{After-cells_fit, Else-not-cells_fit, Else-wrong_cells, In-Board}
 use Rattle.engine.proofs.access.read_cells.Goals as goal
 

@@ -1,10 +1,9 @@
 -- `engine::access::show_cells` meets its contract: the bytes of a done access go on into the caller's buffer. Assumes nothing.
-use mathlib.Core.Path.{refl, sym, ◌∙◌}
+use mathlib.Core.Path.{refl, sym}
 use native.Mathlib.Omega.{arith}
 use lib.ListN.{length}
 use Rattle.model.specs.Definitions.Steps.{ReadCells, value_of}
 use Rattle.engine.specs.Cells.{all_cells, reads_within, read_asked, read_range, right_cells, few_pages, asks_of, plain_replied, buffer_left}
-use borrow.Author.Rules.{rules}
 use Rattle.engine.proofs.access.show_cells.Goals as goal
 
 pub named_pages-requires : goal.named_pages-requires

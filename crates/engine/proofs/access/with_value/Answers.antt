@@ -2,7 +2,6 @@
 use mathlib.Core.Path.{sym, ap, ◌∙◌}
 use Rattle.types.specs.declared.Answer.{Answer}
 use Rattle.engine.specs.Cells.{when_done, when_other}
-use borrow.Author.Rules.{rules}
 use Rattle.engine.proofs.access.with_value.Goals as goal
 
 pub returns-then-is_done : goal.returns-then-is_done

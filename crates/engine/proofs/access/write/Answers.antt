@@ -2,7 +2,6 @@
 use mathlib.Core.Path.{refl}
 use Rattle.model.proofs.Laws.Logic.{clash}
 use Rattle.engine.specs.Admissions.{read_or_write}
-use borrow.Author.Rules.{rules}
 use Rattle.engine.proofs.access.write.Goals as goal
 
 pub access-requires : goal.access-requires

@@ -2,7 +2,6 @@
 use mathlib.Core.Path.{refl, sym}
 use Rattle.model.specs.Definitions.Steps.{Write, value_of}
 use Rattle.engine.specs.Cells.{write_within, write_asked, write_range, few_pages, asks_of, plain_replied}
-use borrow.Author.Rules.{rules}
 use Rattle.engine.proofs.access.write_cell.Goals as goal
 
 pub named_pages-requires : goal.named_pages-requires

@@ -9,7 +9,6 @@ use Rattle.model.proofs.Laws.Keeps.Clauses.{up_not_replaying, is_up_up}
 use Rattle.validity.specs.Search.{failed, passed}
 use Rattle.checks.specs.Findings.{OnBoard, on_bank, on_formed, on_small, board_says}
 use Rattle.engine.specs.Replies.{refused_replied, found_replied, ended_replied, checkpoint_refused, checkpoint_done}
-use borrow.Author.Rules.{rules}
 use Rattle.engine.proofs.checkpoint.checkpoint.Goals.{Else-not-is_up, In-Board}
 use Rattle.engine.proofs.checkpoint.checkpoint.Goals as goal
 

@@ -2,16 +2,12 @@
 use mathlib.Core.Path.{◌≡◌, ◌∙◌}
 use native.Mathlib.Omega.{arith}
 use mathlib.Core.Bool.{true}
-use mathlib.Core.List.{List}
-use Prim.Native.Nat.{ℕ}
 use Rattle.model.specs.Definitions.Layout.{today}
 use Rattle.model.specs.Definitions.Older.{stale_well_formed}
 use Rattle.model.proofs.Laws.Clean.{cleaned, clean_refuses}
 use Rattle.validity.specs.Search.{failed, passed}
-use Rattle.conversion.specs.Formed.{FormedBank}
 use Rattle.engine.specs.Replies.{refused_replied, left_replied}
 use Rattle.engine.specs.Converting.{head_inside}
-use borrow.Author.Rules.{rules}
 use Rattle.engine.proofs.clean.clean.Goals.{Else-not-formed_in}
 use Rattle.engine.proofs.clean.clean.Goals as goal
 

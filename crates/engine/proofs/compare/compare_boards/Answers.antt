@@ -1,5 +1,4 @@
 -- `engine::compare::compare_boards` meets its contract: the lower of two boards is named first. Assumes nothing.
-use borrow.Author.Rules.{rules}
 use Rattle.engine.specs.Comparing.{in_order, other_order}
 use Rattle.engine.proofs.compare.compare_boards.Goals as goal
 

@@ -1,5 +1,4 @@
 -- `engine::compare::compare_in_order` meets its contract: the first place of the first direction that has one. Assumes nothing.
-use borrow.Author.Rules.{rules}
 use Rattle.engine.specs.Comparing.{first_place, second_place, no_place}
 use Rattle.engine.proofs.compare.compare_in_order.Goals as goal
 

@@ -6,7 +6,6 @@ use Rattle.model.specs.Laws.Codes.Statement.{board_named}
 use Rattle.checks.specs.Findings.{OnBoard, board_says}
 use Rattle.engine.specs.Replies.{refused_replied, found_replied}
 use Rattle.engine.specs.Comparing.{other_out, same_board, compare_done}
-use borrow.Author.Rules.{rules}
 use Rattle.engine.proofs.compare.compare_logs.Goals.{In-Board}
 use Rattle.engine.proofs.compare.compare_logs.Goals as goal
 

@@ -2,7 +2,6 @@
 use mathlib.Core.Path.{◌≡◌, sym, ◌∙◌}
 use native.Mathlib.Omega.{arith}
 use mathlib.Core.Bool.{true, false}
-use mathlib.Core.List.{List}
 use lib.ListN.{length}
 use lib.Dec.{eqb}
 use borrow.Author.Tests.{eq-eqb, ne_eqb}
@@ -10,11 +9,9 @@ use Rattle.model.specs.Definitions.Older.{older, older_well_formed, older_bank, 
 use Rattle.model.specs.Definitions.Parts.{byte_at}
 use Rattle.model.specs.Definitions.Layout.{boards_at, pages_at, bank_size}
 use Rattle.validity.specs.Search.{failed, passed}
-use Rattle.conversion.specs.Banks.{OlderBank}
 use Rattle.engine.specs.Replies.{refused_replied, done_replied}
 use Rattle.engine.specs.Converting.{convert_malformed, convert_length, convert_records, convert_done, formed_head, head_inside}
 use borrow.Author.Rules.{rules}
-use Prim.Native.Nat.{ℕ}
 use Rattle.model.proofs.Laws.CodecBankBack.{bytes_ok}
 use Rattle.engine.proofs.convert.convert.Goals.{After-wide-pages, Else-new-bank_size, Else-not-formed_in, Else-not-no_records}
 use Rattle.engine.proofs.convert.convert.Goals as goal

@@ -9,7 +9,6 @@ use Rattle.model.specs.Definitions.Calls.{Fusing}
 use Rattle.model.specs.Laws.Codes.Statement.{board_named}
 use Rattle.checks.specs.Findings.{OnBoard, on_small, board_says}
 use Rattle.engine.specs.Replies.{refused_replied, found_replied, done_replied, fuse_stores, fuse_down, fuse_done}
-use borrow.Author.Rules.{rules}
 use Rattle.engine.proofs.fuse.fuse.Goals.{Else-stores-ge-NO_FUSE, In-Board}
 use Rattle.engine.proofs.fuse.fuse.Goals as goal
 

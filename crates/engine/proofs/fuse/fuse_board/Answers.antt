@@ -9,7 +9,6 @@ use Rattle.model.specs.Definitions.Steps.{with_fuse, fuse_board}
 use Rattle.model.proofs.Laws.BoardFields.{with_fuse_fields}
 use Rattle.steps.specs.BankBlocks.{LentBlock, lent_in, lent_fields, lent_block, lent_step}
 use Rattle.copies.specs.Banks.{lent_of}
-use borrow.Author.Rules.{rules}
 use Rattle.engine.proofs.fuse.fuse_board.Goals.{After-block_size-size}
 use Rattle.engine.proofs.fuse.fuse_board.Goals as goal
 

@@ -5,7 +5,6 @@ use borrow.Author.Tests.{eq-eqb, ne_eqb}
 use Rattle.validity.specs.Search.{failed, passed}
 use Rattle.engine.specs.Replies.{refused_replied, done_replied}
 use Rattle.engine.specs.Making.{make_range, make_length, make_done}
-use borrow.Author.Rules.{rules}
 use Rattle.model.specs.Definitions.Check.{sizes_allowed}
 use Rattle.model.proofs.Laws.Fresh.{sizes_say}
 use Rattle.engine.proofs.make.make.Goals.{Else-not-sizes_allowed}

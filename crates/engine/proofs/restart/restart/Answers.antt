@@ -10,7 +10,6 @@ use Rattle.copies.specs.Banks.{holds_decode}
 use Rattle.checks.specs.Findings.{OnBoard, on_bank, on_formed, on_small, board_says}
 use Rattle.engine.specs.Replies.{refused_replied, found_replied}
 use Rattle.engine.specs.Restarts.{resumed_in_replay, resumed_of, restart_refused, goes_replied, ends_replied}
-use borrow.Author.Rules.{rules}
 use Rattle.engine.proofs.restart.restart.Goals.{Else-not-is_down, In-Board}
 use Rattle.engine.proofs.restart.restart.Goals as goal
 

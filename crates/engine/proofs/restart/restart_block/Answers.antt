@@ -6,7 +6,6 @@ use Rattle.steps.specs.Blocks.{board_of}
 use Rattle.steps.specs.BlockLaws.{block_length, board_written, block_written}
 use Rattle.steps.specs.Selected.{stored_number}
 use Rattle.engine.specs.Restarts.{restarted, restarted_fields}
-use borrow.Author.Rules.{rules}
 use Rattle.engine.proofs.restart.restart_block.Goals.{Start}
 use Rattle.engine.proofs.restart.restart_block.Goals as goal
 

@@ -7,7 +7,6 @@ use Rattle.model.specs.Definitions.Replay.{replay_over}
 use Rattle.steps.specs.BankBlocks.{LentBlock, lent_in, lent_fields, lent_block, lent_board}
 use Rattle.copies.specs.Banks.{lent_of, lent_holds}
 use Rattle.engine.specs.Restarts.{restarted, restarted_fields}
-use borrow.Author.Rules.{rules}
 use Rattle.engine.proofs.restart.restart_board.Goals.{After-block_size-size}
 use Rattle.engine.proofs.restart.restart_board.Goals as goal
 
