@@ -38,23 +38,32 @@ building() {
 }
 
 # The proved engine for C and Rust to link: $archive. Its proof is checked on the way, which takes a minute or more.
-# It stands on all crates but lines, script, cases and runner.
+# It stands on all crates but lines, script, cases and runner. `rt ci` removes what `rt lib` leaves in the crate's out/, so it is copied.
 build_archive() {
     archive=$root/target/staticlib/libbank.a
-    if newer "$archive" "$root/crates" "$root/crates.txt" ! -path "$root/crates/lines/*" ! -path "$root/crates/script/*" ! -path "$root/crates/cases/*" \
-        ! -path "$root/crates/runner/*"; then
+    if newer "$archive" "$root/crates" "$root/crates.txt" ! -path "$root/crates/*/out/*" ! -path "$root/crates/lines/*" ! -path "$root/crates/script/*" \
+        ! -path "$root/crates/cases/*" ! -path "$root/crates/runner/*"; then
         echo "building target/staticlib/libbank.a" >&2
-        proving bank env -C "$root" rt staticlib bank
+        proving bank env -C "$root/crates/bank" rt lib
+        place "$root/crates/bank/out/libbank.a" "$archive"
     fi
 }
 
-# The proved line runner: $runner. Its proof is checked on the way too.
+# The proved line runner: $runner. Its proof is checked on the way too, unless `rt ci` has left the program.
 build_runner() {
     runner=$root/target/bin/runner
-    if newer "$runner" "$root/crates" "$root/crates.txt" ! -path "$root/crates/cases/*"; then
-        echo "building target/bin/runner: all proofs below it are checked, which takes minutes" >&2
-        proving runner env -C "$root" rt check runner
+    if newer "$runner" "$root/crates" "$root/crates.txt" ! -path "$root/crates/*/out/*" ! -path "$root/crates/cases/*"; then
+        if newer "$root/crates/runner/out/runner" "$root/crates" "$root/crates.txt" ! -path "$root/crates/*/out/*" ! -path "$root/crates/cases/*"; then
+            echo "building target/bin/runner: all proofs below it are checked, which takes minutes" >&2
+            proving runner env -C "$root/crates/runner" rt run
+        fi
+        place "$root/crates/runner/out/runner" "$runner"
     fi
+}
+
+# place MADE FILE: puts what was made there, all at once.
+place() {
+    mkdir -p "$(dirname "$2")" && cp "$1" "$2.$$" && mv "$2.$$" "$2" || exit 2
 }
 
 # The second engine as a library of Rust: $second.

@@ -1,5 +1,5 @@
-# Sourced by build.sh: runs a command that proves crates and says on standard error how far it is. It goes by what `rt` leaves in target/log: NAME.res
-# from when it begins with a crate (failed, until it is proved), NAME.say only where there is something to prove.
+# Sourced by build.sh: runs a command that proves crates and says on standard error how far it is. `rt` takes them one after the other, and it goes by what
+# that leaves: in crates/NAME/out it makes rlib anew when it begins with a crate that has something to prove, and rlib/stamp when that is proved.
 
 # plan NAME: the crates that NAME stands on, one to a line, and NAME at the end.
 plan() {
@@ -12,7 +12,7 @@ plan() {
             print name
         }
         { sub(/#.*/, "") }
-        NF > 1 { gsub(/[ \t]/, "", $1); uses[$1] = $2 }
+        NF > 1 { sub(/^[ \t]+/, "", $1); sub(/[ \t].*/, "", $1); uses[$1] = $2 }
         END { visit(ENVIRON["NAME"]) }' "$root/crates.txt"
 }
 
@@ -34,29 +34,37 @@ numbered() { printf "[%${#total}d/%d] %s, %s" "$count" "$total" "$1" "$(elapsed)
 # finish NAME: counts the crate. Where lines stay it gets one, unless it was proved before.
 finish() {
     finished="$finished$1 " count=$((count + 1))
-    if ! rewritable && newer "$mark" "$root/target/log/$1.say" 2>/dev/null; then
+    if ! rewritable && [ -n "$(find "$root/crates/$1/out" -maxdepth 0 -newer "$mark" 2>/dev/null)" ]; then
         printf '%s\n' "$(numbered "$1")" >&2
     fi
 }
 
-# Finishes the crates that are proved by now; `now` has those that were begun, `next` the first of the others.
+# Finishes the crates that are proved by now, with all before the last that was begun; `now` has that one if it isn't proved, `next` the first of the others.
 look() {
-    results=$(find "$root/target/log" -name '*.res' -newer "$mark" -exec grep -H '' {} + 2>/dev/null)
+    begun=$(find "$root/crates" -mindepth 2 -maxdepth 2 -name out -newer "$mark" 2>/dev/null)
+    stamped=$(find "$root/crates" -mindepth 4 -maxdepth 4 -path '*/out/rlib/stamp' -cnewer "$mark" 2>/dev/null)
+    last=''
+    for crate in $plan; do
+        case $begun$stamped in *"/crates/$crate/out"*) last=$crate ;; esac
+    done
     now='' next=''
     for crate in $plan; do
-        case $finished in *" $crate "*) continue ;; esac
-        case $results in
-        *"/$crate.res:proved"* | *"/$crate.res:built"*) finish "$crate" ;;
-        *"/$crate.res:"*) now="$now${now:+, }$crate" ;;
-        *) next=${next:-$crate} ;;
-        esac
+        case $finished in *" $crate "*) [ "$crate" != "$last" ] || last=''; continue ;; esac
+        if [ -z "$last" ]; then
+            next=${next:-$crate}
+        elif [ "$crate" != "$last" ]; then
+            finish "$crate"
+        else
+            last=''
+            case $stamped in *"/crates/$crate/out/rlib/stamp"*) finish "$crate" ;; *) now=$crate ;; esac
+        fi
     done
 }
 
-# Says what is waited for. Between two crates that is the next one; once all are proved, `rt` runs a program's scripts.
+# Says what is waited for. Between two crates that is the next one.
 tell() {
     look
-    rewrite "$(numbered "${now:-${next:-its scripts are run}}")"
+    rewrite "$(numbered "${now:-$next}")"
 }
 
 # stop SIGNAL: ends the command and all that it started, then this shell as the signal would have.
@@ -88,9 +96,10 @@ proving() {
     wait "$command"
     status=$?
     if [ "$status" -eq 0 ]; then
-        look
-        # An archive's own crate leaves no NAME.res.
-        [ -z "$next" ] || finish "$next"
+        # The last crate is no library, and leaves no stamp.
+        for crate in $plan; do
+            case $finished in *" $crate "*) ;; *) finish "$crate" ;; esac
+        done
     fi
     trap - INT TERM HUP
     rm -f "$mark"

@@ -4,4 +4,3 @@ pub mod Results
 pub mod BlockReplay
 pub mod Ends
 pub mod Prepared
-pub mod Repeated

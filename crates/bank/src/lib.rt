@@ -1,5 +1,6 @@
 // The calls for C: a bank is a pointer and a length, an answer one number (`pack`). Nothing is asked of the bytes.
 #![tactic(auto)]
+
 ghost use Rattle.std.specs.Prelude.{◌≡◌, length};
 ghost use Rattle.model.specs.Definitions.Steps.{Read, Write, ReadCells};
 ghost use Rattle.model.specs.Definitions.Calls.{make as making, call, buffer_after, Accessing, Checkpointing, Fusing, Restarting, Comparing};

@@ -1,21 +1,20 @@
 -- The tests on entry of an access, as the code makes them, and what each finding says of the call. Assumes nothing.
 use Rattle.std.proofs.Math.Path.{◌≡◌, refl}
 use Rattle.std.proofs.Common.{sym, ap, ◌∙◌, arith, lt-ltb, ltb-true}
-use Rattle.std.specs.Prelude.{◌≢◌, ℕ, ◌<◌, Bool, true, false, ◌&&◌, not, List, [], ◌∷◌, length, ltb}
+use Rattle.std.specs.Prelude.{◌≢◌, ℕ, ◌<◌, Bool, true, false, ◌&&◌, not, List, [], length, ltb}
 use Rattle.std.proofs.Math.Option.{none}
-use Rattle.words.specs.Bytes.{Each, each_nil, each_cons}
 use Rattle.types.specs.declared.State.{State}
 use Rattle.types.specs.declared.State.TheVariants.{Replaying}
 use Rattle.types.specs.declared.Answer.{Answer}
 use Rattle.types.specs.declared.Answer.TheVariants.{OutOfRange, WrongCells, WrongState, CountersFull, ReplayDiffers}
 use Rattle.types.specs.declared.Outcome.{Outcome}
 use Rattle.model.specs.Definitions.Answers.{code}
-use Rattle.model.specs.Definitions.Parts.{every, member}
+use Rattle.model.specs.Definitions.Parts.{every}
 use Rattle.model.specs.Definitions.Layout.{byte_values, page_size, last_since}
 use Rattle.model.specs.Definitions.Bank.{Board, Bank, board_at}
 use Rattle.model.specs.Definitions.Codec.{decode}
 use Rattle.model.specs.Definitions.WellFormed.{is_down, is_replaying}
-use Rattle.model.specs.Definitions.Steps.{start, Cell, Access, Read, Write, ReadCells, cells_asked, cells_read, cells_written, any_cell, any_write, names, takes}
+use Rattle.model.specs.Definitions.Steps.{start, Access, Read, Write, cells_asked, cells_read, cells_written}
 use Rattle.model.specs.Definitions.Replay.{differs}
 use Rattle.model.specs.Definitions.Calls.{Result, first_given, unless, live, replaying, cell_in_range, access_in_range, wrong_cells, counters_full, refusals_within}
 use Rattle.model.specs.Definitions.Calls.{access_refusals, access_within, access_bank, refused, Accessing, call_within, call_bank, call}
@@ -24,13 +23,11 @@ use Rattle.model.proofs.Laws.Keeps.Clauses.{is_replaying_replaying}
 use Rattle.model.specs.Clauses.{IsBank}
 use Rattle.model.proofs.Laws.Keeps.Entered.{entered_live, entered, fitting}
 use Rattle.model.specs.Likeness.{on_value}
-use Rattle.fields.specs.Cells.{CellIn}
-use Rattle.steps.specs.Asked.{got, Takes, wrote_byte}
 use Rattle.exchange.specs.Progress.{running}
 use Rattle.accesses.specs.declared.ask.Ask.{Ask}
-use Rattle.accesses.specs.Asks.{Stands, Goes, Enters, Asks, InRange}
+use Rattle.accesses.specs.Asks.{Stands, Goes, Enters, Asks}
 use Rattle.accesses.specs.Results.{Answered}
-use Rattle.checks.specs.Findings.{OnBoard, on_bank, on_formed}
+use Rattle.checks.specs.Findings.{OnBoard}
 use Rattle.checks.specs.Admission.{numbers_fit, admission_of}
 use Rattle.engine.specs.Replies.{call_refused, listed}
 use Rattle.checks.specs.declared.admission.Admission.{Admission}

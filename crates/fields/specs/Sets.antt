@@ -1,6 +1,6 @@
 -- A set as a number, by arithmetic: a member is a digit, joining adds a power of two and leaving takes it away. By induction on the lowest digit,
 -- so for any width. Assumes nothing.
-use Rattle.std.specs.Prelude.{◌≡◌, ℕ, zero, suc, ◌+◌, ◌*◌, ◌-◌, ◌/◌, ◌%◌, ◌^◌, true, false, eqb}
+use Rattle.std.specs.Prelude.{◌≡◌, ℕ, zero, suc, ◌+◌, ◌*◌, ◌/◌, ◌%◌, ◌^◌, true, false, eqb}
 use Rattle.std.proofs.Common.{pow-suc, div-one, arith, eq-eqb, eqb-true}
 use Rattle.std.proofs.Math.Nat.{pow-succ', div-div-eq-div-mul}
 use Rattle.model.specs.Definitions.Parts.{member, with_member, without_member}

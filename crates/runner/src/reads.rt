@@ -1,12 +1,19 @@
 // One input, read by read: what a read prints is written out before the next one.
-ghost use Rattle.std.specs.Prelude.{◌+◌, ◌*◌, ◌≤◌, length};
+ghost use Rattle.std.specs.Prelude.{◌+◌, ◌-◌, ◌*◌, ◌^◌, ◌≤◌, ◌<◌, ◌≡◌, true, length, OnOk, IfOk, IfErr, IfSome};
+ghost use Rattle.std.specs.Io.KnownBytes.{Appends, Keeps};
 ghost use Rattle.lines.specs.Clauses.{most_line, most_last};
-ghost use Rattle.script.specs.Clauses.{InBuffers, Buffers};
+ghost use Rattle.script.specs.Definitions.Runner.{run};
+ghost use Rattle.script.specs.Feeding.{finish};
+ghost use Rattle.script.specs.Clauses.{InBuffers, Buffers, machine_of};
+ghost use Rattle.lines.specs.Definitions.Tally.{stopped};
+ghost use Rattle.runner.specs.declared.reads.Next.TheVariants.{End};
+ghost use Rattle.runner.specs.Reads.{IfInput, PrintedSoFar, Turned};
 
-use libc::STDOUT_FILENO;
 use lines::tally::stopped;
 use script::feed::{Machine, start};
 use script::stream::{BANK_BUFFER, LINE_BUFFER, OUT_PER_BYTE, end_input, feed_read};
+use std::io;
+use std::io::{Read, Write};
 
 // How much is read at once.
 const READ_BUFFER: usize = 4096;
@@ -14,12 +21,18 @@ const READ_BUFFER: usize = 4096;
 // The end of input prints a line and three numbers: less than two bytes more of input may print.
 const OUT_BUFFER: usize = OUT_PER_BYTE * (READ_BUFFER + 2);
 
+// A read or a write that failed.
+#[derive(Debug, Drop)]
+pub enum Failure {
+    Input(io::Error),
+    Output(io::Error),
+}
+
 // What comes after a read.
 #[derive(Clone, Copy)]
 enum Next {
     Read,
     End,
-    Failed,
 }
 
 #[derive(Clone, Copy)]
@@ -28,105 +41,121 @@ struct Turn {
     next: Next,
 }
 
-// Writes all that was printed, or says why it can't.
-fn write_out(printed: &[u8]) -> bool {
-    let is_written = io::write_all(STDOUT_FILENO, printed);
-    if !is_written {
-        os::fail(b"standard output");
+// Writes all that was printed.
+fn write_out<W: Write>(output: &mut W, printed: &[u8]) -> Result<(), Failure>
+    ensures ok { OnOk result (Appends (W.contents output.old) (W.contents output.new) printed.now) }
+    ensures err { IfErr result (λ e. IfInput e ⊥) }
+{
+    match output.write_all(printed) {
+        Ok(()) => Ok(()),
+        Err(error) => Err(Failure::Output(error)),
     }
-    is_written
 }
 
-// After a write: nothing more where it failed or where the runner has stopped reading.
-fn next_of(is_written: bool, machine: Machine) -> Next {
-    if !is_written {
-        return Next::Failed;
-    }
+// After a write: nothing more where the runner has stopped reading.
+fn next_of(machine: Machine) -> Next
+    ensures { result ≡ End → stopped machine.progress.tally ≡ true }
+{
     let progress = machine.progress;
-    let tally = progress.tally;
-    if stopped(tally) {
-        return Next::End;
+    if stopped(progress.tally) {
+        Next::End
+    } else {
+        Next::Read
     }
-    Next::Read
 }
 
 // Reads once, feeds what came and writes out what it prints.
-fn run_read(
-    fd: i32,
-    name: &[u8],
-    input: &mut [u8],
+fn run_read<R: Read, W: Write>(
+    input: &mut R,
+    output: &mut W,
+    buffer: &mut [u8],
     line: &mut [u8],
     bank: &mut [u8],
     out: &mut [u8],
     from: Machine,
-) -> Turn
-    requires { InBuffers line.old bank.old from × (most_line * length input.old ≤ length out.old) }
-    ensures { InBuffers line.new bank.new result.machine }
+) -> Result<Turn, Failure>
+    requires { InBuffers line.old bank.old from × (most_line * length buffer.old ≤ length out.old) }
+    ensures ok { IfOk result (λ t. Turned t (length buffer.old) from line.old bank.old line.new
+        bank.new (R.remaining input.old) (R.remaining input.new) (W.contents output.old) (W.contents output.new)) }
+    ensures err { IfErr result (λ e. IfInput e (Keeps (R.remaining input.old) (R.remaining input.new)
+        × Keeps (W.contents output.old) (W.contents output.new))) }
 {
-    let got = libc::read(fd, input);
-    if got < 0 {
-        os::fail(name);
-        return Turn {
-            machine: from,
-            next: Next::Failed,
-        };
-    }
-    let n = io::count(got, input);
+    let n = match input.read(buffer) {
+        Ok(n) => n,
+        Err(error) => return Err(Failure::Input(error)),
+    };
     if n == 0 {
-        return Turn {
+        return Ok(Turn {
             machine: from,
             next: Next::End,
-        };
+        });
     }
-    let machine = feed_read(&input[..n], line, bank, out, from);
+    let machine = feed_read(&buffer[..n], line, bank, out, from);
     let progress = machine.progress;
     let end = progress.at;
-    let is_written = write_out(&out[..end]);
-    Turn {
+    write_out(output, &out[..end])?;
+    Ok(Turn {
         machine,
-        next: next_of(is_written, machine),
-    }
+        next: next_of(machine),
+    })
 }
 
 // The end of input: a last line without its byte 10, and the three numbers.
-fn run_end(line: &[u8], bank: &mut [u8], out: &mut [u8], from: Machine) -> bool
+fn run_end<W: Write>(
+    output: &mut W,
+    line: &[u8],
+    bank: &mut [u8],
+    out: &mut [u8],
+    from: Machine,
+) -> Result<(), Failure>
     requires { InBuffers line.now bank.old from × (most_line + most_last ≤ length out.old) }
+    ensures ok { OnOk result (Appends (W.contents output.old) (W.contents output.new)
+        (finish (machine_of line.now bank.old from))) }
+    ensures err { IfErr result (λ e. IfInput e ⊥) }
 {
     let end = end_input(line, bank, out, from);
-    write_out(&out[..end])
+    write_out(output, &out[..end])
 }
 
 // All reads, then the end of input. A proved loop has to end and nothing says that an input does, so it counts down from a number that no run uses up.
-fn run_reads(
-    fd: i32,
-    name: &[u8],
-    input: &mut [u8],
+fn run_reads<R: Read, W: Write>(
+    input: &mut R,
+    output: &mut W,
+    buffer: &mut [u8],
     line: &mut [u8],
     bank: &mut [u8],
     out: &mut [u8],
-) -> bool
-    requires { Buffers (length input.old) line.old bank.old out.old }
+) -> Result<(), Failure>
+    requires { Buffers (length buffer.old) line.old bank.old out.old }
+    ensures ok { OnOk result (IfSome (R.remaining input.old) (λ cs. 0 < length buffer.old
+        → length cs < 2 ^ 64 - 1 → Appends (W.contents output.old) (W.contents output.new) (run cs))) }
+    ensures err { IfErr result (λ e. IfInput e (PrintedSoFar (R.remaining input.old)
+        (R.remaining input.new) (W.contents output.old) (W.contents output.new))) }
 {
     let mut machine = start();
     let mut turns = u64::MAX;
     while 0 < turns {
-        let turn = run_read(fd, name, input, line, bank, out, machine);
-        let next = turn.next;
+        let turn = run_read(input, output, buffer, line, bank, out, machine)?;
         machine = turn.machine;
-        match next {
+        match turn.next {
             Next::Read => turns -= 1,
-            Next::End => return run_end(line, bank, out, machine),
-            Next::Failed => return false,
+            Next::End => return run_end(output, line, bank, out, machine),
         }
     }
-    run_end(line, bank, out, machine)
+    run_end(output, line, bank, out, machine)
 }
 
-// A whole input. Whether it was run to its end. It promises nothing: no contract can say what is read and written, and the buffers are its own.
-pub fn run_input(fd: i32, name: &[u8]) -> bool {
-    let mut input = [0u8; READ_BUFFER];
+// A whole input. Of a reader and a writer whose bytes are known: what is written is `run` of what is read, however it is cut into reads. Where a read fails,
+// what was written is what the bytes before it print.
+pub fn run_input<R: Read, W: Write>(input: &mut R, output: &mut W) -> Result<(), Failure>
+    ensures ok { OnOk result (IfSome (R.remaining input.old) (λ cs. length cs < 2 ^ 64 - 1
+        → Appends (W.contents output.old) (W.contents output.new) (run cs))) }
+    ensures err { IfErr result (λ e. IfInput e (PrintedSoFar (R.remaining input.old)
+        (R.remaining input.new) (W.contents output.old) (W.contents output.new))) }
+{
+    let mut buffer = [0u8; READ_BUFFER];
     let mut line = [0u8; LINE_BUFFER];
     let mut bank = [0u8; BANK_BUFFER];
     let mut out = [0u8; OUT_BUFFER];
-    run_reads(fd, name, &mut input, &mut line, &mut bank, &mut out)
+    run_reads(input, output, &mut buffer, &mut line, &mut bank, &mut out)
 }

@@ -1,6 +1,6 @@
 -- What each call costs (document 02, F-9): on any well-formed bank its stores, and what the bank then owes (Owed), are at most what the bank owed before and
 -- what the call costs. Assumes nothing.
-use Rattle.std.specs.Prelude.{◌≡◌, Bool, true, false, length}
+use Rattle.std.specs.Prelude.{◌≡◌, Bool, false, length}
 use Rattle.std.proofs.Math.Path.{refl, ap}
 use Rattle.std.proofs.Common.{◌∙◌}
 use Prim.Native.Nat.{ℕ, zero, suc, ◌+◌, ◌*◌, ◌≤◌, ◌<◌}

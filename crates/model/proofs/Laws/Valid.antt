@@ -5,7 +5,7 @@ use Rattle.std.proofs.Common.{sym, ap, ◌∙◌, arith, length-append, length-s
 use Rattle.std.proofs.Math.Decide.{dec_lt}
 use Rattle.std.proofs.lemmas.List.{length-map}
 use Rattle.std.proofs.Math.Seq.{set_out}
-use Rattle.words.specs.Bytes.{Each, each_nil, each_cons}
+use Rattle.words.specs.Bytes.{each_nil, each_cons}
 use Rattle.types.specs.declared.Right.{Right}
 use Rattle.types.specs.declared.Right.TheVariants.{None, Copy, Own}
 use Rattle.types.specs.declared.Frame.{Frame}

@@ -1,5 +1,5 @@
 -- One line's work in a buffer that holds the largest bank. Assumes nothing.
-use Rattle.std.specs.Prelude.{◌≡◌, refl, ℕ, ◌+◌, ◌*◌, ◌≤◌, true, false, List, [], ◌++◌, length, drop}
+use Rattle.std.specs.Prelude.{◌≡◌, refl, ℕ, ◌*◌, ◌≤◌, true, false, List, [], ◌++◌, length, drop}
 use Rattle.std.proofs.Common.{sym, ◌∙◌, mul-le-mul, arith, eq-eqb, ne_eqb}
 use Rattle.std.proofs.Math.Path.{ap}
 use Rattle.std.proofs.lemmas.List.{length-replicate}

@@ -1,5 +1,4 @@
 -- `accesses::blocks::perform_cells` meets its contract. Assumes nothing.
-use borrow.Author.Rules.{rules}
 use Rattle.accesses.proofs.blocks.perform_cells.Goals as goal
 
 pub returns : goal.returns

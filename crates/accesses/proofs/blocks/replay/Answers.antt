@@ -16,8 +16,7 @@ use Rattle.steps.specs.BlockLaws.{board_written, block_written}
 use Rattle.replay.specs.Got.{took_due_fields}
 use Rattle.accesses.specs.Asks.{Stands}
 use Rattle.accesses.specs.BlockReplay.{Repeats, taken_number, taken_since, taken_writable, repeated_fields}
-use Rattle.accesses.specs.Repeated.{to_live, to_last, to_going}
-use borrow.Author.Rules.{rules}
+use Rattle.accesses.proofs.Repeated.{to_live, to_last, to_going}
 use Rattle.accesses.proofs.blocks.replay.Goals.{After-replay_access, After-take_due, Else-replay_over, Start}
 use Rattle.accesses.proofs.blocks.replay.Goals as goal
 

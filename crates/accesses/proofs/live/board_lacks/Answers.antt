@@ -6,7 +6,6 @@ use Rattle.model.specs.Definitions.Codec.{decode}
 use Rattle.model.specs.Definitions.Bank.{Board}
 use native.Mathlib.Omega.{arith}
 use mathlib.Core.Path.{ap, ◌∙◌}
-use borrow.Author.Rules.{rules}
 use Rattle.accesses.proofs.live.board_lacks.Goals.{After-block_size-size}
 use Rattle.accesses.proofs.live.board_lacks.Goals as goal
 

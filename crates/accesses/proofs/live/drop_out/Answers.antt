@@ -1,12 +1,11 @@
 -- `accesses::live::drop_out` meets its contract: the ones of the copy-set are counted. Assumes nothing.
-use Rattle.accesses.specs.Prepared.{out_none, out_some, copies_none, copies_some}
+use Rattle.accesses.proofs.Prepared.{out_none, out_some, copies_none, copies_some}
 use Rattle.copies.specs.Directory.{entry_at_lem, copies_told}
 use Rattle.copies.specs.Banks.{of_holds}
 use Rattle.model.specs.Definitions.Codec.{decode}
 use native.Mathlib.Omega.{arith}
 use lib.Count.{ones}
 use mathlib.Core.Path.{ap, ◌∙◌}
-use borrow.Author.Rules.{rules}
 use Rattle.accesses.proofs.live.drop_out.Goals as goal
 
 pub read_copies-requires : goal.read_copies-requires

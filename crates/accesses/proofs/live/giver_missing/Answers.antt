@@ -1,7 +1,6 @@
 -- `accesses::live::giver_missing` meets its contract. Assumes nothing.
 use mathlib.Core.Path.{sym, ◌∙◌}
 use Rattle.copies.specs.Directory.{of_owner}
-use borrow.Author.Rules.{rules}
 use Rattle.accesses.proofs.live.giver_missing.Goals as goal
 
 pub nobody_gives-requires : goal.nobody_gives-requires

@@ -5,8 +5,7 @@ use Rattle.accesses.specs.declared.ask.Verdict.TheVariants.{Pass, Refuse}
 use Rattle.model.specs.Definitions.Codec.{decode}
 use Rattle.exchange.specs.Progress.{running}
 use Rattle.accesses.specs.Results.{refusal}
-use Rattle.accesses.specs.Prepared.{live_refused, live_passed}
-use borrow.Author.Rules.{rules}
+use Rattle.accesses.proofs.Prepared.{live_refused, live_passed}
 use Rattle.accesses.proofs.live.live.Goals as goal
 
 pub live_verdict-verdict-requires : goal.live_verdict-verdict-requires

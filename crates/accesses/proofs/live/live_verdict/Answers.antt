@@ -7,8 +7,7 @@ use Rattle.model.specs.Definitions.Codec.{decode}
 use Rattle.copies.specs.Directory.{entry_at_lem, owner_told}
 use Rattle.accesses.specs.Asks.{Lacking}
 use Rattle.accesses.specs.Results.{refusal}
-use Rattle.accesses.specs.Prepared.{refuses_owner, refuses_short, refuses_none, passes_idle}
-use borrow.Author.Rules.{rules}
+use Rattle.accesses.proofs.Prepared.{refuses_owner, refuses_short, refuses_none, passes_idle}
 use Rattle.accesses.proofs.live.live_verdict.Goals as goal
 
 pub returns-then-not-writes : goal.returns-then-not-writes

@@ -1,15 +1,12 @@
 -- `accesses::live::missing_page` meets its contract: the loop's invariant says that no lower page is found. Assumes nothing.
-use mathlib.Core.Path.{◌≡◌, sym, ◌∙◌}
+use mathlib.Core.Path.{◌≡◌}
 use Prim.Native.Nat.{ℕ, ◌-◌, ◌≤◌}
 use mathlib.Core.Bool.{Bool, ◌&&◌}
 use mathlib.Core.List.{List}
-use native.Mathlib.Omega.{arith}
 use Rattle.model.specs.Definitions.Parts.{first_from, first_below, member}
 use Rattle.model.specs.Definitions.Codec.{decode}
 use Rattle.model.specs.Definitions.Calls.{nobody_gives}
 use Rattle.steps.specs.Asked.{got}
-use Rattle.accesses.specs.Needs.{found_at, found_none, search_on, search_begins}
-use borrow.Author.Rules.{rules}
 use Rattle.accesses.proofs.live.missing_page.Given as goal
 
 -- what the search tests

@@ -5,8 +5,7 @@ use Rattle.model.specs.Definitions.Steps.{owner_up}
 use Rattle.model.specs.Definitions.Calls.{nobody_gives}
 use Rattle.steps.specs.Asked.{got}
 use Rattle.copies.specs.Directory.{entry_at_lem, owner_told, copies_told}
-use Rattle.accesses.specs.Prepared.{given_up, copies_counted}
-use borrow.Author.Rules.{rules}
+use Rattle.accesses.proofs.Prepared.{given_up, copies_counted}
 use Rattle.accesses.proofs.live.nobody_gives.Goals as goal
 
 pub read_owner-owner-requires : goal.read_owner-owner-requires

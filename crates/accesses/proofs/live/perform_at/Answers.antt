@@ -8,7 +8,6 @@ use Rattle.model.specs.Definitions.Bank.{Board, on_working}
 use native.Mathlib.Omega.{arith}
 use mathlib.Core.Path.{ap, ◌∙◌}
 use mathlib.Core.List.{map}
-use borrow.Author.Rules.{rules}
 use Rattle.accesses.proofs.live.perform_at.Goals.{After-block_size-size}
 use Rattle.accesses.proofs.live.perform_at.Goals as goal
 

@@ -3,9 +3,8 @@ use mathlib.Core.Path.{sym}
 use native.Mathlib.Omega.{arith}
 use Rattle.model.proofs.Laws.Keeps.Rights as rights
 use Rattle.model.proofs.Laws.Keeps.Live.{can_fetch}
-use Rattle.accesses.specs.Prepared.{asks_frames, pages_lacking_lem, one_lacking, prepared_fetch, prepared_own_write, prepared_local_read}
-use Rattle.accesses.specs.Prepared.{holder_space, came_idle}
-use borrow.Author.Rules.{rules}
+use Rattle.accesses.proofs.Prepared.{asks_frames, pages_lacking_lem, one_lacking, prepared_fetch, prepared_own_write, prepared_local_read}
+use Rattle.accesses.proofs.Prepared.{holder_space, came_idle}
 use Rattle.accesses.proofs.live.prepare.Goals as goal
 
 pub fetch-requires : goal.fetch-requires

@@ -6,8 +6,7 @@ use Rattle.model.specs.Definitions.Bank.{board_at}
 use Rattle.model.specs.Definitions.Codec.{decode}
 use Rattle.model.specs.Definitions.Steps.{Cell, cell_byte, read_from}
 use Rattle.exchange.specs.Progress.{loss_of}
-use Rattle.accesses.specs.Prepared.{ahead_of, ahead_ready, answered_lost, answered_done}
-use borrow.Author.Rules.{rules}
+use Rattle.accesses.proofs.Prepared.{ahead_of, ahead_ready, answered_lost, answered_done}
 use Rattle.accesses.proofs.live.proceed.Goals as goal
 
 pub prepare-progress-requires : goal.prepare-progress-requires

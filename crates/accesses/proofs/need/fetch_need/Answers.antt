@@ -2,7 +2,6 @@
 use Rattle.accesses.specs.Needs.{need_taker, need_giver_writing, need_giver_reading, need_holder, need_other}
 use native.Mathlib.Omega.{arith}
 use mathlib.Core.Path.{◌∙◌}
-use borrow.Author.Rules.{rules}
 use Rattle.accesses.proofs.need.fetch_need.Goals as goal
 
 pub returns-then-board-taker : goal.returns-then-board-taker

@@ -2,7 +2,6 @@
 use Rattle.accesses.specs.Needs.{held_one, held_none}
 use mathlib.Core.Path.{sym, ◌∙◌}
 use native.Mathlib.Omega.{arith}
-use borrow.Author.Rules.{rules}
 use Rattle.accesses.proofs.need.holder_need.Goals as goal
 
 pub returns-then-holds : goal.returns-then-holds

@@ -1,14 +1,11 @@
 -- `accesses::need::need` meets its contract. The loop's invariant: what is added up so far and what is left make the sum. Assumes nothing.
-use mathlib.Core.Path.{◌≡◌, ◌∙◌}
+use mathlib.Core.Path.{◌≡◌}
 use Prim.Native.Nat.{◌+◌, ◌*◌, ◌-◌, ◌≤◌}
-use native.Mathlib.Omega.{arith}
 use Rattle.model.specs.Definitions.Parts.{sum_from, sum_below}
 use Rattle.model.specs.Definitions.Codec.{decode}
 use Rattle.model.specs.Definitions.Steps.{Access}
 use Rattle.model.specs.Definitions.Calls.{page_need}
 use Rattle.accesses.specs.Asks.{Lacking}
-use Rattle.accesses.specs.Needs.{sum_begins, sum_on, sum_ends, need_written, need_zero, need_of}
-use borrow.Author.Rules.{rules}
 use Rattle.accesses.proofs.need.need.Given as goal
 
 abbrev pub invariant-loop-page : goal.invariant-loop-page

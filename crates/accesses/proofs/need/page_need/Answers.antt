@@ -3,7 +3,6 @@ use mathlib.Core.Path.{sym, ◌∙◌}
 use native.Mathlib.Omega.{arith}
 use Rattle.copies.specs.Directory.{entry_at_lem, copies_told, of_owner}
 use Rattle.accesses.specs.Needs.{need_fetch, need_own_write, need_other_page, need_nothing}
-use borrow.Author.Rules.{rules}
 use Rattle.accesses.proofs.need.page_need.Goals as goal
 
 pub giver-giver-requires : goal.giver-giver-requires

@@ -1,15 +1,11 @@
 -- `accesses::need::short_board` meets its contract: the loop's invariant says that no lower board is short. Assumes nothing.
-use mathlib.Core.Path.{◌≡◌, sym, ◌∙◌}
-use Prim.Native.Nat.{◌-◌, ◌≤◌, ◌<◌}
-use native.Mathlib.Omega.{arith}
-use lib.ListN.{length}
+use mathlib.Core.Path.{◌≡◌}
+use Prim.Native.Nat.{◌-◌, ◌≤◌}
 use Rattle.model.specs.Definitions.Parts.{first_from, first_below}
 use Rattle.model.specs.Definitions.Codec.{decode}
 use Rattle.model.specs.Definitions.Steps.{Access}
 use Rattle.model.specs.Definitions.Calls.{short}
-use Rattle.copies.specs.Directory.{of_board}
 use Rattle.accesses.specs.Asks.{Lacking}
-use Rattle.accesses.specs.Needs.{found_at, found_none, search_on, search_begins, search_of}
 use Rattle.accesses.proofs.need.short_board.Given as goal
 
 abbrev pub invariant-loop-board : goal.invariant-loop-board

@@ -5,7 +5,6 @@ use Rattle.steps.specs.BankBlocks.{LentBlock, lent_in, lent_block, lent_board}
 use Rattle.model.specs.Definitions.Codec.{decode}
 use Rattle.model.specs.Definitions.Bank.{board_at}
 use native.Mathlib.Omega.{arith}
-use borrow.Author.Rules.{rules}
 use Rattle.accesses.proofs.need.short_of.Goals.{After-block_size-size}
 use Rattle.accesses.proofs.need.short_of.Goals as goal
 

@@ -1,7 +1,6 @@
 -- `accesses::outcome::ended` meets its contract. Assumes nothing.
 use Rattle.accesses.specs.Results.{ended_as}
 use mathlib.Core.Path.{refl}
-use borrow.Author.Rules.{rules}
 use Rattle.accesses.proofs.outcome.ended.Goals as goal
 
 pub returns-then-stored : goal.returns-then-stored

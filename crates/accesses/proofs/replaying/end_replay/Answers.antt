@@ -17,7 +17,6 @@ use Rattle.model.proofs.Laws.BoardFields.{settled_fields}
 use native.Mathlib.Omega.{arith}
 use mathlib.Core.Path.{◌≡◌}
 use Prim.Native.Nat.{ℕ}
-use borrow.Author.Rules.{rules}
 use Rattle.accesses.proofs.replaying.end_replay.Goals.{After-block_size-size}
 use Rattle.accesses.proofs.replaying.end_replay.Goals as goal
 

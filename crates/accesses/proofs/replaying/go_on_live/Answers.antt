@@ -2,8 +2,7 @@
 use mathlib.Core.Path.{sym}
 use native.Mathlib.Omega.{arith}
 use Rattle.exchange.specs.Progress.{lost_by}
-use Rattle.accesses.specs.Repeated.{ended_asks, ended_decode, ended_lost, ended_live}
-use borrow.Author.Rules.{rules}
+use Rattle.accesses.proofs.Repeated.{ended_asks, ended_decode, ended_lost, ended_live}
 use Rattle.accesses.proofs.replaying.go_on_live.Goals as goal
 
 pub returns-then-stored : goal.returns-then-stored

@@ -1,13 +1,11 @@
 -- `accesses::replaying::owned_pages` meets its contract: the loop goes from the highest page down, and a page's bit comes in at the bottom. Assumes nothing.
-use Rattle.accesses.specs.Ends.{set_from, set_none, set_in, set_out, set_fits}
+use Rattle.accesses.specs.Ends.{set_none, set_in, set_out, set_fits}
 use Rattle.copies.specs.Directory.{entry_at_lem, owner_told}
 use Rattle.model.specs.Definitions.Codec.{decode}
 use Rattle.model.specs.Definitions.Bank.{entry_at}
-use borrow.Author.Rules.{rules}
 use borrow.Author.Tests.{eq-eqb, ne_eqb}
-use lib.Dec.{eqb}
 use native.Mathlib.Omega.{arith}
-use Prim.Native.Nat.{◌-◌, ◌≤◌}
+use Prim.Native.Nat.{◌-◌}
 use mathlib.Core.Path.{◌≡◌, sym, ◌∙◌}
 use Rattle.accesses.proofs.replaying.owned_pages.Goals.{After-read_owner}
 use Rattle.accesses.proofs.replaying.owned_pages.Goals as goal

@@ -13,11 +13,10 @@ use Rattle.model.proofs.Laws.Keeps.Entered.{taken_in_replay, live_can, replayed_
 use Rattle.copies.specs.Banks.{Holds, OfBank, holds_decode, holds_of}
 use Rattle.accesses.specs.Asks.{GoesOn, Enters}
 use Rattle.accesses.specs.BlockReplay.{Repeats, replayed_board, replayed_to}
-use Rattle.accesses.specs.Repeated.{frames, last_over, going_on, repeated_live, repeated_on, replaying_live, replaying_last, replaying_going}
-use Rattle.accesses.specs.Repeated.{answered_repeated, answered_ended}
+use Rattle.accesses.proofs.Repeated.{frames, last_over, going_on, repeated_live, repeated_on, replaying_live, replaying_last, replaying_going}
+use Rattle.accesses.proofs.Repeated.{answered_repeated, answered_ended}
 use Prim.Native.Nat.{ℕ}
 use Rattle.accesses.specs.declared.ask.Ask.{Ask}
-use borrow.Author.Rules.{rules}
 use Rattle.accesses.proofs.replaying.replay.Goals.{After-replay_at-replayed}
 use Rattle.accesses.proofs.replaying.replay.Goals as goal
 

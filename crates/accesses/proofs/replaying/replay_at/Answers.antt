@@ -5,7 +5,6 @@ use Rattle.model.specs.Definitions.Codec.{decode}
 use Rattle.steps.specs.BankBlocks.{LentBlock, lent_in, lent_fields, lent_block, lent_board}
 use Rattle.copies.specs.Banks.{lent_of, lent_holds}
 use Rattle.accesses.specs.BlockReplay.{replayed_board, replayed_to, replayed_fields}
-use borrow.Author.Rules.{rules}
 use Rattle.accesses.proofs.replaying.replay_at.Goals.{After-block_size-size}
 use Rattle.accesses.proofs.replaying.replay_at.Goals as goal
 

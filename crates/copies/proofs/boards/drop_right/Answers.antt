@@ -14,7 +14,6 @@ use Rattle.model.specs.Definitions.Steps.{dropped}
 use Rattle.model.specs.Clauses.{Recordable}
 use Rattle.model.proofs.Laws.Valid.{recordable_plain}
 use Rattle.copies.specs.Blocks.{recorded_block, recorded_frame}
-use borrow.Author.Rules.{rules}
 use Rattle.copies.proofs.boards.drop_right.Goals as goal
 
 drop_recordable : {pages p w : ℕ} → p < pages → w < byte_values → Recordable pages (Dropped p) w (zeros page_size)

@@ -4,7 +4,6 @@ use Rattle.types.specs.declared.CopyOrOwn.TheVariants.{GotCopy}
 use Rattle.model.proofs.Laws.Boards.{took_copy}
 use Rattle.model.proofs.Laws.Valid.{recordable_got}
 use Rattle.copies.specs.Blocks.{recorded_block, recorded_frame}
-use borrow.Author.Rules.{rules}
 use Rattle.copies.proofs.boards.take_copy.Goals as goal
 
 pub record-requires : goal.record-requires

@@ -1,6 +1,5 @@
 -- `copies::boards::take_own` meets its contract. Assumes nothing.
 use Rattle.model.proofs.Laws.Boards.{took_own}
-use borrow.Author.Rules.{rules}
 use Rattle.copies.proofs.boards.take_own.Goals as goal
 
 pub returns : goal.returns

@@ -5,7 +5,6 @@ use Rattle.model.proofs.Laws.Boards.{took_copy}
 use Rattle.model.proofs.Laws.BoardFields.{took_copy_fields}
 use Rattle.steps.specs.BankBlocks.{LentBlock, lent_in, lent_fields, lent_block, lent_board}
 use Rattle.copies.specs.Banks.{lent_of, lent_holds}
-use borrow.Author.Rules.{rules}
 use Rattle.copies.proofs.copies.copy_to.Goals.{After-block_size-size}
 use Rattle.copies.proofs.copies.copy_to.Goals as goal
 

@@ -1,11 +1,8 @@
 -- `copies::copies::drop_all` meets its contract. The loop's invariant: the losers but those left have dropped their right. Assumes nothing.
-use mathlib.Core.Path.{◌≡◌, refl, ◌∙◌}
-use lib.ListN.{length}
-use Rattle.model.specs.Definitions.Codec.{decode}
+use mathlib.Core.Path.{refl, ◌∙◌}
 use Rattle.copies.specs.Banks.{of_holds}
-use Rattle.copies.specs.Drops.{Dropping, dropping_first, dropping_last, lowest_below, lowest_left, without_less, dropping_of, dropping_space}
+use Rattle.copies.specs.Drops.{dropping_first, dropping_last, lowest_below, lowest_left, without_less, dropping_of, dropping_space}
 use Rattle.copies.specs.Drops.{dropping_next}
-use borrow.Author.Rules.{rules}
 use Rattle.copies.proofs.copies.drop_all.Goals as goal
 
 pub loop-left-init : goal.loop-left-init

@@ -1,11 +1,8 @@
 -- `copies::copies::drop_all` meets its contract. The loop's invariant: the losers but those left have dropped their right. Assumes nothing.
-use mathlib.Core.Path.{◌≡◌, refl, ◌∙◌}
+use mathlib.Core.Path.{◌≡◌}
 use lib.ListN.{length}
 use Rattle.model.specs.Definitions.Codec.{decode}
-use Rattle.copies.specs.Banks.{of_holds}
-use Rattle.copies.specs.Drops.{Dropping, dropping_first, dropping_last, lowest_below, lowest_left, without_less, dropping_of, dropping_space}
-use Rattle.copies.specs.Drops.{dropping_next}
-use borrow.Author.Rules.{rules}
+use Rattle.copies.specs.Drops.{Dropping}
 use Rattle.copies.proofs.copies.drop_all.Given as goal
 
 abbrev pub invariant-loop-left : goal.invariant-loop-left

@@ -5,7 +5,6 @@ use Rattle.model.specs.Definitions.Steps.{drop_at}
 use Rattle.copies.specs.Banks.{of_holds, entry_in}
 use Rattle.copies.specs.Directory.{copies_told}
 use Rattle.copies.specs.Exchanges.{copies_dropped}
-use borrow.Author.Rules.{rules}
 use Rattle.copies.proofs.copies.drop_copies.Goals as goal
 
 pub read_owner-owner-requires : goal.read_owner-owner-requires

@@ -4,7 +4,6 @@ use Rattle.model.specs.Definitions.Bank.{on_board}
 use Rattle.model.specs.Definitions.Codec.{decode}
 use Rattle.copies.specs.Banks.{entry_in}
 use Rattle.copies.specs.Exchanges.{copy_given}
-use borrow.Author.Rules.{rules}
 use Rattle.copies.proofs.copies.give_copy.Goals as goal
 
 pub read_owner-owner-requires : goal.read_owner-owner-requires

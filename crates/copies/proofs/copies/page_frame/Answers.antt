@@ -5,7 +5,6 @@ use Rattle.model.specs.Definitions.Codec.{decode}
 use Rattle.model.proofs.Laws.BankSteps.{frame_of_ok}
 use Rattle.steps.specs.BankBlocks.{LentBlock, lent_in}
 use Rattle.copies.specs.Banks.{lent_of, lent_frame}
-use borrow.Author.Rules.{rules}
 use Rattle.copies.proofs.copies.page_frame.Goals.{After-block_size-size}
 use Rattle.copies.proofs.copies.page_frame.Goals as goal
 

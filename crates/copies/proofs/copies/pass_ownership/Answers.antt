@@ -8,7 +8,6 @@ use Rattle.model.specs.Definitions.Steps.{drop_at}
 use Rattle.model.proofs.Laws.Boards.{boards_drop_at}
 use Rattle.copies.specs.Banks.{of_holds, holds_of, holds_decode, entry_in}
 use Rattle.copies.specs.Exchanges.{losers_below, losers_can, page_passed}
-use borrow.Author.Rules.{rules}
 use Rattle.copies.proofs.copies.pass_ownership.Goals as goal
 
 pub read_copies-copies-requires : goal.read_copies-copies-requires

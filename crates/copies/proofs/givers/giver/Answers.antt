@@ -5,7 +5,6 @@ use Rattle.model.specs.Definitions.Layout.{most_boards}
 use Rattle.model.specs.Definitions.Steps.{lowest_holder, owner_up, giver}
 use Rattle.steps.specs.Asked.{got}
 use Rattle.copies.specs.Directory.{entry_at_lem, owner_told, copies_told}
-use borrow.Author.Rules.{rules}
 use Rattle.std.proofs.Common.{◌≡◌, ℕ, true, false, refl}
 use Rattle.model.specs.Definitions.Bank.{Bank, board_at, entry_at}
 use Rattle.model.specs.Definitions.Codec.{decode}

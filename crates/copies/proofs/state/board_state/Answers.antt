@@ -4,7 +4,6 @@ use Rattle.steps.specs.BankBlocks.{LentBlock, lent_in, lent_length, lent_state}
 use Rattle.model.specs.Definitions.Codec.{decode}
 use native.Mathlib.Omega.{arith}
 use mathlib.Core.Path.{◌∙◌}
-use borrow.Author.Rules.{rules}
 use Rattle.copies.proofs.state.board_state.Goals.{After-block_size-size}
 use Rattle.copies.proofs.state.board_state.Goals as goal
 

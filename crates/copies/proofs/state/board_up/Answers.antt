@@ -1,7 +1,6 @@
 -- `copies::state::board_up` meets its contract. Assumes nothing.
 use mathlib.Core.Path.{ap, ◌∙◌}
 use Rattle.model.specs.Definitions.WellFormed.{is_up}
-use borrow.Author.Rules.{rules}
 use Rattle.copies.proofs.state.board_up.Goals as goal
 
 pub returns : goal.returns

@@ -4,7 +4,6 @@ use Rattle.model.specs.Definitions.Steps.{fetch}
 use Rattle.steps.specs.Asked.{got}
 use Rattle.copies.specs.Directory.{of_owner}
 use Rattle.exchange.specs.Fetching.{one_page}
-use borrow.Author.Rules.{rules}
 use Rattle.exchange.proofs.fetch.fetch.Goals as goal
 
 pub giver-owner-requires : goal.giver-owner-requires

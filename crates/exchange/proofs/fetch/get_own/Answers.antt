@@ -3,7 +3,6 @@ use native.Mathlib.Omega.{arith}
 use Rattle.types.specs.declared.CopyOrOwn.TheVariants.{GotOwn}
 use Rattle.model.specs.Definitions.Steps.{step}
 use Rattle.model.proofs.Laws.Valid.{recordable_got}
-use borrow.Author.Rules.{rules}
 use Rattle.exchange.proofs.fetch.get_own.Goals as goal
 
 pub overflow_cast-owner : goal.overflow_cast-owner

@@ -3,7 +3,6 @@ use mathlib.Core.Path.{◌≡◌, refl, ap}
 use Rattle.exchange.specs.declared.progress.Loss.TheVariants.{Nobody}
 use Rattle.exchange.specs.Progress.{loss_of}
 use Rattle.exchange.specs.ReadFetches.{read_lost, shown_of, shown_give, read_given}
-use borrow.Author.Rules.{rules}
 use Rattle.exchange.proofs.fetch.read_fetch.Goals as goal
 
 pub give_copies-requires : goal.give_copies-requires

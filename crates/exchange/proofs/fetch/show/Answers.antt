@@ -6,7 +6,6 @@ use Rattle.model.specs.Definitions.Codec.{page_of}
 use Rattle.model.specs.Definitions.WellFormed.{is_got}
 use Rattle.model.specs.Definitions.Steps.{show}
 use Rattle.model.proofs.Laws.Valid.{recordable_plain}
-use borrow.Author.Rules.{rules}
 use Rattle.exchange.proofs.fetch.show.Goals as goal
 
 pub overflow_cast-board : goal.overflow_cast-board

@@ -1,15 +1,11 @@
 -- `exchange::fetch::show_all` meets its contract. The loop's invariant: what is left of the givers' part makes the whole run. Assumes nothing.
-use mathlib.Core.Path.{◌≡◌, refl, sym, ◌∙◌}
-use mathlib.Core.Logic.{⊎_elim}
-use Prim.Native.Nat.{◌-◌, ◌<◌}
+use mathlib.Core.Path.{refl, sym, ◌∙◌}
+use Prim.Native.Nat.{◌<◌}
 use native.Mathlib.Omega.{arith}
-use lib.ListN.{length}
-use Rattle.model.specs.Definitions.Codec.{decode}
 use Rattle.copies.specs.Directory.{of_board, of_owner}
 use Rattle.exchange.specs.Progress.{lost_by, loss_of}
 use Rattle.steps.specs.Asked.{got}
-use Rattle.exchange.specs.ReadFetches.{Showing, showing_first, showing_skip, show_giver, show_can, showing_lost, showing_on, showing_last}
-use borrow.Author.Rules.{rules}
+use Rattle.exchange.specs.ReadFetches.{showing_first, showing_skip, show_giver, show_can, showing_lost, showing_on, showing_last}
 use Rattle.exchange.proofs.fetch.show_all.Goals.{then-has+else-shown, else-has}
 use Rattle.exchange.proofs.fetch.show_all.Goals as goal
 

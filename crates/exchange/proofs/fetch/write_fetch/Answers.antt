@@ -5,7 +5,6 @@ use native.Mathlib.Omega.{arith}
 use Rattle.exchange.specs.Progress.{lost_by, loss_of}
 use Rattle.exchange.specs.Fetching.{fetch_page, fetch_of, fetch_other, fetch_owner, fetch_shows, shown_of, shown_well_formed, shown_taker, shown_room}
 use Rattle.exchange.specs.Fetching.{write_lost, got_lost, got_passed, got_of, got_entry, got_space_owner, got_space_holder}
-use borrow.Author.Rules.{rules}
 use Rattle.exchange.proofs.fetch.write_fetch.Goals as goal
 
 -- stores counted one part after the other
@@ -46,10 +45,13 @@ returns-then-got c =
     let pre = c.requires in
     let shown = c.show-shown in
     let got = c.get_own-got in
-    record { run = λ n.
+    record {
+      run = λ n.
           let gave = rw c.if-shown.false at (shown.ensures.run n) in
           rw (counted n shown.result.stores got.result.stores)
-          (got_lost pre n gave refl (rw c.if-got.true at (got.ensures.run (n + shown.result.stores))) _ refl); few = omega (arith, shown.ensures.few, got.ensures.few) }
+          (got_lost pre n gave refl (rw c.if-got.true at (got.ensures.run (n + shown.result.stores))) _ refl);
+      few = omega (arith, shown.ensures.few, got.ensures.few);
+    }
 
 pub pass_ownership-requires : goal.pass_ownership-requires
 unfolding lost_by
@@ -73,8 +75,11 @@ returns c =
     let pre = c.requires in
     let shown = c.show-shown in
     let got = c.get_own-got in
-    record { run = λ n.
+    record {
+      run = λ n.
           let gave = rw c.if-shown.false at (shown.ensures.run n) in
           rw (counted n shown.result.stores got.result.stores)
           (got_passed pre n gave refl (rw c.if-got.false at (got.ensures.run (n + shown.result.stores))) refl
-          _ c.pass_ownership.ensures); few = omega (arith, shown.ensures.few, got.ensures.few) }
+          _ c.pass_ownership.ensures);
+      few = omega (arith, shown.ensures.few, got.ensures.few);
+    }

@@ -9,7 +9,6 @@ use Rattle.stores.specs.RunFields.{checkpoint_on_fields}
 use Rattle.stores.specs.Lifted.{checkpoint_lifted}
 use Rattle.copies.specs.Banks.{lent_of}
 use Rattle.exchange.specs.LentRuns.{run_of, run_going, run_lost}
-use borrow.Author.Rules.{rules}
 use Rattle.exchange.proofs.runs.checkpoint.Goals.{After-block_size-size}
 use Rattle.exchange.proofs.runs.checkpoint.Goals as goal
 
@@ -24,7 +23,7 @@ fields : (c : After-block_size-size)
     → FieldsOk c.args.pages
     (checkpoint_on c.args.pages
     (board_at (decode c.args.bank.now) c.args.board)).board
-fields c =  checkpoint_on_fields c.args.pages _ (lent c).few (lent_fields (lent c))
+fields c = checkpoint_on_fields c.args.pages _ (lent c).few (lent_fields (lent c))
 
 pub overflow_add-a : goal.overflow_add-a
 overflow_add-a c = omega (arith, lent_in (lent c))
@@ -44,16 +43,22 @@ forget-requires c =
 pub returns-then-stored : goal.returns-then-stored
 returns-then-stored c =
     let ran = c.checkpoint-stored in
-    record { run = λ n.
+    record {
+      run = λ n.
           rw (checkpoint_lifted c.args.board n (decode c.args.bank.now) c.requires.0.board, ← c.requires.0.count)
           (run_lost c.requires.0 (lent (goal.at.returns-then-stored c).After-block_size-size) (checkpoint_on c.args.pages) (fields (goal.at.returns-then-stored c).After-block_size-size) ran.new.block ran.auto.block
           ran.ensures.run.0 _ _ ran.ensures.run.1 ran.ensures.run.2
-          c.if-stored.true _ c.forget.ensures n); few = ran.ensures.few }
+          c.if-stored.true _ c.forget.ensures n);
+      few = ran.ensures.few;
+    }
 
 pub returns-else-stored : goal.returns-else-stored
 returns-else-stored c =
     let ran = c.checkpoint-stored in
-    record { run = λ n.
+    record {
+      run = λ n.
           rw (checkpoint_lifted c.args.board n (decode c.args.bank.now) c.requires.0.board, ← c.requires.0.count)
           (run_going c.requires.0 (lent (goal.at.returns-else-stored c).After-block_size-size) (checkpoint_on c.args.pages) (fields (goal.at.returns-else-stored c).After-block_size-size) ran.new.block ran.auto.block
-          ran.ensures.run.0 _ _ ran.ensures.run.1 ran.ensures.run.2 c.if-stored.false n); few = ran.ensures.few }
+          ran.ensures.run.0 _ _ ran.ensures.run.1 ran.ensures.run.2 c.if-stored.false n);
+      few = ran.ensures.few;
+    }

@@ -10,7 +10,6 @@ use Rattle.stores.specs.RunFields.{logged_on_fields}
 use Rattle.stores.specs.Lifted.{logged_lifted}
 use Rattle.copies.specs.Banks.{lent_of}
 use Rattle.exchange.specs.LentRuns.{run_of, run_going, run_lost}
-use borrow.Author.Rules.{rules}
 use Rattle.exchange.proofs.runs.log_through.Goals.{After-block_size-size}
 use Rattle.exchange.proofs.runs.log_through.Goals as goal
 
@@ -25,7 +24,7 @@ fields : (c : After-block_size-size)
     → FieldsOk c.args.pages
     (logged_on c.args.kind c.args.peer c.args.bytes
     (board_at (decode c.args.bank.now) c.args.board)).board
-fields c =  logged_on_fields c.args.kind c.args.peer c.args.bytes _ (lent_fields (lent c)) c.requires.3 c.requires.4
+fields c = logged_on_fields c.args.kind c.args.peer c.args.bytes _ (lent_fields (lent c)) c.requires.3 c.requires.4
 
 pub overflow_add-a : goal.overflow_add-a
 overflow_add-a c = omega (arith, lent_in (lent c))
@@ -34,7 +33,7 @@ pub slice_bounds-log_through-end : goal.slice_bounds-log_through-end
 slice_bounds-log_through-end c = lent_in (lent c)
 
 pub log_through-stored-requires : goal.log_through-stored-requires
-log_through-stored-requires c =  (lent_block (lent (goal.at.log_through-stored-requires c).After-block_size-size), rw (lent_board (lent (goal.at.log_through-stored-requires c).After-block_size-size)) c.requires.3, c.requires.4)
+log_through-stored-requires c = (lent_block (lent (goal.at.log_through-stored-requires c).After-block_size-size), rw (lent_board (lent (goal.at.log_through-stored-requires c).After-block_size-size)) c.requires.3, c.requires.4)
 
 pub forget-requires : goal.forget-requires
 forget-requires c =
@@ -46,16 +45,22 @@ forget-requires c =
 pub returns-then-stored : goal.returns-then-stored
 returns-then-stored c =
     let ran = c.log_through-stored in
-    record { run = λ n.
+    record {
+      run = λ n.
           rw (logged_lifted c.args.board n (decode c.args.bank.now) c.requires.0.board c.args.kind c.args.peer c.args.bytes)
           (run_lost c.requires.0 (lent (goal.at.returns-then-stored c).After-block_size-size) (logged_on c.args.kind c.args.peer c.args.bytes) (fields (goal.at.returns-then-stored c).After-block_size-size) ran.new.block ran.auto.block
           ran.ensures.run.0 _ _ ran.ensures.run.1 ran.ensures.run.2
-          c.if-stored.true _ c.forget.ensures n); few = ran.ensures.few }
+          c.if-stored.true _ c.forget.ensures n);
+      few = ran.ensures.few;
+    }
 
 pub returns-else-stored : goal.returns-else-stored
 returns-else-stored c =
     let ran = c.log_through-stored in
-    record { run = λ n.
+    record {
+      run = λ n.
           rw (logged_lifted c.args.board n (decode c.args.bank.now) c.requires.0.board c.args.kind c.args.peer c.args.bytes)
           (run_going c.requires.0 (lent (goal.at.returns-else-stored c).After-block_size-size) (logged_on c.args.kind c.args.peer c.args.bytes) (fields (goal.at.returns-else-stored c).After-block_size-size) ran.new.block ran.auto.block
-          ran.ensures.run.0 _ _ ran.ensures.run.1 ran.ensures.run.2 c.if-stored.false n); few = ran.ensures.few }
+          ran.ensures.run.0 _ _ ran.ensures.run.1 ran.ensures.run.2 c.if-stored.false n);
+      few = ran.ensures.few;
+    }

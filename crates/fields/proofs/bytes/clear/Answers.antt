@@ -1,9 +1,8 @@
 -- `fields::bytes::clear` meets its contract. The loop's invariant: the first i bytes are zero, the others as they were. Assumes nothing.
 use mathlib.Core.Path.{◌≡◌, refl, ◌∙◌}
-use Prim.Native.Nat.{◌≤◌, ◌-◌}
 use native.Mathlib.Omega.{arith}
-use mathlib.Core.List.{◌++◌, append-nil}
-use lib.ListN.{length, drop, replicate, length-set, drop_of_length-le}
+use mathlib.Core.List.{append-nil}
+use lib.ListN.{length, length-set, drop_of_length-le}
 use borrow.Author.Fill.{fill_none, fill_more}
 use Rattle.model.specs.Definitions.Parts.{zeros}
 use Rattle.fields.proofs.bytes.clear.Goals as goal

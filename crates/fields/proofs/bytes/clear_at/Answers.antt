@@ -1,6 +1,5 @@
 -- `fields::bytes::clear_at` meets its contract: the part is lent. Assumes nothing.
 use Rattle.fields.proofs.Lent.{lent_cleared}
-use borrow.Author.Rules.{rules}
 use Rattle.fields.proofs.bytes.clear_at.Goals as goal
 
 pub returns : goal.returns

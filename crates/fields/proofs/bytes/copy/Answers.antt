@@ -1,9 +1,8 @@
 -- `fields::bytes::copy` meets its contract. The loop's invariant: the first i bytes are written at the place. Assumes nothing.
 use mathlib.Core.Path.{◌≡◌, refl, ◌∙◌}
-use Prim.Native.Nat.{◌≤◌, ◌-◌}
 use native.Mathlib.Omega.{arith}
-use lib.ListN.{length, take, length-set}
-use Rattle.model.specs.Definitions.Parts.{part, splice}
+use lib.ListN.{length, length-set}
+use Rattle.model.specs.Definitions.Parts.{part}
 use Rattle.model.proofs.Laws.Parts.{length_part, get_d_part}
 use Rattle.fields.proofs.Splices.{splice_none, splice_done, splice_more}
 use Rattle.fields.proofs.bytes.copy.Goals as goal

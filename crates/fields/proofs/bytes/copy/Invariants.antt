@@ -1,11 +1,8 @@
 -- `fields::bytes::copy` meets its contract. The loop's invariant: the first i bytes are written at the place. Assumes nothing.
-use mathlib.Core.Path.{◌≡◌, refl, ◌∙◌}
+use mathlib.Core.Path.{◌≡◌}
 use Prim.Native.Nat.{◌≤◌, ◌-◌}
-use native.Mathlib.Omega.{arith}
-use lib.ListN.{length, take, length-set}
+use lib.ListN.{length, take}
 use Rattle.model.specs.Definitions.Parts.{part, splice}
-use Rattle.model.proofs.Laws.Parts.{length_part, get_d_part}
-use Rattle.fields.proofs.Splices.{splice_none, splice_done, splice_more}
 use Rattle.fields.proofs.bytes.copy.Given as goal
 
 abbrev pub invariant-loop-i : goal.invariant-loop-i

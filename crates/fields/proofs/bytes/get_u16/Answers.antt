@@ -1,6 +1,5 @@
 -- `fields::bytes::get_u16` meets its contract. Assumes nothing.
 use Rattle.model.specs.Definitions.Parts.{part}
-use borrow.Author.Rules.{rules}
 use Rattle.fields.proofs.bytes.get_u16.Goals as goal
 
 pub returns : goal.returns

@@ -1,7 +1,6 @@
 -- `fields::bytes::put` meets its contract: a store is a splice of one element. Assumes nothing.
 use mathlib.Core.Path.{sym}
 use Rattle.model.proofs.Laws.Parts.{splice_one}
-use borrow.Author.Rules.{rules}
 use Rattle.fields.proofs.bytes.put.Goals as goal
 
 pub returns : goal.returns

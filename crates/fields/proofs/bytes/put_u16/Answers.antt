@@ -1,7 +1,6 @@
 -- `fields::bytes::put_u16` meets its contract. Assumes nothing.
 use mathlib.Core.Path.{◌∙◌}
 use Rattle.fields.proofs.Splices.{splice_word}
-use borrow.Author.Rules.{rules}
 use Rattle.fields.proofs.bytes.put_u16.Goals as goal
 
 pub returns : goal.returns

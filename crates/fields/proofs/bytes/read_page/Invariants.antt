@@ -1,12 +1,9 @@
 -- `fields::bytes::read_page` meets its contract. The loop's invariant: the first i bytes of the page are written over the zeros. Assumes nothing.
-use mathlib.Core.Path.{◌≡◌, refl, ◌∙◌}
+use mathlib.Core.Path.{◌≡◌}
 use Prim.Native.Nat.{◌≤◌, ◌-◌}
-use native.Mathlib.Omega.{arith}
-use lib.ListN.{length, take}
+use lib.ListN.{take}
 use Rattle.model.specs.Definitions.Layout.{page_size}
 use Rattle.model.specs.Definitions.Parts.{part, splice}
-use Rattle.model.proofs.Laws.Parts.{length_part}
-use Rattle.fields.proofs.Splices.{splice_none, splice_whole, splice_done, splice_more_part}
 use Rattle.fields.proofs.bytes.read_page.Given as goal
 
 abbrev pub invariant-loop-i : goal.invariant-loop-i

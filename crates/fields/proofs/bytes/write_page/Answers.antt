@@ -1,10 +1,8 @@
 -- `fields::bytes::write_page` meets its contract. The loop's invariant: the first i bytes of the page are written at the place. Assumes nothing.
 use mathlib.Core.Path.{◌≡◌, refl, ◌∙◌}
-use Prim.Native.Nat.{◌≤◌, ◌-◌}
 use native.Mathlib.Omega.{arith}
-use lib.ListN.{length, take, length-set}
+use lib.ListN.{length, length-set}
 use Rattle.model.specs.Definitions.Layout.{page_size}
-use Rattle.model.specs.Definitions.Parts.{splice}
 use Rattle.fields.proofs.Splices.{splice_none, splice_done, splice_more}
 use Rattle.fields.proofs.bytes.write_page.Goals as goal
 

@@ -1,12 +1,7 @@
 -- `fields::cells::cells_fit` meets its contract. The invariant: the cells so far pass, so the others decide. Assumes nothing.
-use mathlib.Core.Path.{◌≡◌, refl, sym, ◌∙◌}
 use Prim.Native.Nat.{◌-◌, ◌≤◌}
-use native.Mathlib.Omega.{arith}
 use Rattle.model.specs.Definitions.Calls.{cell_in_range}
-use Rattle.fields.specs.Cells.{PassedTo, passed_next, passed_not, passed_all}
-use borrow.Author.Tests.{not-false}
-use Rattle.model.proofs.Laws.Logic.{not_true}
-use borrow.Author.Rules.{rules}
+use Rattle.fields.specs.Cells.{PassedTo}
 use Rattle.fields.proofs.cells.cells_fit.Given as goal
 
 abbrev pub invariant-loop-i : goal.invariant-loop-i

@@ -1,8 +1,6 @@
 -- `fields::cells::named_pages` meets its contract. The invariant: the pages so far are in the set, the others are to come. Assumes nothing.
-use mathlib.Core.Path.{◌≡◌, refl, sym, ◌∙◌}
-use Prim.Native.Nat.{◌*◌, ◌-◌, ◌≤◌}
-use native.Mathlib.Omega.{arith}
-use Rattle.fields.specs.Cells.{NamedTo, named_none, named_in, named_next, named_all}
+use Prim.Native.Nat.{◌-◌, ◌≤◌}
+use Rattle.fields.specs.Cells.{NamedTo}
 use Rattle.fields.proofs.cells.named_pages.Given as goal
 
 abbrev pub invariant-loop-i : goal.invariant-loop-i

@@ -1,7 +1,6 @@
 -- `fields::copies::lowest_holder` meets its contract. Assumes nothing.
 use native.Mathlib.Omega.{arith}
 use lib.Count.{trailing_le}
-use borrow.Author.Rules.{rules}
 use Rattle.fields.proofs.copies.lowest_holder.Goals as goal
 
 pub overflow_cast-result : goal.overflow_cast-result

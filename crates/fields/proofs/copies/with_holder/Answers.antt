@@ -1,7 +1,6 @@
 -- `fields::copies::with_holder` meets its contract: a byte with one board more is a byte. Assumes nothing.
 use native.Mathlib.Omega.{arith}
 use Rattle.model.proofs.Laws.Sets.{with_below}
-use borrow.Author.Rules.{rules}
 use Rattle.fields.proofs.copies.with_holder.Goals as goal
 
 pub overflow_cast-result : goal.overflow_cast-result

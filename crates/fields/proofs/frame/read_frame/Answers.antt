@@ -1,7 +1,6 @@
 -- `fields::frame::read_frame` meets its contract: field by field, what the readers say. Assumes nothing.
 use Rattle.model.specs.Definitions.Parts.{byte_at, part}
 use Rattle.model.specs.Definitions.Codec.{decode_frame}
-use borrow.Author.Rules.{rules}
 use Rattle.fields.proofs.frame.read_frame.Goals as goal
 
 pub returns : goal.returns

@@ -2,7 +2,6 @@
 use Rattle.model.specs.Definitions.Layout.{frame_size}
 use Rattle.model.specs.Definitions.Codec.{decode_frame}
 use Rattle.fields.proofs.Lent.{lent_read}
-use borrow.Author.Rules.{rules}
 use Rattle.fields.proofs.frame.read_frame_at.Goals as goal
 
 pub returns : goal.returns

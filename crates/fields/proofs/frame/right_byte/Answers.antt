@@ -1,6 +1,5 @@
 -- `fields::frame::right_byte` meets its contract: each arm is a case of the definition. Assumes nothing.
 use Rattle.model.specs.Definitions.Codec.{right_byte}
-use borrow.Author.Rules.{rules}
 use Rattle.fields.proofs.frame.right_byte.Goals as goal
 
 pub returns-in-None : goal.returns-in-None

@@ -9,7 +9,6 @@ use Rattle.model.specs.Definitions.Parts.{splice}
 use Rattle.model.specs.Definitions.Layout.{page_size, right_at, frame_bytes_at, frame_size}
 use Rattle.model.specs.Definitions.Codec.{right_byte, encode_frame}
 use Rattle.fields.proofs.Splices.{splice_pair}
-use borrow.Author.Rules.{rules}
 use Rattle.fields.proofs.frame.write_frame.Goals as goal
 
 -- the right's byte and the page, side by side over the whole part

@@ -2,7 +2,6 @@
 use Rattle.model.specs.Definitions.Layout.{frame_size}
 use Rattle.model.specs.Definitions.Codec.{encode_frame}
 use Rattle.fields.proofs.Lent.{lent_written}
-use borrow.Author.Rules.{rules}
 use Rattle.fields.proofs.frame.write_frame_at.Goals as goal
 
 pub returns : goal.returns

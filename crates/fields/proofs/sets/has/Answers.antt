@@ -2,7 +2,6 @@
 use mathlib.Core.Path.{sym}
 use lib.Pow.{pow_pos}
 use Rattle.fields.specs.Sets.{member_digit}
-use borrow.Author.Rules.{rules}
 use Rattle.fields.proofs.sets.has.Goals as goal
 
 pub nonzero_div-result : goal.nonzero_div-result

@@ -5,7 +5,6 @@ use native.Mathlib.Omega.{arith}
 use Rattle.model.specs.Definitions.Parts.{with_member}
 use Rattle.model.proofs.Laws.Sets.{with_below}
 use Rattle.fields.specs.Sets.{with_in, with_out}
-use borrow.Author.Rules.{rules}
 use Rattle.fields.proofs.sets.with_member.Goals as goal
 
 joined : (c : goal.After-bit) → c.args.set + c.bit.result

@@ -4,7 +4,6 @@ use Prim.Native.Nat.{◌+◌}
 use native.Mathlib.Omega.{arith}
 use Rattle.model.specs.Definitions.Parts.{without_member}
 use Rattle.fields.specs.Sets.{without_in, without_out}
-use borrow.Author.Rules.{rules}
 use Rattle.fields.proofs.sets.without_member.Goals as goal
 
 left : (c : goal.After-bit) → c.args.set

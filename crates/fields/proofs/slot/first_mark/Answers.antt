@@ -1,6 +1,5 @@
 -- `fields::slot::first_mark` meets its contract: each arm is a case of the definition. Assumes nothing.
 use Rattle.model.specs.Definitions.Codec.{mark0}
-use borrow.Author.Rules.{rules}
 use Rattle.fields.proofs.slot.first_mark.Goals as goal
 
 pub returns-in-Got : goal.returns-in-Got

@@ -1,6 +1,5 @@
 -- `fields::slot::page_of` meets its contract: each arm is a case of the definition. Assumes nothing.
 use Rattle.model.specs.Definitions.Codec.{page_of}
-use borrow.Author.Rules.{rules}
 use Rattle.fields.proofs.slot.page_of.Goals as goal
 
 pub returns-in-Got : goal.returns-in-Got

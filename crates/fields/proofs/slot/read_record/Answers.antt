@@ -1,7 +1,6 @@
 -- `fields::slot::read_record` meets its contract: field by field, what the readers say. Assumes nothing.
 use Rattle.model.specs.Definitions.Parts.{byte_at}
 use Rattle.model.specs.Definitions.Codec.{decode_record_in}
-use borrow.Author.Rules.{rules}
 use Rattle.fields.proofs.slot.read_record.Goals as goal
 
 pub returns : goal.returns

@@ -2,7 +2,6 @@
 use Rattle.model.specs.Definitions.Layout.{slot_size}
 use Rattle.model.specs.Definitions.Codec.{decode_record}
 use Rattle.fields.proofs.Lent.{lent_read}
-use borrow.Author.Rules.{rules}
 use Rattle.fields.proofs.slot.read_record_at.Goals as goal
 
 pub returns : goal.returns

@@ -1,6 +1,5 @@
 -- `fields::slot::second_mark` meets its contract: each arm is a case of the definition. Assumes nothing.
 use Rattle.model.specs.Definitions.Codec.{mark1}
-use borrow.Author.Rules.{rules}
 use Rattle.fields.proofs.slot.second_mark.Goals as goal
 
 pub returns-in-GotCopy : goal.returns-in-GotCopy

@@ -4,7 +4,6 @@ use Rattle.words.proofs.Places.{stores_splice}
 use Rattle.model.specs.Definitions.Layout.{mark0_at}
 use Rattle.model.specs.Definitions.Parts.{splice}
 use Rattle.fields.specs.SlotParts.{front_bytes}
-use borrow.Author.Rules.{rules}
 use Rattle.fields.proofs.slot.write_front.Goals as goal
 
 pub returns : goal.returns

@@ -12,7 +12,6 @@ use Rattle.model.specs.Definitions.Layout.{page_size, since_size, mark0_at, reco
 use Rattle.model.specs.Definitions.Codec.{encode_record}
 use Rattle.fields.specs.SlotParts.{front_bytes, encode_record_parts, length_front_bytes}
 use Rattle.fields.proofs.Splices.{splice_triple}
-use borrow.Author.Rules.{rules}
 use Rattle.fields.proofs.slot.write_record.Goals as goal
 
 -- the front, the count and the page, side by side over the whole slot

@@ -2,7 +2,6 @@
 use Rattle.model.specs.Definitions.Layout.{slot_size}
 use Rattle.model.specs.Definitions.Codec.{encode_record}
 use Rattle.fields.proofs.Lent.{lent_written}
-use borrow.Author.Rules.{rules}
 use Rattle.fields.proofs.slot.write_record_at.Goals as goal
 
 pub returns : goal.returns

@@ -1,5 +1,4 @@
 -- `format::area::read_stored` meets its contract. Assumes nothing.
-use borrow.Author.Rules.{rules}
 use Rattle.format.proofs.area.read_stored.Goals as goal
 
 pub returns : goal.returns

@@ -7,7 +7,6 @@ use Rattle.words.specs.LittleEndian.{bytes_of}
 use Rattle.words.specs.LittleEndianLaws.{length_bytes_of}
 use Rattle.model.specs.Definitions.Layout.{number_size, area_number_at, area_count_at}
 use Rattle.model.proofs.Laws.Parts.{splice_next}
-use borrow.Author.Rules.{rules}
 use Rattle.format.proofs.area.store_head.Goals as goal
 
 pub returns : goal.returns

@@ -1,5 +1,4 @@
 -- `format::area::write_stored` meets its contract. Assumes nothing.
-use borrow.Author.Rules.{rules}
 use Rattle.format.proofs.area.write_stored.Goals as goal
 
 pub returns : goal.returns

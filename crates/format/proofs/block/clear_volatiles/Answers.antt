@@ -1,5 +1,4 @@
 -- `format::block::clear_volatiles` meets its contract. Assumes nothing.
-use borrow.Author.Rules.{rules}
 use Rattle.format.proofs.block.clear_volatiles.Goals as goal
 
 pub returns : goal.returns

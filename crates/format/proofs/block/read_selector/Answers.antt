@@ -1,6 +1,5 @@
 -- `format::block::read_selector` meets its contract. Assumes nothing.
 use Rattle.model.specs.Definitions.Codec.{selector_byte}
-use borrow.Author.Rules.{rules}
 use Rattle.format.proofs.block.read_selector.Goals as goal
 
 pub returns : goal.returns

@@ -1,5 +1,4 @@
 -- `format::block::read_volatile` meets its contract. Assumes nothing.
-use borrow.Author.Rules.{rules}
 use Rattle.format.proofs.block.read_volatile.Goals as goal
 
 pub returns : goal.returns

@@ -1,6 +1,5 @@
 -- `format::block::state_byte` meets its contract: each arm is a case of the definition. Assumes nothing.
 use Rattle.model.specs.Definitions.Codec.{state_byte}
-use borrow.Author.Rules.{rules}
 use Rattle.format.proofs.block.state_byte.Goals as goal
 
 pub returns-in-Up : goal.returns-in-Up

@@ -1,5 +1,4 @@
 -- `format::block::write_selector` meets its contract. Assumes nothing.
-use borrow.Author.Rules.{rules}
 use Rattle.format.proofs.block.write_selector.Goals as goal
 
 pub returns : goal.returns

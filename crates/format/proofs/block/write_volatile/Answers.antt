@@ -1,5 +1,4 @@
 -- `format::block::write_volatile` meets its contract. Assumes nothing.
-use borrow.Author.Rules.{rules}
 use Rattle.format.proofs.block.write_volatile.Goals as goal
 
 pub returns : goal.returns

@@ -5,7 +5,6 @@ use native.Mathlib.Omega.{arith}
 use Rattle.model.specs.Definitions.Layout.{head_size, copies_at, entry_size}
 use Rattle.model.specs.Definitions.Codec.{decode_entry}
 use Rattle.model.proofs.Laws.Parts.{byte_at_part}
-use borrow.Author.Rules.{rules}
 use Rattle.format.proofs.directory.read_copies.Goals as goal
 
 pub returns : goal.returns

@@ -9,7 +9,6 @@ use Rattle.model.specs.Definitions.Layout.{owner_at, copies_at}
 use Rattle.model.specs.Definitions.Parts.{splice}
 use Rattle.model.specs.Definitions.Codec.{encode_entry}
 use Rattle.model.proofs.Laws.Parts.{splice_next}
-use borrow.Author.Rules.{rules}
 use Rattle.format.proofs.directory.write_entry.Goals as goal
 
 -- the owner and the copy-set, side by side

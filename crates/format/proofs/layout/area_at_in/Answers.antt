@@ -3,7 +3,6 @@ use Prim.Native.Nat.{◌*◌, ◌≤◌}
 use native.Mathlib.Nat.{mul-le-mul}
 use native.Mathlib.Omega.{arith}
 use Rattle.model.specs.Definitions.Layout.{most_pages, today, area_size_in}
-use borrow.Author.Rules.{rules}
 use Rattle.format.proofs.layout.area_at_in.Goals as goal
 
 bounded : (c : goal.After-area_size_in) → c.args.area * c.area_size_in.result ≤ 2 * area_size_in today most_pages

@@ -3,7 +3,6 @@ use Prim.Native.Nat.{◌*◌, ◌≤◌}
 use native.Mathlib.Nat.{mul-le-mul}
 use native.Mathlib.Omega.{arith}
 use Rattle.model.specs.Definitions.Layout.{most_pages, most_boards, block_size}
-use borrow.Author.Rules.{rules}
 use Rattle.format.proofs.layout.block_at_in.Goals as goal
 
 bounded : (c : goal.After-block_size_in) → c.args.board * c.block_size_in.result ≤ most_boards * block_size most_pages

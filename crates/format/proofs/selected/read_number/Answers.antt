@@ -3,7 +3,6 @@ use Rattle.words.specs.LittleEndian.{number_of}
 use Rattle.model.specs.Definitions.Layout.{area_number_at, number_size}
 use Rattle.model.specs.Definitions.Parts.{part}
 use Rattle.format.proofs.LentArea.{lent_area_read}
-use borrow.Author.Rules.{rules}
 use Rattle.format.proofs.selected.read_number.Goals as goal
 
 pub returns : goal.returns

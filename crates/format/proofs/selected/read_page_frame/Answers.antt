@@ -4,7 +4,6 @@ use Rattle.model.specs.Definitions.Layout.{area_frames_at, frame_size}
 use Rattle.model.specs.Definitions.Parts.{part}
 use Rattle.model.specs.Definitions.Codec.{decode_frame}
 use Rattle.format.proofs.LentArea.{lent_area_read}
-use borrow.Author.Rules.{rules}
 use Rattle.format.proofs.selected.read_page_frame.Goals as goal
 
 pub returns : goal.returns

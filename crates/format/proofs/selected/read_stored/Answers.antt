@@ -4,7 +4,6 @@ use Rattle.model.specs.Definitions.Layout.{area_slots_at, slot_size}
 use Rattle.model.specs.Definitions.Parts.{part}
 use Rattle.model.specs.Definitions.Codec.{decode_record}
 use Rattle.format.proofs.LentArea.{lent_area_read}
-use borrow.Author.Rules.{rules}
 use Rattle.format.proofs.selected.read_stored.Goals as goal
 
 pub returns : goal.returns

@@ -2,7 +2,6 @@
 use Rattle.model.specs.Definitions.Layout.{area_count_at}
 use Rattle.model.specs.Definitions.Parts.{byte_at}
 use Rattle.format.proofs.LentArea.{lent_area_read}
-use borrow.Author.Rules.{rules}
 use Rattle.format.proofs.selected.read_stored_count.Goals as goal
 
 pub returns : goal.returns

@@ -3,7 +3,6 @@ use mathlib.Core.Path.{sym, ◌∙◌}
 use mathlib.Core.Bool.{true, false}
 use Rattle.model.specs.Definitions.Codec.{selector_byte}
 use Rattle.format.specs.Areas.{selected_at, area_found}
-use borrow.Author.Rules.{rules}
 use Rattle.format.proofs.selected.selected_at.Goals as goal
 
 pub returns-then-read_selector : goal.returns-then-read_selector

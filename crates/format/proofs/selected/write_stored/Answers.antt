@@ -5,7 +5,6 @@ use Rattle.model.specs.Definitions.Layout.{area_slots_at, slot_size}
 use Rattle.model.specs.Definitions.Parts.{splice}
 use Rattle.model.specs.Definitions.Codec.{encode_record}
 use Rattle.format.proofs.LentArea.{lent_area_written}
-use borrow.Author.Rules.{rules}
 use Rattle.format.proofs.selected.write_stored.Goals as goal
 
 pub returns : goal.returns

@@ -4,7 +4,6 @@ use mathlib.Core.List.{[], ◌∷◌}
 use Rattle.model.specs.Definitions.Layout.{area_count_at}
 use Rattle.model.specs.Definitions.Parts.{splice}
 use Rattle.format.proofs.LentArea.{lent_area_written}
-use borrow.Author.Rules.{rules}
 use Rattle.format.proofs.selected.write_stored_count.Goals as goal
 
 pub returns : goal.returns

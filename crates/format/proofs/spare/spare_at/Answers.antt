@@ -3,7 +3,6 @@ use mathlib.Core.Path.{sym, ap, ◌∙◌}
 use mathlib.Core.Bool.{true, false, not}
 use Rattle.model.specs.Definitions.Codec.{selector_byte}
 use Rattle.format.specs.Areas.{spare_at, area_found}
-use borrow.Author.Rules.{rules}
 use Rattle.format.proofs.spare.spare_at.Goals as goal
 
 pub returns-then-read_selector : goal.returns-then-read_selector

@@ -5,7 +5,6 @@ use Rattle.model.specs.Definitions.Layout.{area_frames_at, frame_size}
 use Rattle.model.specs.Definitions.Parts.{splice}
 use Rattle.model.specs.Definitions.Codec.{encode_frame}
 use Rattle.format.proofs.LentArea.{lent_area_written}
-use borrow.Author.Rules.{rules}
 use Rattle.format.proofs.spare.store_frame.Goals as goal
 
 pub returns : goal.returns

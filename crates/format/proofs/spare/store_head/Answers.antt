@@ -2,7 +2,6 @@
 use native.Mathlib.Omega.{arith}
 use Rattle.format.specs.Areas.{head_stored}
 use Rattle.format.proofs.LentArea.{lent_area_written}
-use borrow.Author.Rules.{rules}
 use Rattle.format.proofs.spare.store_head.Goals as goal
 
 pub returns : goal.returns

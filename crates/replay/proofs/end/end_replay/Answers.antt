@@ -3,10 +3,8 @@ use Rattle.steps.specs.BlockLaws.{board_written, block_written}
 use Rattle.steps.specs.Blocks.{board_of}
 use Rattle.model.specs.Definitions.Replay.{settled}
 use Rattle.model.specs.Definitions.WellFormed.{FieldsOk}
-use Rattle.model.specs.Definitions.Bank.{Board}
 use Rattle.model.specs.Definitions.Parts.{member}
 use Rattle.model.proofs.Laws.BoardFields.{settled_fields}
-use borrow.Author.Rules.{rules}
 use Rattle.replay.proofs.end.end_replay.Goals.{Start}
 use Rattle.replay.proofs.end.end_replay.Goals as goal
 

@@ -1,7 +1,6 @@
 -- `replay::got::due_at` meets its contract: the record that is ready, if it is a got. Assumes nothing.
 use mathlib.Core.Path.{sym, ap, ◌∙◌}
 use borrow.Author.Tests.{not-true, not-false}
-use borrow.Author.Rules.{rules}
 use Rattle.replay.specs.Clauses.{stood, first}
 use Rattle.replay.specs.Next.{found_some, found_none}
 use Rattle.replay.specs.Got.{due_unready, due_got, due_other}

@@ -1,5 +1,4 @@
 -- `replay::got::got_frame` meets its contract. Assumes nothing.
-use borrow.Author.Rules.{rules}
 use Rattle.replay.proofs.got.got_frame.Goals as goal
 
 pub returns : goal.returns

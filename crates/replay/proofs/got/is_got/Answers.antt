@@ -1,5 +1,4 @@
 -- `replay::got::is_got` meets its contract: each arm is a case of the definition. Assumes nothing.
-use borrow.Author.Rules.{rules}
 use Rattle.model.specs.Definitions.WellFormed.{is_got}
 use Rattle.replay.proofs.got.is_got.Goals as goal
 

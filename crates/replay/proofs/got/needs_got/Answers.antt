@@ -1,7 +1,6 @@
 -- `replay::got::needs_got` meets its contract: each arm is a case of the definition. Assumes nothing.
 use mathlib.Core.Path.{◌≡◌, sym, ◌∙◌}
 use borrow.Author.Tests.{not-true, not-false}
-use borrow.Author.Rules.{rules}
 use Rattle.types.specs.declared.Kind.TheVariants.{Got}
 use Rattle.model.specs.Definitions.Codec.{page_of}
 use Rattle.replay.specs.Clauses.{fits}

@@ -1,5 +1,4 @@
 -- `replay::got::right_got` meets its contract: each arm is a case of the definition. Assumes nothing.
-use borrow.Author.Rules.{rules}
 use Rattle.model.specs.Definitions.Replay.{right_got}
 use Rattle.replay.proofs.got.right_got.Goals as goal
 

@@ -1,5 +1,4 @@
 -- `replay::got::serves` meets its contract: each arm is a case of the definition. Assumes nothing.
-use borrow.Author.Rules.{rules}
 use Rattle.replay.specs.Got.{serves_copy, serves_own}
 use Rattle.replay.proofs.got.serves.Goals as goal
 

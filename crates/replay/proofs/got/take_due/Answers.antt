@@ -1,10 +1,9 @@
 -- `replay::got::take_due` meets its contract. The invariant: what is left to take gives what the whole gives. Assumes nothing.
-use mathlib.Core.Path.{◌≡◌, refl, sym, ap, ◌∙◌}
-use lib.ListN.{length}
+use mathlib.Core.Path.{refl, sym, ap, ◌∙◌}
 use Rattle.model.specs.Definitions.Codec.{encode_board}
-use Rattle.model.specs.Definitions.Replay.{due, took_due}
+use Rattle.model.specs.Definitions.Replay.{took_due}
 use Rattle.steps.specs.BlockLaws.{block_length, board_written, block_written}
-use Rattle.steps.specs.Blocks.{IsBlock, board_of}
+use Rattle.steps.specs.Blocks.{board_of}
 use Rattle.replay.specs.Got.{took_end, took_more}
 use Rattle.replay.proofs.got.take_due.Goals as goal
 

@@ -1,11 +1,8 @@
 -- `replay::got::take_due` meets its contract. The invariant: what is left to take gives what the whole gives. Assumes nothing.
-use mathlib.Core.Path.{◌≡◌, refl, sym, ap, ◌∙◌}
+use mathlib.Core.Path.{◌≡◌}
 use lib.ListN.{length}
-use Rattle.model.specs.Definitions.Codec.{encode_board}
 use Rattle.model.specs.Definitions.Replay.{due, took_due}
-use Rattle.steps.specs.BlockLaws.{block_length, board_written, block_written}
 use Rattle.steps.specs.Blocks.{IsBlock, board_of}
-use Rattle.replay.specs.Got.{took_end, took_more}
 use Rattle.replay.proofs.got.take_due.Given as goal
 
 abbrev pub invariant-loop : goal.invariant-loop

@@ -1,7 +1,6 @@
 -- `replay::next::next_ready` meets its contract. Assumes nothing.
 use mathlib.Core.Path.{◌∙◌}
 use native.Mathlib.Omega.{arith}
-use borrow.Author.Rules.{rules}
 use Rattle.model.specs.Definitions.Replay.{records_left}
 use Rattle.steps.specs.BlockLaws.{block_length}
 use Rattle.replay.specs.Clauses.{ready}

@@ -1,7 +1,6 @@
 -- `replay::next::ready_at` meets its contract: no record is left, or the one at the place, if its count equals since. Assumes nothing.
 use mathlib.Core.Path.{sym, ap, ◌∙◌}
 use native.Mathlib.Omega.{arith}
-use borrow.Author.Rules.{rules}
 use Rattle.steps.specs.BlockLaws.{block_length}
 use Rattle.steps.specs.Selected.{stored_count_lem, stored_most}
 use Rattle.replay.specs.Clauses.{stood}

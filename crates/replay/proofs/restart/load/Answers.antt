@@ -1,6 +1,5 @@
 -- `replay::restart::load` meets its contract. Assumes nothing.
 use mathlib.Core.Path.{◌∙◌}
-use borrow.Author.Rules.{rules}
 use Rattle.replay.specs.Restart.{restart_block, restart_loaded}
 use Rattle.replay.proofs.restart.load.Goals as goal
 

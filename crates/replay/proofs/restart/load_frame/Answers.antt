@@ -1,7 +1,6 @@
 -- `replay::restart::load_frame` meets its contract. Assumes nothing.
 use mathlib.Core.Path.{◌∙◌}
 use native.Mathlib.Omega.{arith}
-use borrow.Author.Rules.{rules}
 use Rattle.steps.specs.BlockLaws.{block_length}
 use Rattle.replay.specs.Restart.{frame_loaded}
 use Rattle.replay.proofs.restart.load_frame.Goals as goal

@@ -1,12 +1,8 @@
 -- `replay::restart::load_frames` meets its contract. The invariant: the first pages have the frames of the selected area. Assumes nothing.
-use mathlib.Core.Path.{◌≡◌, sym, ◌∙◌}
-use Prim.Native.Nat.{◌≤◌, ◌-◌}
+use mathlib.Core.Path.{sym, ◌∙◌}
 use native.Mathlib.Omega.{arith}
 use Rattle.model.specs.Definitions.Bank.{on_working}
-use Rattle.model.specs.Definitions.Codec.{encode_board}
-use Rattle.model.proofs.Laws.BlockReplay.{replacing}
 use Rattle.steps.specs.BlockLaws.{block_length}
-use Rattle.steps.specs.Blocks.{board_of}
 use Rattle.replay.specs.Replaced.{replaced_none, replaced_block, replaced_board, replaced_more, replaced_last}
 use Rattle.replay.proofs.restart.load_frames.Goals as goal
 

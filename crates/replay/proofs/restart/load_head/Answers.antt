@@ -1,6 +1,5 @@
 -- `replay::restart::load_head` meets its contract: four fields of the block, one from the selected area. Assumes nothing.
 use native.Mathlib.Omega.{arith}
-use borrow.Author.Rules.{rules}
 use Rattle.steps.specs.BlockLaws.{block_length}
 use Rattle.replay.specs.Restart.{head_loaded}
 use Rattle.replay.proofs.restart.load_head.Goals as goal

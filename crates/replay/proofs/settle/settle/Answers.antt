@@ -1,6 +1,5 @@
 -- `replay::settle::settle` meets its contract. Assumes nothing.
 use native.Mathlib.Omega.{arith}
-use borrow.Author.Rules.{rules}
 use Rattle.model.specs.Definitions.Parts.{member}
 use Rattle.steps.specs.BlockLaws.{block_length}
 use Rattle.replay.specs.Settle.{settle_written}

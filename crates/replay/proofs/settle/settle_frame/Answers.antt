@@ -1,7 +1,6 @@
 -- `replay::settle::settle_frame` meets its contract. Assumes nothing.
 use mathlib.Core.Path.{◌∙◌}
 use native.Mathlib.Omega.{arith}
-use borrow.Author.Rules.{rules}
 use Rattle.steps.specs.BlockLaws.{block_length}
 use Rattle.replay.specs.Settle.{frame_settled}
 use Rattle.replay.proofs.settle.settle_frame.Goals as goal

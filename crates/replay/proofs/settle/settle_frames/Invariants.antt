@@ -1,18 +1,13 @@
 -- `replay::settle::settle_frames` meets its contract. The invariant: the first pages have their settled frames. Assumes nothing.
-use mathlib.Core.Path.{◌≡◌, sym, ◌∙◌}
+use mathlib.Core.Path.{◌≡◌}
 use Prim.Native.Nat.{ℕ, ◌≤◌, ◌-◌}
-use native.Mathlib.Omega.{arith}
 use mathlib.Core.List.{List}
 use Rattle.types.specs.declared.Frame.{Frame}
 use Rattle.model.specs.Definitions.Parts.{each, member}
-use Rattle.model.specs.Definitions.Bank.{on_working, on_frames}
 use Rattle.model.specs.Definitions.Codec.{encode_board}
 use Rattle.model.specs.Definitions.Replay.{settled_frame}
 use Rattle.model.proofs.Laws.BlockReplay.{replacing}
-use Rattle.steps.specs.BlockLaws.{block_length}
 use Rattle.steps.specs.Blocks.{board_of}
-use Rattle.replay.specs.Replaced.{replaced_none, replaced_block, replaced_more, replaced_last}
-use Rattle.replay.specs.Settle.{settling_ok, settling_next}
 use Rattle.replay.proofs.settle.settle_frames.Given as goal
 
 -- the frames as the end leaves them

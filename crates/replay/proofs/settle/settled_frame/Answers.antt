@@ -1,5 +1,4 @@
 -- `replay::settle::settled_frame` meets its contract: each arm is a case of the definition. Assumes nothing.
-use borrow.Author.Rules.{rules}
 use Rattle.model.specs.Definitions.Replay.{settled_frame}
 use Rattle.replay.proofs.settle.settled_frame.Goals as goal
 

@@ -1,6 +1,5 @@
 -- `replay::used::replay_access` meets its contract. Assumes nothing.
 use mathlib.Core.Path.{ap, ◌∙◌}
-use borrow.Author.Rules.{rules}
 use Rattle.model.specs.Definitions.Bank.{Board, on_working}
 use Rattle.model.specs.Definitions.Codec.{encode_board}
 use Rattle.model.specs.Definitions.Steps.{accessed}

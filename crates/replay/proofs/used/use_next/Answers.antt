@@ -7,7 +7,6 @@ use mathlib.Core.List.{List}
 use native.Mathlib.Omega.{arith}
 use lib.ListN.{set}
 use borrow.Author.Tests.{not-true, not-false}
-use borrow.Author.Rules.{rules}
 use Rattle.types.specs.declared.Frame.{Frame}
 use Rattle.types.specs.declared.Kind.TheVariants.{Dropped}
 use Rattle.types.specs.declared.Record.{Record}

@@ -1,6 +1,5 @@
 -- `replay::used::use_record` meets its contract. Assumes nothing.
 use native.Mathlib.Omega.{arith}
-use borrow.Author.Rules.{rules}
 use Rattle.model.specs.Definitions.Codec.{decode_board_in}
 use Rattle.steps.specs.BlockLaws.{block_length}
 use Rattle.replay.specs.Used.{record_used}

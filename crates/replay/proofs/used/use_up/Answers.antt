@@ -1,10 +1,9 @@
 -- `replay::used::use_up` meets its contract. The invariant: what is left to use up gives what the whole gives. Assumes nothing.
-use mathlib.Core.Path.{◌≡◌, refl, sym, ap, ◌∙◌}
-use lib.ListN.{length}
+use mathlib.Core.Path.{refl, sym, ap, ◌∙◌}
 use Rattle.model.specs.Definitions.Codec.{encode_board}
-use Rattle.model.specs.Definitions.Replay.{records_left, used_up}
+use Rattle.model.specs.Definitions.Replay.{used_up}
 use Rattle.steps.specs.BlockLaws.{block_length, board_written, block_written}
-use Rattle.steps.specs.Blocks.{IsBlock, board_of}
+use Rattle.steps.specs.Blocks.{board_of}
 use Rattle.replay.specs.Used.{used_up_idle, used_next_used}
 use Rattle.replay.proofs.used.use_up.Goals as goal
 

@@ -1,11 +1,8 @@
 -- `replay::used::use_up` meets its contract. The invariant: what is left to use up gives what the whole gives. Assumes nothing.
-use mathlib.Core.Path.{◌≡◌, refl, sym, ap, ◌∙◌}
+use mathlib.Core.Path.{◌≡◌}
 use lib.ListN.{length}
-use Rattle.model.specs.Definitions.Codec.{encode_board}
 use Rattle.model.specs.Definitions.Replay.{records_left, used_up}
-use Rattle.steps.specs.BlockLaws.{block_length, board_written, block_written}
 use Rattle.steps.specs.Blocks.{IsBlock, board_of}
-use Rattle.replay.specs.Used.{used_up_idle, used_next_used}
 use Rattle.replay.proofs.used.use_up.Given as goal
 
 abbrev pub invariant-loop : goal.invariant-loop

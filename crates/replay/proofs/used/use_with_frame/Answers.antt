@@ -1,7 +1,6 @@
 -- `replay::used::use_with_frame` meets its contract. Assumes nothing.
 use mathlib.Core.Path.{◌∙◌}
 use native.Mathlib.Omega.{arith}
-use borrow.Author.Rules.{rules}
 use Rattle.steps.specs.BlockLaws.{block_length}
 use Rattle.replay.specs.Used.{frame_used}
 use Rattle.replay.proofs.used.use_with_frame.Goals as goal

@@ -1,9 +1,7 @@
 -- `script::feed::feed` meets its contract. The loop's invariant: the bytes before `i` were fed. Assumes nothing.
 use mathlib.Core.Path.{refl, sym, ◌∙◌}
-use Prim.Native.Nat.{◌-◌}
 use native.Mathlib.Omega.{arith}
-use lib.ListN.{length}
-use Rattle.script.specs.Laws.Machine.{Turn, fed_none, turn_running, turn_next, turn_done}
+use Rattle.script.specs.Laws.Machine.{fed_none, turn_running, turn_next, turn_done}
 use Rattle.script.proofs.feed.feed.Goals as goal
 
 pub loop-i-init : goal.loop-i-init

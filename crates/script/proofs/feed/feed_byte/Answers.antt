@@ -4,7 +4,6 @@ use native.Mathlib.Omega.{arith}
 use lib.Seq.{length-take-le}
 use Rattle.script.specs.Laws.Machine.{fed_stopped, fed_line, fed_long, fed_more}
 use Rattle.lines.specs.Laws.Tally.{counts_on}
-use borrow.Author.Rules.{rules}
 use Rattle.script.proofs.feed.feed_byte.Goals as goal
 
 pub returns-then-stopped : goal.returns-then-stopped

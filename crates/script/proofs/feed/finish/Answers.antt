@@ -2,9 +2,8 @@
 use mathlib.Core.Path.{sym, ◌∙◌}
 use native.Mathlib.Omega.{arith}
 use lib.Seq.{length-take-le}
-use Rattle.script.specs.Laws.Machine.{ends_stopped, ends_empty, ends_line}
+use Rattle.script.specs.Laws.Machine.{ends_stopped, ends_line}
 use Rattle.lines.specs.Laws.Tally.{counts_on}
-use borrow.Author.Rules.{rules}
 use Rattle.script.proofs.feed.finish.Goals as goal
 
 pub returns-then-stopped : goal.returns-then-stopped

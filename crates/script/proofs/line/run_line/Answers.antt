@@ -1,6 +1,5 @@
 -- `script::line::run_line` meets its contract. Assumes nothing.
 use Rattle.script.specs.Laws.Progress.{line_ran}
-use borrow.Author.Rules.{rules}
 use Rattle.script.proofs.line.run_line.Goals as goal
 
 pub returns : goal.returns

@@ -1,6 +1,5 @@
 -- `script::stream::end_input` meets its contract: the machine with an empty output is finished. Assumes nothing.
 use Rattle.script.specs.Laws.Stream.{put_written, same_machine, emptied_held}
-use borrow.Author.Rules.{rules}
 use Rattle.script.proofs.stream.end_input.Goals as goal
 
 pub finish-requires : goal.finish-requires

@@ -1,6 +1,5 @@
 -- `script::stream::feed_read` meets its contract: the machine with an empty output is fed. Assumes nothing.
 use Rattle.script.specs.Laws.Stream.{read_streamed, running_emptied}
-use borrow.Author.Rules.{rules}
 use Rattle.script.proofs.stream.feed_read.Goals as goal
 
 pub feed-requires : goal.feed-requires

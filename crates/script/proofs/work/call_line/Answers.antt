@@ -2,7 +2,6 @@
 use mathlib.Core.Path.{sym, ◌∙◌}
 use lib.Seq.{length-take-le}
 use Rattle.script.specs.Laws.Work.{call_works}
-use borrow.Author.Rules.{rules}
 use Rattle.script.proofs.work.call_line.Goals as goal
 
 pub slice_bounds-do_call-end-2 : goal.slice_bounds-do_call-end-2

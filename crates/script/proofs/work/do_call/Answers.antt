@@ -2,7 +2,6 @@
 use mathlib.Core.Path.{refl}
 use Rattle.script.specs.Laws.Work.{call_worked, line_unread}
 use Rattle.script.specs.Definitions.Runner.{work}
-use borrow.Author.Rules.{rules}
 use Rattle.script.proofs.work.do_call.Goals as goal
 
 pub returns-in-Make : goal.returns-in-Make

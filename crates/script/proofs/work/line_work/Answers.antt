@@ -6,9 +6,8 @@ use native.Mathlib.Omega.{arith}
 use Rattle.lines.specs.declared.request.Request.{Request}
 use Rattle.lines.specs.declared.request.Request.TheVariants.{Make, Read, Write, Checkpoint, Fuse, Restart, Unreadable}
 use Rattle.script.specs.Definitions.Runner.{work}
-use Rattle.script.specs.Laws.Work.{work_called, works_as, make_first}
+use Rattle.script.specs.Laws.Work.{works_as, make_first}
 use Rattle.script.specs.Clauses.{called}
-use borrow.Author.Rules.{rules}
 use Rattle.script.proofs.work.line_work.Goals as goal
 
 -- an arm other than N's

@@ -3,14 +3,11 @@ use mathlib.Core.Path.{◌≡◌, sym, ◌∙◌}
 use Prim.Native.Nat.{◌≤◌}
 use mathlib.Core.Bool.{true}
 use native.Mathlib.Omega.{arith}
-use lib.ListN.{length}
 use Prim.Native.Nat.{ℕ}
 use Rattle.model.specs.Definitions.Layout.{bank_size}
 use Rattle.script.specs.Clauses.{most_bank}
 use lib.Seq.{length-take-le}
-use borrow.Author.Tests.{not-true, not-false}
 use Rattle.script.specs.Laws.Work.{bank_sizes, make_works_refused, make_works_done}
-use borrow.Author.Rules.{rules}
 use Rattle.model.specs.Definitions.Check.{sizes_allowed}
 use Rattle.model.proofs.Laws.Fresh.{sizes_say}
 use Rattle.script.proofs.work.make_bank.Goals as goal

@@ -1,10 +1,9 @@
 -- `steps::access::gather` meets its contract. The invariant: the first bytes stand in the buffer, and with those to come they are all. Assumes nothing.
-use mathlib.Core.Path.{◌≡◌, refl}
-use Prim.Native.Nat.{◌+◌, ◌*◌, ◌-◌, ◌≤◌}
+use mathlib.Core.Path.{refl}
+use Prim.Native.Nat.{◌+◌, ◌*◌}
 use native.Mathlib.Omega.{arith}
-use lib.ListN.{length, length-set}
-use Rattle.steps.specs.Blocks.{board_of}
-use Rattle.steps.specs.Gathered.{Gathered, gathered_none, gathered_in, gathered_more, gathered_all}
+use lib.ListN.{length-set}
+use Rattle.steps.specs.Gathered.{gathered_none, gathered_in, gathered_more, gathered_all}
 use Rattle.steps.proofs.access.gather.Goals as goal
 
 pub loop-i-init : goal.loop-i-init

@@ -1,10 +1,9 @@
 -- `steps::access::gather` meets its contract. The invariant: the first bytes stand in the buffer, and with those to come they are all. Assumes nothing.
-use mathlib.Core.Path.{◌≡◌, refl}
-use Prim.Native.Nat.{◌+◌, ◌*◌, ◌-◌, ◌≤◌}
-use native.Mathlib.Omega.{arith}
-use lib.ListN.{length, length-set}
+use mathlib.Core.Path.{◌≡◌}
+use Prim.Native.Nat.{◌-◌, ◌≤◌}
+use lib.ListN.{length}
 use Rattle.steps.specs.Blocks.{board_of}
-use Rattle.steps.specs.Gathered.{Gathered, gathered_none, gathered_in, gathered_more, gathered_all}
+use Rattle.steps.specs.Gathered.{Gathered}
 use Rattle.steps.proofs.access.gather.Given as goal
 
 abbrev pub invariant-loop-i : goal.invariant-loop-i

@@ -1,10 +1,7 @@
 -- `steps::access::lacking_pages` meets its contract. The invariant: the set has the lacking ones of the first pages. Assumes nothing.
 use mathlib.Core.Path.{◌≡◌, sym, ◌∙◌}
-use mathlib.Core.Logic.{⊎_elim}
-use Prim.Native.Nat.{◌≤◌, ◌-◌}
 use native.Mathlib.Omega.{arith}
-use Rattle.steps.specs.Access.{LackingBelow, lacking_first, lacking_with, lacking_without, lacking_all}
-use Rattle.steps.specs.Blocks.{board_of}
+use Rattle.steps.specs.Access.{lacking_first, lacking_with, lacking_without, lacking_all}
 use Rattle.steps.proofs.access.lacking_pages.Goals.{then-lacks_page, else-lacks_page}
 use Rattle.steps.proofs.access.lacking_pages.Goals as goal
 

@@ -1,6 +1,5 @@
 -- `steps::access::lacks_page` meets its contract. Assumes nothing.
 use borrow.Author.Tests.{not-true, not-false}
-use borrow.Author.Rules.{rules}
 use Rattle.steps.proofs.access.lacks_page.Goals as goal
 
 pub returns-then-not-has : goal.returns-then-not-has

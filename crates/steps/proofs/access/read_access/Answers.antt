@@ -1,6 +1,5 @@
 -- `steps::access::read_access` meets its contract: both counters are one more. Assumes nothing.
 use native.Mathlib.Omega.{arith}
-use borrow.Author.Rules.{rules}
 use Rattle.model.specs.Definitions.Codec.{decode_board_in}
 use Rattle.steps.specs.Access.{access_counted}
 use Rattle.steps.specs.BlockLaws.{block_length}

@@ -1,7 +1,6 @@
 -- `steps::access::read_byte` meets its contract. Assumes nothing.
 use mathlib.Core.Path.{◌∙◌}
 use native.Mathlib.Omega.{arith}
-use borrow.Author.Rules.{rules}
 use Rattle.steps.specs.Access.{byte_read}
 use Rattle.steps.specs.BlockLaws.{block_length}
 use Rattle.steps.proofs.access.read_byte.Goals as goal

@@ -1,6 +1,5 @@
 -- `steps::access::right` meets its contract. Assumes nothing.
 use native.Mathlib.Omega.{arith}
-use borrow.Author.Rules.{rules}
 use Rattle.steps.specs.Access.{right_read}
 use Rattle.steps.specs.BlockLaws.{block_length}
 use Rattle.steps.proofs.access.right.Goals as goal

@@ -1,7 +1,6 @@
 -- `steps::access::set_frame` meets its contract. Assumes nothing.
 use mathlib.Core.Path.{◌∙◌}
 use native.Mathlib.Omega.{arith}
-use borrow.Author.Rules.{rules}
 use Rattle.steps.specs.Access.{frame_written}
 use Rattle.steps.specs.BlockLaws.{block_length}
 use Rattle.steps.proofs.access.set_frame.Goals as goal

@@ -1,7 +1,6 @@
 -- `steps::access::too_little` meets its contract: by the right, and by the flag. Assumes nothing.
 use mathlib.Core.Path.{◌≡◌, refl}
 use mathlib.Core.Bool.{Bool, true, false}
-use borrow.Author.Rules.{rules}
 use Rattle.types.specs.declared.Right.TheVariants.{None, Copy, Own}
 use Rattle.model.specs.Definitions.Steps.{lacks}
 use Rattle.steps.specs.Asked.{got}

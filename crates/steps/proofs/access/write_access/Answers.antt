@@ -1,7 +1,6 @@
 -- `steps::access::write_access` meets its contract: the counters, then the byte. Assumes nothing.
 use mathlib.Core.Path.{◌∙◌}
 use native.Mathlib.Omega.{arith}
-use borrow.Author.Rules.{rules}
 use Rattle.steps.specs.Access.{byte_written}
 use Rattle.steps.specs.BlockLaws.{block_length}
 use Rattle.steps.proofs.access.write_access.Goals as goal

@@ -1,7 +1,6 @@
 -- `steps::checkpoint::rest` meets its contract. Assumes nothing.
 use native.Mathlib.Omega.{arith}
 use Rattle.steps.specs.Checkpoint.{rest_bytes}
-use borrow.Author.Rules.{rules}
 use Rattle.steps.specs.BlockLaws.{block_length}
 use Rattle.steps.proofs.checkpoint.rest.Goals as goal
 

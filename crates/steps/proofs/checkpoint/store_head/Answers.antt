@@ -2,7 +2,6 @@
 use mathlib.Core.Path.{◌∙◌}
 use native.Mathlib.Omega.{arith}
 use Rattle.steps.specs.Checkpoint.{store_head_bytes}
-use borrow.Author.Rules.{rules}
 use Rattle.steps.specs.BlockLaws.{block_length}
 use Rattle.steps.proofs.checkpoint.store_head.Goals as goal
 

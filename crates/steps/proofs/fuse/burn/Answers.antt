@@ -6,7 +6,6 @@ use native.Mathlib.Omega.{arith}
 use borrow.Author.Tests.{ne_eqb}
 use Rattle.steps.specs.BlockLaws.{block_length}
 use Rattle.steps.specs.Fuse.{burn_unset, burn_lowered}
-use borrow.Author.Rules.{rules}
 use Rattle.steps.proofs.fuse.burn.Goals as goal
 
 pub read_fuse-fuse-requires : goal.read_fuse-fuse-requires

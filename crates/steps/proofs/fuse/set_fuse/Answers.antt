@@ -3,7 +3,6 @@ use mathlib.Core.Path.{◌∙◌}
 use native.Mathlib.Omega.{arith}
 use Rattle.steps.specs.BlockLaws.{block_length}
 use Rattle.steps.specs.Fuse.{fuse_bytes}
-use borrow.Author.Rules.{rules}
 use Rattle.steps.proofs.fuse.set_fuse.Goals as goal
 
 pub write_fuse-requires : goal.write_fuse-requires

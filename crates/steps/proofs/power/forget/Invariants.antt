@@ -1,11 +1,9 @@
 -- `steps::power::forget` meets its contract. The loop's invariant: the first pages have no bit of the board. Assumes nothing.
-use mathlib.Core.Path.{◌≡◌, refl, sym, ap, ◌∙◌}
+use mathlib.Core.Path.{◌≡◌}
 use Prim.Native.Nat.{◌≤◌, ◌-◌}
-use native.Mathlib.Omega.{arith}
 use lib.ListN.{length}
 use Rattle.model.specs.Definitions.Codec.{encode, decode}
-use Rattle.model.proofs.Laws.BankLoops.{forget_first, forget_first_none}
-use Rattle.steps.specs.Power.{forget_next, forget_all, directory_in}
+use Rattle.model.proofs.Laws.BankLoops.{forget_first}
 use Rattle.steps.proofs.power.forget.Given as goal
 
 abbrev pub invariant-loop-page : goal.invariant-loop-page

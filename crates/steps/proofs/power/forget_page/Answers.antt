@@ -6,7 +6,6 @@ use Rattle.model.specs.Definitions.Layout.{head_size, entry_size}
 use Rattle.model.specs.Definitions.Bank.{Entry}
 use Rattle.model.specs.Definitions.Codec.{encode_entry}
 use Rattle.model.specs.Definitions.Steps.{forgotten}
-use borrow.Author.Rules.{rules}
 use Rattle.steps.proofs.power.forget_page.Goals as goal
 
 -- the entry that is written

@@ -9,7 +9,6 @@ use Rattle.model.specs.Definitions.Steps.{forgotten, powered_off, power_off}
 use Rattle.model.proofs.Laws.BoardFields.{powered_off_fields}
 use Rattle.steps.specs.BankBlocks.{LentBlock, lent_in, lent_fields, lent_block, lent_step}
 use Rattle.steps.specs.Power.{forget_fields}
-use borrow.Author.Rules.{rules}
 use Rattle.steps.proofs.power.power_off.Goals.{After-block_size-size}
 use Rattle.steps.proofs.power.power_off.Goals as goal
 

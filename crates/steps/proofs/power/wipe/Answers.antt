@@ -1,7 +1,6 @@
 -- `steps::power::wipe` meets its contract. Assumes nothing.
 use native.Mathlib.Omega.{arith}
 use Rattle.steps.specs.Power.{wiped_bytes}
-use borrow.Author.Rules.{rules}
 use Rattle.steps.specs.BlockLaws.{block_length}
 use Rattle.steps.proofs.power.wipe.Goals as goal
 

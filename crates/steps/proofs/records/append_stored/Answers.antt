@@ -3,7 +3,6 @@ use mathlib.Core.Path.{◌∙◌}
 use native.Mathlib.Omega.{arith}
 use Rattle.steps.specs.Logs.{append_bytes}
 use Rattle.steps.specs.Selected.{stored_count_lem}
-use borrow.Author.Rules.{rules}
 use Rattle.steps.specs.BlockLaws.{block_length}
 use Rattle.steps.proofs.records.append_stored.Goals as goal
 

@@ -1,7 +1,6 @@
 -- `steps::records::end_flush` meets its contract. Assumes nothing.
 use native.Mathlib.Omega.{arith}
 use Rattle.steps.specs.Logs.{end_bytes}
-use borrow.Author.Rules.{rules}
 use Rattle.steps.specs.BlockLaws.{block_length}
 use Rattle.steps.proofs.records.end_flush.Goals as goal
 

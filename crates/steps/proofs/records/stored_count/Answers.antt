@@ -1,7 +1,6 @@
 -- `steps::records::stored_count` meets its contract. Assumes nothing.
 use mathlib.Core.Path.{◌∙◌}
 use Rattle.steps.specs.Selected.{stored_count_lem}
-use borrow.Author.Rules.{rules}
 use Rattle.steps.specs.BlockLaws.{block_length}
 use Rattle.steps.proofs.records.stored_count.Goals as goal
 

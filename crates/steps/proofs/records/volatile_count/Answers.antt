@@ -1,7 +1,6 @@
 -- `steps::records::volatile_count` meets its contract. Assumes nothing.
 use mathlib.Core.Path.{◌∙◌}
 use Rattle.steps.specs.Logs.{volatile_read}
-use borrow.Author.Rules.{rules}
 use Rattle.steps.proofs.records.volatile_count.Goals as goal
 
 pub returns : goal.returns

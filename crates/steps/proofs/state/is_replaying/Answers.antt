@@ -1,7 +1,6 @@
 -- `steps::state::is_replaying` meets its contract. Assumes nothing.
 use mathlib.Core.Path.{◌∙◌}
 use Rattle.steps.specs.States.{replaying_byte}
-use borrow.Author.Rules.{rules}
 use Rattle.steps.proofs.state.is_replaying.Goals as goal
 
 pub returns : goal.returns

@@ -1,7 +1,6 @@
 -- `steps::state::is_up` meets its contract. Assumes nothing.
 use mathlib.Core.Path.{◌∙◌}
 use Rattle.steps.specs.States.{up_byte}
-use borrow.Author.Rules.{rules}
 use Rattle.steps.proofs.state.is_up.Goals as goal
 
 pub returns : goal.returns

@@ -1,5 +1,4 @@
 -- `steps::state::same` meets its contract. Assumes nothing.
-use borrow.Author.Rules.{rules}
 use Rattle.steps.proofs.state.same.Goals as goal
 
 pub returns : goal.returns

@@ -5,7 +5,6 @@ use native.Mathlib.Omega.{arith}
 use Rattle.model.specs.Definitions.Steps.{stored_head, stored_selector}
 use Rattle.stores.specs.Store.{at_block, at_next, at_cut}
 use Rattle.stores.specs.Checkpoint.{head_ok, selector_ok, frames_at, frames_lost, head_lost, selector_lost, checkpoint_ran}
-use borrow.Author.Rules.{rules}
 use Rattle.stores.proofs.checkpoint.checkpoint.Goals as goal
 
 pub returns-then-frames : goal.returns-then-frames

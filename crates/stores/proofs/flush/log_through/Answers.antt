@@ -1,6 +1,5 @@
 -- `stores::flush::log_through` meets its contract. Assumes nothing.
 use Rattle.stores.specs.Flush.{noted_block, noted_room, logged_ran}
-use borrow.Author.Rules.{rules}
 use Rattle.stores.proofs.flush.log_through.Goals as goal
 
 pub flush-requires : goal.flush-requires

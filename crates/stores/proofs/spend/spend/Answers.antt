@@ -5,7 +5,6 @@ use Rattle.model.specs.Definitions.Steps.{powered_off}
 use Rattle.model.proofs.Laws.BoardFields.{burnt_fields}
 use Rattle.steps.specs.BlockLaws.{board_written, block_written}
 use Rattle.stores.specs.RunLaws.{spent_cut, spent_kept}
-use borrow.Author.Rules.{rules}
 use Rattle.stores.proofs.spend.spend.Goals as goal
 
 pub wipe-requires : goal.wipe-requires

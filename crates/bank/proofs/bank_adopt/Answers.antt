@@ -1,0 +1,6 @@
+-- `bank::bank_adopt` meets its contract: the call, and its outcome as a number. Assumes nothing.
+use Rattle.bank.specs.Clauses.{replied_packed}
+use Rattle.bank.proofs.bank_adopt.Goals as goal
+
+pub returns : goal.returns
+returns c = replied_packed c.adopt.ensures.reply (c.pack.ensures.number, c.pack.ensures.back)

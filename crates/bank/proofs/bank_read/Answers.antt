@@ -1,0 +1,6 @@
+-- `bank::bank_read` meets its contract: the call, and its outcome as a number. Assumes nothing.
+use Rattle.bank.specs.Clauses.{replied_packed}
+use Rattle.bank.proofs.bank_read.Goals as goal
+
+pub returns : goal.returns
+returns c = replied_packed c.read.ensures.reply (c.pack.ensures.number, c.pack.ensures.back)
