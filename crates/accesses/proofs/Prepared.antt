@@ -1,15 +1,17 @@
 -- A live access in the shape in which the code does it: what comes before it, the access itself, and the answer. Assumes nothing.
-use Rattle.std.specs.Prelude.{◌≡◌, refl, ◌≢◌, ℕ, zero, suc, ◌+◌, ◌/◌, ◌%◌, ◌^◌, ◌≤◌, ◌<◌, Bool, true, false, ◌&&◌, not, length, eqb}
+use Rattle.std.specs.Prelude.{◌≡◌, refl, ◌≢◌, ℕ, zero, suc, ◌+◌, ◌/◌, ◌%◌, ◌^◌, ◌≤◌, ◌<◌, Bool, true, false, ◌&&◌, not, length, eqb, Some, None, MatchOption, IsSomeAnd, IfSome}
+use Rattle.std.specs.Prelude as code
 use Rattle.std.proofs.Math.Path.{sym, ap}
 use Rattle.std.proofs.Common.{◌∙◌, arith}
-use Rattle.std.proofs.Math.Option.{none, some}
+use Rattle.std.proofs.Math.Option.{Option, none, some}
 use mathlib.Core.List.{List, [], ◌∷◌}
 use Rattle.std.specs.Int.Count.{ones, ones_in, ones_step}
-use borrow.Author.Tests.{eq-eqb, ne_eqb, lt-ltb, le-ltb}
+use borrow.Author.Tests.{eq-eqb, ne_eqb}
 use Rattle.words.specs.Bytes.{each_nil, each_cons}
 use Rattle.types.specs.declared.CopyOrOwn.TheVariants.{GotOwn}
 use Rattle.types.specs.declared.Answer.{Answer}
 use Rattle.types.specs.declared.Answer.TheVariants.{Done, OwnerNotUp, LogFull, PowerLost}
+use Rattle.steps.specs.declared.access.CellWrite.{CellWrite}
 use Rattle.accesses.specs.declared.ask.Ask.{Ask}
 use Rattle.model.specs.Definitions.Answers.{code, value}
 use Rattle.model.specs.Definitions.Parts.{first_below, member}
@@ -33,14 +35,25 @@ use Rattle.steps.specs.Access.{lacking_test}
 use Rattle.steps.specs.Asked.{got}
 use Rattle.copies.specs.Copies.{pages_in}
 use Rattle.copies.specs.Banks.{Holds, OfBank, holds_well_formed, holds_decode, holds_of}
-use Rattle.exchange.specs.declared.progress.Loss.{Loss}
-use Rattle.exchange.specs.declared.progress.Loss.TheVariants.{Nobody, Board}
-use Rattle.exchange.specs.Progress.{running, loss_of, Came}
-use Rattle.accesses.specs.Needs.{found_in, none_found, first_below_same, need_zero, need_of, room_kept}
+use Rattle.exchange.specs.Progress.{running, Came}
+use Rattle.accesses.specs.Needs.{none_found, first_below_same, need_zero, need_of, room_kept}
 use Rattle.accesses.specs.Asks.{Lacking, Asks}
 use Rattle.accesses.specs.Results.{Answered}
 use Rattle.accesses.specs.Prepared.{without_out}
 use Rattle.model.proofs.Laws.Moves.Calls.{bytes_seen_lem, prepared_keeps, prepared_sizes}
+
+-- what is written, as the code asks it and as it passes on the page
+
+pub none_told : (o : code.Option CellWrite) → code.is_some o ≡ false → o ≡ None
+none_told None e = refl
+none_told (Some w) e = cc
+
+pub page_told : {Q : CellWrite → ℕ → Type 0} (o : code.Option CellWrite) (r : code.Option ℕ) (P : ℕ → Type 0)
+    → MatchOption o (r ≡ None) (λ w. IsSomeAnd r (Q w)) → ((w : CellWrite) (p : ℕ) → Q w p → p ≡ w.page) → ((w : CellWrite) → o ≡ Some w → P w.page)
+    → IfSome r P
+page_told None r P h f g = rw h tt
+page_told (Some w) None P h f g = absurd h
+page_told (Some w) (Some p) P h f g = rw (f w p h) (g w refl)
 
 pub out_none : (w p : ℕ) (k : Bank) → (entry_at k p).copies ≡ 0 → k ≡ without_out w p k
 unfolding without_out
@@ -74,48 +87,48 @@ module _ {pages : ℕ} {a : Access} {q : Ask} {set : ℕ} {k : Bank} (l : Lackin
   pages_lacking_lem = rw frames (all_below_same (λ p. member p set) (lacks_page a (board_at k q.board).working.frames) pages (λ p h. l.lacks p))
 
   -- a write takes its one page
-  pub page_written_lem : q.writes ≡ true → page_written a ≡ q.page
+  pub page_written_lem : (w : CellWrite) → q.write ≡ Some w → page_written a ≡ w.page
   unfolding page_written
-  page_written_lem w = cc l.stands.writes
+  page_written_lem w e = cc (rw e at l.stands.writes)
 
-  pub one_lacking : q.writes ≡ true → set ≢ 0 → pages_in pages set ≡ q.page ∷ []
+  pub one_lacking : (w : CellWrite) → q.write ≡ Some w → set ≢ 0 → pages_in pages set ≡ w.page ∷ []
   unfolding got lacking_of pages_lacking
-  one_lacking w n =
-      let own : takes a ≡ GotOwn = l.stands.takes.takes ∙ ap got w in
-      pages_lacking_lem ∙ rw (page_written_lem w) at (lacking_own a (board_at k q.board).working.frames own (lacks_some n))
+  one_lacking w e n =
+      let own : takes a ≡ GotOwn = l.stands.takes.takes ∙ ap (λ o. got (code.is_some o)) e in
+      pages_lacking_lem ∙ rw (page_written_lem w e) at (lacking_own a (board_at k q.board).working.frames own (lacks_some n))
 
-  copies_out_lem : q.writes ≡ true → copies_out a k ≡ not (eqb (entry_at k q.page).copies 0)
+  copies_out_lem : (w : CellWrite) → q.write ≡ Some w → copies_out a k ≡ not (eqb (entry_at k w.page).copies 0)
   unfolding copies_out
-  copies_out_lem w = cc l.stands.writes
+  copies_out_lem w e = cc (rw e at l.stands.writes)
 
-  copies_in : q.writes ≡ false → copies_out a k ≡ false
+  copies_in : q.write ≡ None → copies_out a k ≡ false
   unfolding copies_out
-  copies_in w = cc l.stands.writes
+  copies_in e = cc (rw e at l.stands.writes)
 
   module _ (n : ℕ) where
-    pub prepared_fetch : set ≢ 0 → fetch (got q.writes) q.board (pages_in pages set) (running n k) ≡ prepared q.board a (running n k)
+    pub prepared_fetch : set ≢ 0 → fetch (got (code.is_some q.write)) q.board (pages_in pages set) (running n k) ≡ prepared q.board a (running n k)
     unfolding prepared
     prepared_fetch s = cc (lacks_some s, pages_lacking_lem, l.stands.takes.takes)
 
-    pub prepared_own_write : q.writes ≡ true → set ≡ 0 → running n (without_out q.board q.page k) ≡ prepared q.board a (running n k)
+    pub prepared_own_write : (w : CellWrite) → q.write ≡ Some w → set ≡ 0 → running n (without_out q.board w.page k) ≡ prepared q.board a (running n k)
     unfolding prepared step without_out
-    prepared_own_write w e =
-        let out = copies_out_lem w in
-        by_bool (eqb (entry_at k q.page).copies 0)
-        (λ z. cc (lacks_none e, page_written_lem w))
-        (λ z. cc (lacks_none e, page_written_lem w))
+    prepared_own_write w h e =
+        let out = copies_out_lem w h in
+        by_bool (eqb (entry_at k w.page).copies 0)
+        (λ z. cc (lacks_none e, page_written_lem w h))
+        (λ z. cc (lacks_none e, page_written_lem w h))
 
-    pub prepared_local_read : q.writes ≡ false → set ≡ 0 → running n k ≡ prepared q.board a (running n k)
+    pub prepared_local_read : q.write ≡ None → set ≡ 0 → running n k ≡ prepared q.board a (running n k)
     unfolding prepared
     prepared_local_read w e = cc (lacks_none e, copies_in w)
 
   -- a board that holds a copy of a page that its owner writes has room for a record
-  pub holder_space : q.writes ≡ true → set ≡ 0 → WellFormed k → CanAccess q.board a k → first_given (live_refusals q.board a k) ≡ none
-      → (c : ℕ) → c < length k.boards → member c (entry_at k q.page).copies ≡ true → Space (board_at k c)
-  holder_space w e formed can passed c h m =
+  pub holder_space : (w : CellWrite) → q.write ≡ Some w → set ≡ 0 → WellFormed k → CanAccess q.board a k → first_given (live_refusals q.board a k) ≡ none
+      → (c : ℕ) → c < length k.boards → member c (entry_at k w.page).copies ≡ true → Space (board_at k c)
+  holder_space w i e formed can passed c h m =
       let out : copies_out a k ≡ true =
-      by_eq (entry_at k q.page).copies 0 (λ z. clash (rw z at m) (member_none c)) (λ z. copies_out_lem w ∙ ap not (ne_eqb _ 0 z)) in
-      omega (arith, can_drop q.board a k formed can passed (lacks_none e) out c h (rw (page_written_lem w) m))
+      by_eq (entry_at k w.page).copies 0 (λ z. clash (rw z at m) (member_none c)) (λ z. copies_out_lem w i ∙ ap not (ne_eqb _ 0 z)) in
+      omega (arith, can_drop q.board a k formed can passed (lacks_none e) out c h (rw (page_written_lem w i) m))
 
 -- ---- the access itself
 
@@ -143,52 +156,47 @@ given_up true k p u = cc
 given_up false k p u = cc
 
 -- as the code has them: the page and the board that the searches found
-module _ {pages : ℕ} {a : Access} {q : Ask} {set : ℕ} {k : Bank} (l : Lacking pages a q set k) (count : pages ≡ length k.directory) (p : ℕ)
-    (found : found_in pages p ≡ first_below pages (λ j. member j set && nobody_gives (got q.writes) k j)) where
-  missing_is : found_in pages p ≡ page_missing q.board a k
+module _ {pages : ℕ} {a : Access} {q : Ask} {set : ℕ} {k : Bank} (l : Lacking pages a q set k) (count : pages ≡ length k.directory) {o : Option ℕ}
+    (is_first : o ≡ first_below pages (λ j. member j set && nobody_gives (got (code.is_some q.write)) k j)) where
+  missing_is : o ≡ page_missing q.board a k
   unfolding page_missing
   missing_is =
-      found
+      is_first
       ∙ rw (← count, l.stands.takes.takes)
-      (first_below_same (λ j. member j set && nobody_gives (got q.writes) k j)
-      (λ j. lacks_page a (board_at k q.board).working.frames j && nobody_gives (got q.writes) k j) pages
-      (λ j. ap (λ (t : Bool). t && nobody_gives (got q.writes) k j) (l.lacks j)))
+      (first_below_same (λ j. member j set && nobody_gives (got (code.is_some q.write)) k j)
+      (λ j. lacks_page a (board_at k q.board).working.frames j && nobody_gives (got (code.is_some q.write)) k j) pages
+      (λ j. ap (λ (t : Bool). t && nobody_gives (got (code.is_some q.write)) k j) (l.lacks j)))
 
-  pub refuses_owner : (owner : ℕ) → owner ≡ (entry_at k p).owner → p < pages → some (OwnerNotUp owner) ≡ first_given (live_refusals q.board a k)
-  unfolding live_refusals first_given found_in is_some number_in
-  refuses_owner owner o h =
-      let s : page_missing q.board a k ≡ some p = cc (missing_is, lt-ltb p pages h) in
+  pub refuses_owner : (p owner : ℕ) → o ≡ some p → owner ≡ (entry_at k p).owner → some (OwnerNotUp owner) ≡ first_given (live_refusals q.board a k)
+  unfolding live_refusals first_given is_some number_in
+  refuses_owner p owner h i =
+      let s : page_missing q.board a k ≡ some p = cc missing_is in
       cc
 
-  module _ (h : pages ≤ p) where
+  module _ (h : o ≡ none) where
     none_missing : page_missing q.board a k ≡ none
-    unfolding found_in
-    none_missing = cc (missing_is, le-ltb p pages h)
+    none_missing = cc missing_is
 
-    pub refuses_short : (n c : ℕ) → c < n → found_in n c ≡ short_board q.board a k → some (LogFull c) ≡ first_given (live_refusals q.board a k)
-    unfolding live_refusals first_given found_in is_some number_in
-    refuses_short n c g e =
-        let s : short_board q.board a k ≡ some c = cc (lt-ltb c n g) in
-        cc (none_missing)
+    pub refuses_short : (c : ℕ) → some c ≡ short_board q.board a k → some (LogFull c) ≡ first_given (live_refusals q.board a k)
+    unfolding live_refusals first_given is_some number_in
+    refuses_short c e = cc none_missing
 
-    pub refuses_none : (n c : ℕ) → n ≤ c → found_in n c ≡ short_board q.board a k → none ≡ first_given (live_refusals q.board a k)
-    unfolding live_refusals first_given found_in is_some
-    refuses_none n c g e =
-        let s : short_board q.board a k ≡ none = cc (le-ltb c n g) in
-        cc (none_missing)
+    pub refuses_none : none ≡ short_board q.board a k → none ≡ first_given (live_refusals q.board a k)
+    unfolding live_refusals first_given is_some
+    refuses_none e = cc none_missing
 
 -- an access that lacks no page and writes nothing is refused by neither
-pub passes_idle : {pages : ℕ} {a : Access} {q : Ask} {k : Bank} → Lacking pages a q 0 k → pages ≡ length k.directory → WellFormed k → q.writes ≡ false
+pub passes_idle : {pages : ℕ} {a : Access} {q : Ask} {k : Bank} → Lacking pages a q 0 k → pages ≡ length k.directory → WellFormed k → q.write ≡ None
     → none ≡ first_given (live_refusals q.board a k)
 unfolding short_board short
 passes_idle {pages} {a} {q} {k} l count formed w =
-    let missing = none_found pages (λ j. member j 0 && nobody_gives (got q.writes) k j) (λ j h. rw (member_none j)) in
+    let missing = none_found pages (λ j. member j 0 && nobody_gives (got (code.is_some q.write)) k j) (λ j h. rw (member_none j)) in
     let roomy =
     none_found (length k.boards) (short q.board a k)
     (λ c h.
     let none_needed : need q.board a k c ≡ 0 = sym (need_zero l c w refl ∙ need_of pages q.board a k c count) in
     sym (room_kept (board_at k c) (need q.board a k c) none_needed (formed.boards c h).room)) in
-    refuses_none l count pages missing (omega arith) (length k.boards) (length k.boards) (omega arith) roomy
+    refuses_none l count missing refl roomy
 
 -- every answer of theirs is a refusal
 refused_live : (b : ℕ) (a : Access) (k : Bank) (x : Answer) → some x ≡ first_given (live_refusals b a k) → (on_value (λ v. 0) x ≡ x) × (code x ≢ 0)
@@ -234,8 +242,7 @@ copies_counted n m e =
 
 -- ---- a run that goes on, and one whose bytes are known
 
-pub came_idle : {s : List ℕ} (n : ℕ) (j : Bank) → s ≡ encode j → Came s (n + 0) (loss_of Nobody) (running n j)
-unfolding loss_of
+pub came_idle : {s : List ℕ} (n : ℕ) (j : Bank) → s ≡ encode j → Came s (n + 0) none (running n j)
 came_idle n j e = record { bytes = e; stores = omega arith; lost = refl }
 
 -- ---- the bytes after what comes before the access
@@ -259,19 +266,17 @@ module _ (b : ℕ) (a : Access) (n : ℕ) (k : Bank) (w : WellFormed k) (can : C
   ahead_ready e l = rw (ahead_decode e) (prepared_ready b a (running n k) w can passed (sym l))
 
   -- the answer, with power lost or the access done
-  pub answered_lost : {s out : List ℕ} (m c : ℕ) (l : Loss) → l ≡ Board c → Came s (n + m) (loss_of l) ahead
+  pub answered_lost : {s out : List ℕ} (m c : ℕ) → Came s (n + m) (some c) ahead
       → Answered a s (record { answer = PowerLost c; stores = m }) n (performed b a ahead) out
-  unfolding loss_of on_value code
-  answered_lost m c l z h =
-      let e : some c ≡ ahead.lost = sym (ap loss_of z) ∙ h.lost in
-      rw (performed_lost b a ahead c e) (record { bytes = h.bytes; answer = refl; stores = h.stores; read = λ i. absurd (omega arith) })
+  unfolding on_value code
+  answered_lost m c h =
+      rw (performed_lost b a ahead c h.lost) (record { bytes = h.bytes; answer = refl; stores = h.stores; read = λ i. absurd (omega arith) })
 
-  pub answered_done : {s t out : List ℕ} (m : ℕ) (l : Loss) → l ≡ Nobody → Came s (n + m) (loss_of l) ahead
+  pub answered_done : {s t out : List ℕ} (m : ℕ) → Came s (n + m) none ahead
       → out ≡ read_from a (board_at (decode s) b).working.frames → Holds t (access b a (decode s))
       → Answered a t (record { answer = Done 0; stores = m }) n (performed b a ahead) out
-  unfolding loss_of on_value value
-  answered_done {s} m l z h e y =
+  unfolding on_value value
+  answered_done {s} m h e y =
       let d = ahead_decode h.bytes in
-      let f : none ≡ ahead.lost = sym (ap loss_of z) ∙ h.lost in
-      rw (performed_done b a ahead f, ← d)
+      rw (performed_done b a ahead h.lost, ← d)
       (record { bytes = y.bytes; answer = refl; stores = h.stores; read = λ i. e ∙ sym (bytes_seen_lem a (board_at (decode s) b).working.frames) })

@@ -1,8 +1,10 @@
 -- What an access asks for, as the code passes it by value, and what is asked of a bank and of an access before it goes on; that such an access leaves
 -- every field in range. Assumes nothing.
-use Rattle.std.specs.Prelude.{◌≡◌, ℕ, ◌*◌, ◌<◌, Bool, true, false, List, length}
+use Rattle.std.specs.Prelude.{◌≡◌, ℕ, ◌*◌, ◌<◌, false, List, length, Option, Some, None, IfSome, is_some}
 use Rattle.std.proofs.Math.Option.{none}
+use Rattle.std.proofs.lemmas.Option.{IfSome_then}
 use Rattle.words.specs.Bytes.{Each, each_nil, each_cons}
+use Rattle.steps.specs.declared.access.CellWrite.{CellWrite}
 use Rattle.accesses.specs.declared.ask.Ask.{Ask}
 use Rattle.model.specs.Definitions.Parts.{member}
 use Rattle.model.specs.Definitions.Layout.{byte_values, page_size, last_since, last_number}
@@ -23,8 +25,8 @@ use Rattle.exchange.specs.Progress.{running}
 
 -- access a is what an ask says, but for the cells that it reads
 pub record Stands (pages : ℕ) (a : Access) (q : Ask) : Type 0 where
-  pub takes : Takes pages a q.writes q.named
-  pub writes : cells_written a ≡ wrote_byte q.writes q.page q.offset q.value
+  pub takes : Takes pages a (is_some q.write) q.named
+  pub writes : cells_written a ≡ wrote_byte q.write
 
 -- .. and the pages of a set are those that it lacks
 pub record Lacking (pages : ℕ) (a : Access) (q : Ask) (set : ℕ) (k : Bank) : Type 0 where
@@ -63,17 +65,25 @@ pub record Asks (boards pages : ℕ) (q : Ask) (s : List ℕ) : Type 0 where
 pub record InRange (pages : ℕ) (q : Ask) (asked : List ℕ) (bytes : ℕ) : Type 0 where
   pub cells : Each (CellIn pages) (cells_asked asked)
   pub room : length asked ≡ 2 * bytes
-  pub byte : q.writes ≡ true → (q.page < pages) × (q.offset < page_size)
+  pub byte : IfSome q.write (λ w. (w.page < pages) × (w.offset < page_size))
+  -- (its type says so too)
+  pub small : IfSome q.write (λ w. w.value < byte_values)
+
+pub page_in : {pages : ℕ} {q : Ask} {asked : List ℕ} {bytes : ℕ} → InRange pages q asked bytes → IfSome q.write (λ w. w.page < pages)
+page_in {pages} {q} h =
+    let P : CellWrite → Type 0 = λ w. (w.page < pages) × (w.offset < page_size) in
+    let Q : CellWrite → Type 0 = λ w. w.page < pages in
+    IfSome_then q.write {P = P} {Q = Q} h.byte (λ w i. i.0)
 
 -- ---- an access leaves every field in range
 
-wrote_small : (flag : Bool) (p o v : ℕ) → v < byte_values → Each (λ w. w.1 < byte_values) (wrote_byte flag p o v)
-wrote_small true p o v h = each_cons h each_nil
-wrote_small false p o v h = each_nil
+wrote_small : (write : Option CellWrite) → IfSome write (λ w. w.value < byte_values) → Each (λ w. w.1 < byte_values) (wrote_byte write)
+wrote_small (Some w) h = each_cons h each_nil
+wrote_small None h = each_nil
 
-module _ {pages : ℕ} (a : Access) (q : Ask) (s : Stands pages a q) (v : q.value < byte_values) where
+module _ {pages : ℕ} (a : Access) (q : Ask) (s : Stands pages a q) (v : IfSome q.write (λ w. w.value < byte_values)) where
   pub written_small : Each (λ w. w.1 < byte_values) (cells_written a)
-  written_small = rw s.writes (wrote_small q.writes q.page q.offset q.value v)
+  written_small = rw s.writes (wrote_small q.write v)
 
   pub stands_writable : {x : Board} → FieldsOk pages x → lacking a x.working.frames ≡ false → Writable x.working.frames (cells_written a)
   stands_writable {x} ok l = writable a x.working.frames l (λ p t. rw ok.working.frames.count (s.takes.below p t)) written_small

@@ -1,5 +1,5 @@
 -- An access of a replaying board on its block: what it leaves, and how far it came; that every field stays in range. Assumes nothing.
-use Rattle.std.specs.Prelude.{◌≡◌, ℕ, ◌<◌, true, false}
+use Rattle.std.specs.Prelude.{◌≡◌, ℕ, ◌<◌, true, false, IfSome}
 use Rattle.std.proofs.Common.{arith}
 use Rattle.accesses.specs.declared.ask.Ask.{Ask}
 use Rattle.accesses.specs.declared.blocks.Replayed.{Replayed}
@@ -39,12 +39,12 @@ module _ {pages : ℕ} {x : Board} (ok : FieldsOk pages x) (a : Access) (h : Rep
   pub taken_since : (took_due x).working.since < last_since
   taken_since = omega (arith, (took_due_took x).since, h.since)
 
-  module _ (q : Ask) (s : Stands pages a q) (small : q.value < byte_values) where
+  module _ (q : Ask) (s : Stands pages a q) (small : IfSome q.write (λ w. w.value < byte_values)) where
     module _ (on : replay_over (took_due x) ≡ false) where
       taken_right : lacking a (took_due x).working.frames ≡ false
       taken_right = fits_has a x h.fits on
 
-      pub taken_writable : Writable (took_due x).working.frames (wrote_byte q.writes q.page q.offset q.value)
+      pub taken_writable : Writable (took_due x).working.frames (wrote_byte q.write)
       taken_writable = rw s.writes at (stands_writable a q s small (took_due_fields x ok) taken_right)
 
       pub repeated_fields : FieldsOk pages (replayed a (took_due x))

@@ -1,16 +1,19 @@
 -- What a board needs in its log for an access, by the code's tests, page by page, and the search for the lowest board that is short of room.
 -- Assumes nothing.
-use Rattle.std.specs.Prelude.{◌≡◌, refl, ◌≢◌, Bool, not, length, ltb, leb}
+use Rattle.std.specs.Prelude.{◌≡◌, refl, ◌≢◌, Bool, not, length, ltb, leb, is_some}
 use Rattle.std.proofs.Math.Path.{sym, ap}
 use Rattle.std.proofs.Common.{◌∙◌}
 use Prim.Native.Nat.{ℕ, zero, suc, ◌+◌, ◌-◌, ◌≤◌, ◌<◌}
 use native.Mathlib.Omega.{arith}
 use Rattle.std.proofs.Math.Bool.{true, false}
 use Rattle.std.proofs.Math.Option.{Option, none, some}
+use Rattle.std.specs.Prelude as code
+use Rattle.std.specs.Prelude.{None, Some}
 use borrow.Author.Tests.{eq-eqb, ne_eqb, lt-ltb, le-ltb, leb-true, leb-false}
 use mathlib.Core.List.{List}
 use Rattle.types.specs.declared.Frame.{Frame}
 use Rattle.types.specs.declared.CopyOrOwn.TheVariants.{GotOwn}
+use Rattle.steps.specs.declared.access.CellWrite.{CellWrite}
 use Rattle.accesses.specs.declared.ask.Ask.{Ask}
 use Rattle.model.specs.Definitions.Parts.{member, first_from, first_below, sum_from, sum_below}
 use Rattle.model.specs.Definitions.Layout.{slot_count}
@@ -65,8 +68,8 @@ module _ (k : Bank) (b o p c : ℕ) where
 -- ---- one page of any access
 
 module _ {pages : ℕ} {a : Access} {q : Ask} {set : ℕ} {k : Bank} (l : Lacking pages a q set k) (c p : ℕ) where
-  pub need_fetch : member p set ≡ true → (o : ℕ) → o ≡ giver (got q.writes) k p
-      → fetch_need (got q.writes) k q.board o p c ≡ page_need q.board a k c p
+  pub need_fetch : member p set ≡ true → (o : ℕ) → o ≡ giver (got (is_some q.write)) k p
+      → fetch_need (got (is_some q.write)) k q.board o p c ≡ page_need q.board a k c p
   unfolding page_need
   need_fetch t o e = let m : lacks_page a (board_at k q.board).working.frames p ≡ true = sym (l.lacks p) ∙ t in cc l.stands.takes.takes
 
@@ -76,22 +79,22 @@ module _ {pages : ℕ} {a : Access} {q : Ask} {set : ℕ} {k : Bank} (l : Lackin
     need_drop = let m : lacks_page a (board_at k q.board).working.frames p ≡ false = sym (l.lacks p) ∙ t in cc
 
     -- the byte of a write is of this page, or of another; a read has none
-    pub need_own_write : q.writes ≡ true → p ≡ q.page → (copies : ℕ) → copies ≡ (entry_at k p).copies → held_by copies c ≡ page_need q.board a k c p
+    pub need_own_write : (w : CellWrite) → q.write ≡ Some w → p ≡ w.page → (copies : ℕ) → copies ≡ (entry_at k p).copies → held_by copies c ≡ page_need q.board a k c p
     unfolding drop_need held_by any_write
-    need_own_write w e copies i =
-        let s : any_write (cells_written a) p ≡ true = cc (l.stands.writes, eq-eqb q.page p (sym e)) in
+    need_own_write w h e copies i =
+        let s : any_write (cells_written a) p ≡ true = cc (rw h at l.stands.writes, eq-eqb w.page p (sym e)) in
         cc (need_drop)
 
-    pub need_other_page : q.writes ≡ true → p ≢ q.page → 0 ≡ page_need q.board a k c p
+    pub need_other_page : (w : CellWrite) → q.write ≡ Some w → p ≢ w.page → 0 ≡ page_need q.board a k c p
     unfolding drop_need any_write
-    need_other_page w n =
-        let s : any_write (cells_written a) p ≡ false = cc (l.stands.writes, ne_eqb q.page p (λ e. n (sym e))) in
+    need_other_page w h n =
+        let s : any_write (cells_written a) p ≡ false = cc (rw h at l.stands.writes, ne_eqb w.page p (λ e. n (sym e))) in
         cc (need_drop)
 
-    pub need_nothing : q.writes ≡ false → 0 ≡ page_need q.board a k c p
+    pub need_nothing : q.write ≡ None → 0 ≡ page_need q.board a k c p
     unfolding drop_need any_write
-    need_nothing w =
-        let s : any_write (cells_written a) p ≡ false = cc l.stands.writes in
+    need_nothing h =
+        let s : any_write (cells_written a) p ≡ false = cc (rw h at l.stands.writes) in
         cc (need_drop)
 
 -- ---- all pages
@@ -135,18 +138,18 @@ sum_from_one i (suc n) p f h g z =
 
 module _ {pages : ℕ} {a : Access} {q : Ask} {set : ℕ} {k : Bank} (l : Lacking pages a q set k) (c : ℕ) where
   -- a write's needs are those of its page
-  pub need_written : q.writes ≡ true → q.page < pages → page_need q.board a k c q.page ≡ sum_below pages (page_need q.board a k c)
+  pub need_written : (w : CellWrite) → q.write ≡ Some w → w.page < pages → page_need q.board a k c w.page ≡ sum_below pages (page_need q.board a k c)
   unfolding sum_below got page_written
-  need_written w h =
-      let own : takes a ≡ GotOwn = l.stands.takes.takes ∙ ap got w in
-      let written : page_written a ≡ q.page = cc l.stands.writes in
+  need_written w e h =
+      let own : takes a ≡ GotOwn = l.stands.takes.takes ∙ ap (λ o. got (is_some o)) e in
+      let written : page_written a ≡ w.page = cc (rw e at l.stands.writes) in
       let fs : List Frame = (board_at k q.board).working.frames in
-      sum_from_one 0 pages q.page (page_need q.board a k c) (omega arith) (omega arith)
+      sum_from_one 0 pages w.page (page_need q.board a k c) (omega arith) (omega arith)
       (λ j n.
       let other : lacks_page a fs j ≡ false = by_bool (lacks_page a fs j) (λ t. absurd (n (own_names a own j (passes_names a fs j t) ∙ written))) (λ t. t) in
-      sym (need_other_page l c j (l.lacks j ∙ other) w n))
+      sym (need_other_page l c j (l.lacks j ∙ other) w e n))
 
-  pub need_zero : q.writes ≡ false → set ≡ 0 → 0 ≡ sum_below pages (page_need q.board a k c)
+  pub need_zero : q.write ≡ None → set ≡ 0 → 0 ≡ sum_below pages (page_need q.board a k c)
   unfolding sum_below
   need_zero w e =
       sym (sum_from_none 0 pages (page_need q.board a k c) (λ j h. sym (need_nothing l c j (rw e (member_none j)) w)))
@@ -171,22 +174,23 @@ room_kept x n z h = sym (le-ltb slot_count (stored_count x + volatile_count x + 
 
 -- ---- the lowest board, or page
 
--- a number as the search answers it: how many there are where none was found
-unfoldable pub found_in : ℕ → ℕ → Option ℕ
-found_in n c = elim (ltb c n) [ true ↦ some c | false ↦ none ]
+-- a number as the search answers it
+abbrev pub found : code.Option ℕ → Option ℕ
+found None = none
+found (Some c) = some c
 
 module _ (n c : ℕ) (f : ℕ → Bool) (e : first_below n f ≡ first_from c (n - c) f) where
-  pub found_at : c < n → f c ≡ true → found_in n c ≡ first_below n f
-  unfolding found_in first_from
+  pub found_at : c < n → f c ≡ true → some c ≡ first_below n f
+  unfolding first_from
   found_at h t =
       let m : n - c ≡ suc (n - suc c) = omega arith in
-      rw (e, m) (cc (lt-ltb c n h))
+      rw (e, m) cc
 
-  pub found_none : n ≤ c → found_in n n ≡ first_below n f
-  unfolding found_in first_from
+  pub found_none : n ≤ c → none ≡ first_below n f
+  unfolding first_from
   found_none h =
       let m : n - c ≡ 0 = omega arith in
-      rw (e, m) (cc (le-ltb n n (omega arith)))
+      rw (e, m) refl
 
   pub search_on : c < n → f c ≡ false → first_below n f ≡ first_from (c + 1) (n - (c + 1)) f
   unfolding first_from
@@ -210,9 +214,9 @@ unfolding first_from
 first_from_none i zero f h = refl
 first_from_none i (suc n) f h = cc (h i (omega arith), first_from_none (suc i) n f (λ j l. h j (omega arith)))
 
-pub none_found : (n : ℕ) (f : ℕ → Bool) → ((j : ℕ) → j < n → f j ≡ false) → found_in n n ≡ first_below n f
-unfolding found_in first_below
-none_found n f h = cc (le-ltb n n (omega arith), first_from_none 0 n f (λ j l. h j (omega arith)))
+pub none_found : (n : ℕ) (f : ℕ → Bool) → ((j : ℕ) → j < n → f j ≡ false) → none ≡ first_below n f
+unfolding first_below
+none_found n f h = first_from_none 0 n f (λ j l. h j (omega arith))
 
 -- tests that agree find the same
 first_from_same : (f g : ℕ → Bool) (i n : ℕ) → ((j : ℕ) → f j ≡ g j) → first_from i n f ≡ first_from i n g

@@ -1,20 +1,10 @@
-use types::Answer;
+use steps::access::CellWrite;
 
-// What an access asks for, by value: the pages that it names, as a set, and the byte that it writes; a read has no use for page, offset and value.
+// What an access asks for, by value: the pages that it names, as a set, and the byte that it writes, if it is a write.
 // The cells that it reads stand beside it, as bytes.
 #[derive(Clone, Copy)]
 pub struct Ask {
     pub board: usize,
-    pub writes: bool,
     pub named: u16,
-    pub page: usize,
-    pub offset: usize,
-    pub value: u8,
-}
-
-// What the tests of a call say: the first that holds refuses.
-#[derive(Clone, Copy)]
-pub enum Verdict {
-    Pass,
-    Refuse(Answer),
+    pub write: Option<CellWrite>,
 }

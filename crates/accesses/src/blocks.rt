@@ -23,11 +23,8 @@ pub fn perform_cells(block: &mut [u8], pages: usize, ask: Ask, cells: &[u8], out
     ensures did { (a : Access) → Stands pages a ask
         → block.new ≡ encode_board (on_working (accessed a) (board_of pages block.old)) }
 {
-    let page = ask.page;
-    let offset = ask.offset;
-    let writes = ask.writes;
     gather(block, pages, cells, out);
-    perform(block, pages, writes, page, offset, ask.value);
+    perform(block, pages, ask.write);
 }
 
 // How far a replaying board came with an access: no record was left behind its gots and it goes on live, or it was repeated, as the last one or not.
@@ -48,15 +45,12 @@ pub fn replay(block: &mut [u8], pages: usize, ask: Ask, cells: &[u8], out: &mut 
         → (result ≡ replayed_to a (board_of pages block.old))
         × (block.new ≡ encode_board (replayed_board a (board_of pages block.old))) }
 {
-    let page = ask.page;
-    let offset = ask.offset;
-    let writes = ask.writes;
     take_due(block, pages);
     if replay_over(block, pages) {
         return Replayed::Live;
     }
     gather(block, pages, cells, out);
-    replay_access(block, pages, writes, page, offset, ask.value);
+    replay_access(block, pages, ask.write);
     if replay_over(block, pages) {
         return Replayed::Last;
     }

@@ -1,5 +1,5 @@
-// An access of an up board: codes 6 and 7, then a fetch or copies dropped, then the access itself.
-ghost use Rattle.std.specs.Prelude.{◌≡◌, ◌&&◌, true, map, ℕ, ◌+◌, ◌*◌, ◌≤◌, ◌<◌, length};
+// An access of an up board: codes 6 and 7, then a fetch or copies dropped, then the access itself. (A flag `writes` is a value to compare by, `got writes`.)
+ghost use Rattle.std.specs.Prelude.{◌≡◌, ◌&&◌, true, map, ℕ, ◌+◌, ◌*◌, ◌≤◌, ◌<◌, length, IfSome};
 ghost use Rattle.model.specs.Definitions.Parts.{first_below, member};
 ghost use Rattle.model.specs.Definitions.Layout.{most_pages, slot_count};
 ghost use Rattle.model.specs.Definitions.Bank.{board_at, entry_at};
@@ -10,21 +10,21 @@ ghost use Rattle.model.specs.Definitions.Calls.{first_given, nobody_gives, live_
 ghost use Rattle.model.specs.Clauses.{Space, Ready};
 ghost use Rattle.steps.specs.Asked.{got};
 ghost use Rattle.copies.specs.Banks.{OfBank, Holds};
-ghost use Rattle.exchange.specs.Progress.{running, loss_of, Came};
+ghost use Rattle.exchange.specs.Progress.{running, stores_by, loss_of, Came};
 ghost use Rattle.accesses.specs.Asks.{Stands, Lacking, Goes, Passes, Asks, InRange};
 ghost use Rattle.accesses.specs.Results.{Answered, refusal};
-ghost use Rattle.accesses.specs.Needs.{found_in};
+ghost use Rattle.accesses.specs.Needs.{found};
 ghost use Rattle.accesses.specs.Prepared.{without_out};
 
-use crate::ask::{Ask, Verdict};
+use crate::ask::Ask;
 use crate::blocks::perform_cells;
 use crate::need::short_board;
 use copies::copies::drop_copies;
 use copies::state::board_up;
 use exchange::fetch::fetch;
-use exchange::progress::{Loss, Progress};
+use exchange::progress::Loss;
 use fields::copies::count_copies;
-use fields::sets::has;
+use fields::sets::Set;
 use format::directory::{read_copies, read_owner};
 use format::layout::{block_at, block_size};
 use steps::access::lacking_pages;
@@ -35,10 +35,9 @@ fn board_lacks(bank: &[u8], pages: usize, ask: Ask) -> u16
     requires { OfBank pages ask.board bank.now }
     ensures { (a : Access) → Stands pages a ask → Lacking pages a ask result (decode bank.now) }
 {
-    let board = ask.board;
-    let a = block_at(pages, board);
+    let a = block_at(pages, ask.board);
     let size = block_size(pages);
-    lacking_pages(&bank[a..a + size], pages, ask.named, ask.writes)
+    lacking_pages(&bank[a..a + size], pages, ask.named, ask.write.is_some())
 }
 
 // Whether nobody can give a page, to a reader: "owner not up and copy-set empty"; and to a writer: "A write still needs the owner." (F-4)
@@ -46,7 +45,7 @@ fn nobody_gives(bank: &[u8], pages: usize, page: usize, writes: bool) -> bool
     requires { OfBank pages (entry_at (decode bank.now) page).owner bank.now × (page < pages) }
     ensures { result ≡ nobody_gives (got writes) (decode bank.now) page }
 {
-    let owner = read_owner(bank, page) as usize;
+    let owner = usize::from(read_owner(bank, page));
     if board_up(bank, pages, owner) {
         return false;
     }
@@ -61,49 +60,48 @@ fn giver_missing(bank: &[u8], pages: usize, page: usize, lacking: u16, writes: b
     requires { OfBank pages 0 bank.now × WellFormed (decode bank.now) × (page < pages) }
     ensures { result ≡ (member page lacking && nobody_gives (got writes) (decode bank.now) page) }
 {
-    if has(page, lacking) {
+    if lacking.has(page) {
         return nobody_gives(bank, pages, page, writes);
     }
     false
 }
 
-// "the lowest lacking page" (F-3) that nobody can give; the number of pages where there is none.
-fn missing_page(bank: &[u8], pages: usize, lacking: u16, writes: bool) -> usize
+// "the lowest lacking page" (F-3) that nobody can give, if there is one.
+fn missing_page(bank: &[u8], pages: usize, lacking: u16, writes: bool) -> Option<usize>
     requires { OfBank pages 0 bank.now × WellFormed (decode bank.now) }
-    ensures found { found_in pages result ≡ first_below pages (λ p. member p lacking && nobody_gives (got writes) (decode bank.now) p) }
-    ensures within { result ≤ pages }
+    ensures found { found result ≡ first_below pages (λ p. member p lacking && nobody_gives (got writes) (decode bank.now) p) }
+    ensures within { IfSome result (λ page. page < pages) }
 {
-    let mut page = 0;
-    while page < pages {
+    for page in 0..pages {
         if giver_missing(bank, pages, page, lacking, writes) {
-            return page;
+            return Some(page);
         }
-        page += 1;
     }
-    pages
+    None
 }
 
 // Codes 6 and 7, in this order, of an access that needs other boards, or their copies dropped; "Code 6 names the owner" (F-3).
-fn live_verdict(bank: &[u8], boards: usize, pages: usize, ask: Ask, lacking: u16) -> Verdict
-    requires { Asks boards pages ask bank.now × (ask.writes ≡ true → ask.page < pages) }
+fn live_verdict(
+    bank: &[u8],
+    boards: usize,
+    pages: usize,
+    ask: Ask,
+    lacking: u16,
+) -> Result<(), Answer>
+    requires { Asks boards pages ask bank.now × IfSome ask.write (λ w. w.page < pages) }
     ensures { (a : Access) → Lacking pages a ask lacking (decode bank.now)
         → refusal result ≡ first_given (live_refusals ask.board a (decode bank.now)) }
 {
-    let writes = ask.writes;
-    if lacking == 0 {
-        if !writes {
-            return Verdict::Pass;
-        }
+    if lacking == 0 && ask.write.is_none() {
+        return Ok(());
     }
-    let missing = missing_page(bank, pages, lacking, writes);
-    if missing < pages {
-        return Verdict::Refuse(Answer::OwnerNotUp(read_owner(bank, missing)));
+    if let Some(page) = missing_page(bank, pages, lacking, ask.write.is_some()) {
+        return Err(Answer::OwnerNotUp(read_owner(bank, page)));
     }
-    let short = short_board(bank, boards, pages, ask, lacking);
-    if short < boards {
-        return Verdict::Refuse(Answer::LogFull(short as u8));
+    match short_board(bank, boards, pages, ask, lacking) {
+        Some(board) => Err(Answer::LogFull(board as u8)),
+        None => Ok(()),
     }
-    Verdict::Pass
 }
 
 // An own write takes back the copies that are out.
@@ -119,25 +117,20 @@ fn drop_out(bank: &mut [u8], pages: usize, board: usize, page: usize)
 }
 
 // What comes before the access itself: a fetch, or the copies of an owned page dropped, or nothing.
-fn prepare(bank: &mut [u8], pages: usize, ask: Ask, lacking: u16) -> Progress
-    requires { Asks (length (decode bank.old).boards) pages ask bank.old × (ask.writes ≡ true → ask.page < pages)
+fn prepare(bank: &mut [u8], pages: usize, ask: Ask, lacking: u16) -> Result<u32, Loss>
+    requires { Asks (length (decode bank.old).boards) pages ask bank.old × IfSome ask.write (λ w. w.page < pages)
         × ((a : Access) × Passes pages a ask lacking (decode bank.old)) }
     ensures run { (a : Access) → Lacking pages a ask lacking (decode bank.old) → (n : ℕ)
-        → Came bank.new (n + result.stores) (loss_of result.loss) (prepared ask.board a (running n (decode bank.old))) }
-    ensures few { result.stores ≤ most_pages * slot_count }
+        → Came bank.new (n + stores_by result) (loss_of result) (prepared ask.board a (running n (decode bank.old))) }
+    ensures few { stores_by result ≤ most_pages * slot_count }
 {
-    let page = ask.page;
-    let writes = ask.writes;
     if lacking != 0 {
-        return fetch(bank, pages, ask.board, page, lacking, writes);
+        return fetch(bank, pages, ask.board, lacking, ask.write.map(|w| w.page));
     }
-    if writes {
-        drop_out(bank, pages, ask.board, page);
+    if let Some(w) = ask.write {
+        drop_out(bank, pages, ask.board, w.page);
     }
-    Progress {
-        stores: 0,
-        loss: Loss::Nobody,
-    }
+    Ok(0)
 }
 
 // The access itself on its board's block, with the bytes of its cells.
@@ -149,8 +142,7 @@ fn perform_at(bank: &mut [u8], pages: usize, ask: Ask, cells: &[u8], out: &mut [
     ensures did { (a : Access) → Stands pages a ask → Ready a (board_at (decode bank.old) ask.board)
         → Holds bank.new (access ask.board a (decode bank.old)) }
 {
-    let board = ask.board;
-    let a = block_at(pages, board);
+    let a = block_at(pages, ask.board);
     let size = block_size(pages);
     perform_cells(&mut bank[a..a + size], pages, ask, cells, out);
 }
@@ -171,21 +163,18 @@ fn proceed(
         (performed ask.board a (prepared ask.board a (running n (decode bank.old)))) out.new }
     ensures few { result.stores ≤ most_pages * slot_count }
 {
-    let progress = prepare(bank, pages, ask, lacking);
-    let stores = progress.stores;
-    let loss = progress.loss;
-    match loss {
-        Loss::Board(board) => Outcome {
-            answer: Answer::PowerLost(board),
-            stores,
-        },
-        Loss::Nobody => {
+    match prepare(bank, pages, ask, lacking) {
+        Ok(stores) => {
             perform_at(bank, pages, ask, cells, out);
             Outcome {
                 answer: Answer::Done(0),
                 stores,
             }
         }
+        Err(Loss { board, stores }) => Outcome {
+            answer: Answer::PowerLost(board),
+            stores,
+        },
     }
 }
 
@@ -205,9 +194,8 @@ pub fn live(
     ensures few { result.stores ≤ most_pages * slot_count }
 {
     let lacking = board_lacks(bank, pages, ask);
-    let verdict = live_verdict(bank, boards, pages, ask, lacking);
-    match verdict {
-        Verdict::Refuse(answer) => Outcome { answer, stores: 0 },
-        Verdict::Pass => proceed(bank, pages, ask, lacking, cells, out),
+    match live_verdict(bank, boards, pages, ask, lacking) {
+        Ok(()) => proceed(bank, pages, ask, lacking, cells, out),
+        Err(answer) => Outcome { answer, stores: 0 },
     }
 }

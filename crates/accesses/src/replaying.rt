@@ -8,6 +8,7 @@ ghost use Rattle.model.specs.Definitions.Steps.{Access, cells_asked, cells_read,
 ghost use Rattle.model.specs.Definitions.Replay.{took_due, replay_over, end_replay};
 ghost use Rattle.model.specs.Definitions.Calls.{replaying, live_after_end};
 ghost use Rattle.model.specs.Clauses.{WellFormedBut, InReplay};
+ghost use Rattle.stores.specs.Clauses.{stores_made, is_lost};
 ghost use Rattle.copies.specs.Banks.{OfBank, Holds};
 ghost use Rattle.exchange.specs.Progress.{running, lost_by, Came};
 ghost use Rattle.accesses.specs.Asks.{Stands, GoesOn, Enters, Asks, InRange};
@@ -24,7 +25,7 @@ use format::directory::read_owner;
 use format::layout::{block_at, block_size};
 use replay::end;
 use steps::power::forget;
-use stores::spend::Stored;
+use stores::spend::PowerLost;
 use types::{Answer, Outcome};
 
 // The pages that the directory gives a board, of which bit p stands for page p.
@@ -32,12 +33,10 @@ fn owned_pages(bank: &[u8], pages: usize, board: usize) -> u16
     requires { OfBank pages board bank.now }
     ensures { result ≡ set_from (λ p. eqb (entry_at (decode bank.now) p).owner board) 0 pages }
 {
-    let mut owned: u16 = 0;
-    let mut page = pages;
-    while 0 < page {
-        page -= 1;
+    let mut owned = 0;
+    for page in (0..pages).rev() {
         owned *= 2;
-        if read_owner(bank, page) as usize == board {
+        if usize::from(read_owner(bank, page)) == board {
             owned += 1;
         }
     }
@@ -45,16 +44,16 @@ fn owned_pages(bank: &[u8], pages: usize, board: usize) -> u16
 }
 
 // "End of replay": rights by the directory, state up, a checkpoint; the board's bits leave the directory where that lost its power.
-pub fn end_replay(bank: &mut [u8], pages: usize, board: usize) -> Stored
+pub fn end_replay(bank: &mut [u8], pages: usize, board: usize) -> Result<u32, PowerLost>
     requires { OfBank pages board bank.old × WellFormedBut board InReplay (decode bank.old) }
-    ensures run { (n : ℕ) → Came bank.new (n + result.stores) (lost_by board result.lost) (end_replay board (running n (decode bank.old))) }
-    ensures few { result.stores ≤ pages + 2 }
+    ensures run { (n : ℕ) → Came bank.new (n + stores_made result) (lost_by board (is_lost result)) (end_replay board (running n (decode bank.old))) }
+    ensures few { stores_made result ≤ pages + 2 }
 {
     let owned = owned_pages(bank, pages, board);
     let a = block_at(pages, board);
     let size = block_size(pages);
     let stored = end::end_replay(&mut bank[a..a + size], pages, owned);
-    if stored.lost {
+    if stored.is_err() {
         forget(bank, pages, board);
     }
     stored
@@ -70,8 +69,7 @@ fn replay_at(bank: &mut [u8], pages: usize, ask: Ask, cells: &[u8], out: &mut [u
         → (result ≡ replayed_to a (board_at (decode bank.old) ask.board))
         × Holds bank.new (on_board ask.board (replayed_board a) (decode bank.old)) }
 {
-    let board = ask.board;
-    let a = block_at(pages, board);
+    let a = block_at(pages, ask.board);
     let size = block_size(pages);
     blocks::replay(&mut bank[a..a + size], pages, ask, cells, out)
 }
@@ -92,16 +90,14 @@ fn go_on_live(
         (live_after_end ask.board a (end_replay ask.board (running 0 (decode bank.old)))) out.new }
     ensures few { result.stores ≤ most_pages * slot_count + pages + 2 }
 {
-    let board = ask.board;
-    let stored = end_replay(bank, pages, board);
-    if stored.lost {
-        return ended(0, board, stored);
-    }
+    let stored = end_replay(bank, pages, ask.board);
+    let Ok(stores) = stored else {
+        return ended(0, ask.board, stored);
+    };
     let outcome = live(bank, boards, pages, ask, cells, out);
-    let answer = outcome.answer;
     Outcome {
-        answer,
-        stores: stored.stores + outcome.stores,
+        stores: stores + outcome.stores,
+        ..outcome
     }
 }
 
@@ -120,14 +116,9 @@ pub fn replay(
         → Answered a bank.new result 0 (replaying ask.board a (decode bank.old)) out.new }
     ensures few { result.stores ≤ most_pages * slot_count + pages + 2 }
 {
-    let board = ask.board;
-    let replayed = replay_at(bank, pages, ask, cells, out);
-    match replayed {
+    match replay_at(bank, pages, ask, cells, out) {
         Replayed::Live => go_on_live(bank, boards, pages, ask, cells, out),
-        Replayed::Last => {
-            let stored = end_replay(bank, pages, board);
-            ended(0, board, stored)
-        }
+        Replayed::Last => ended(0, ask.board, end_replay(bank, pages, ask.board)),
         Replayed::Going => Outcome {
             answer: Answer::Done(0),
             stores: 0,

@@ -10,6 +10,7 @@ fn row(code: u8, value: u32, who: u8) -> AnswerNumbers
     AnswerNumbers { code, value, who }
 }
 
+// No `From`: both types are those of `types`, and the documents' numbers are defined above it.
 pub fn numbers_of(answer: Answer) -> AnswerNumbers
     ensures { result ≡ numbers_of answer }
 {

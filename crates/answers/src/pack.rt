@@ -4,7 +4,7 @@ ghost use Rattle.model.specs.Clauses.{most_stores};
 ghost use Rattle.answers.specs.Packed.{packed, ReadBack};
 
 use crate::numbers::numbers_of;
-use types::Outcome;
+use types::{AnswerNumbers, Outcome};
 
 // What who, stores and value count in.
 const WHO_UNIT: u64 = 256;
@@ -18,11 +18,9 @@ pub fn pack(o: Outcome) -> u64
     ensures number { result ≡ packed o }
     ensures back { ReadBack result o }
 {
-    let answer = o.answer;
-    let numbers = numbers_of(answer);
-    let code = numbers.code as u64;
-    let who = numbers.who as u64;
-    let stores = o.stores as u64;
-    let value = numbers.value as u64;
-    code + WHO_UNIT * who + STORES_UNIT * stores + VALUE_UNIT * value
+    let AnswerNumbers { code, value, who } = numbers_of(o.answer);
+    u64::from(code)
+        + WHO_UNIT * u64::from(who)
+        + STORES_UNIT * u64::from(o.stores)
+        + VALUE_UNIT * u64::from(value)
 }

@@ -1,5 +1,5 @@
 -- The tests on entry of an access, as the code makes them: its numbers, then codes 4 and 5 on its board's block. Assumes nothing.
-use Rattle.std.specs.Prelude.{◌≡◌, ℕ, ◌<◌, Bool, true, false, ◌&&◌, ltb}
+use Rattle.std.specs.Prelude.{◌≡◌, ℕ, ◌<◌, Bool, true, false, ◌&&◌, Result, Ok, Err, ltb}
 use Rattle.std.proofs.Common.{ltb-true}
 use Rattle.model.specs.Definitions.Layout.{byte_values, page_size, last_since}
 use Rattle.model.specs.Definitions.Bank.{Board}
@@ -7,8 +7,8 @@ use Rattle.model.specs.Definitions.Steps.{Access}
 use Rattle.model.specs.Definitions.Replay.{differs}
 use Rattle.model.specs.Definitions.Calls.{counters_full}
 use Rattle.model.proofs.Laws.Logic.{and_right}
-use Rattle.checks.specs.declared.admission.Admission.{Admission}
-use Rattle.checks.specs.declared.admission.Admission.TheVariants.{CountersFull as Full, Differs, Pass}
+use Rattle.checks.specs.declared.refusal.Refusal.{Refusal}
+use Rattle.checks.specs.declared.refusal.Refusal.TheVariants.{CountersFull, ReplayDiffers}
 
 -- ---- code 2
 
@@ -21,24 +21,28 @@ value_fits pages p o v h = ltb-true v byte_values (and_right (ltb o page_size) _
 
 -- ---- codes 4 and 5
 
-unfoldable pub admission_of : Bool → Access → Board → Admission
-admission_of rep a x = elim (counters_full last_since x) [ true ↦ Full | false ↦ elim (rep && differs a x) [ true ↦ Differs | false ↦ Pass ] ]
+unfoldable pub admission_of : (b : ℕ) → Bool → Access → Board → Result (Unit {0}) Refusal
+admission_of b rep a x =
+    elim (counters_full last_since x) [
+      | true ↦ Err (CountersFull b)
+      | false ↦ elim (rep && differs a x) [ true ↦ Err (ReplayDiffers b) | false ↦ Ok tt ]
+    ]
 
 -- the tests in the code's order
-module _ (a : Access) (x : Board) where
-  pub admits_full : (rep : Bool) → counters_full last_since x ≡ true → Full ≡ admission_of rep a x
+module _ (b : ℕ) (a : Access) (x : Board) where
+  pub admits_full : (rep : Bool) → counters_full last_since x ≡ true → Err (CountersFull b) ≡ admission_of b rep a x
   unfolding admission_of
   admits_full rep t = cc
 
-  pub admits_live : (rep : Bool) → counters_full last_since x ≡ false → rep ≡ false → Pass ≡ admission_of rep a x
+  pub admits_live : (rep : Bool) → counters_full last_since x ≡ false → rep ≡ false → Ok tt ≡ admission_of b rep a x
   unfolding admission_of
   admits_live rep t u = cc
 
   module _ (rep : Bool) (t : counters_full last_since x ≡ false) (u : rep ≡ true) where
-    pub admits_different : differs a x ≡ true → Differs ≡ admission_of rep a x
+    pub admits_different : differs a x ≡ true → Err (ReplayDiffers b) ≡ admission_of b rep a x
     unfolding admission_of
     admits_different v = cc
 
-    pub admits_repeated : differs a x ≡ false → Pass ≡ admission_of rep a x
+    pub admits_repeated : differs a x ≡ false → Ok tt ≡ admission_of b rep a x
     unfolding admission_of
     admits_repeated v = cc

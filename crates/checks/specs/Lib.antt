@@ -1,3 +1,4 @@
 pub mod Head
+pub mod Refusals
 pub mod Findings
 pub mod Admission

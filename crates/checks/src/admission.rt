@@ -8,6 +8,7 @@ ghost use Rattle.steps.specs.Blocks.{IsBlock, board_of};
 ghost use Rattle.copies.specs.Banks.{OfBank};
 ghost use Rattle.checks.specs.Admission.{numbers_fit, admission_of};
 
+use crate::refusal::Refusal;
 use format::layout::{block_at, block_size};
 use replay::got::differs;
 use steps::access::counters_full;
@@ -20,38 +21,32 @@ const BYTE_VALUES: u32 = 256;
 pub fn numbers_fit(pages: usize, page: u32, offset: u32, value: u32) -> bool
     ensures { result ≡ numbers_fit pages page offset value }
 {
-    if pages <= page as usize {
-        return false;
-    }
-    if PAGE_SIZE <= offset as usize {
-        return false;
-    }
-    value < BYTE_VALUES
-}
-
-// What the tests say: the first that holds refuses.
-#[derive(Clone, Copy)]
-pub enum Admission {
-    CountersFull,
-    Differs,
-    Pass,
+    (page as usize) < pages && (offset as usize) < PAGE_SIZE && value < BYTE_VALUES
 }
 
 // "since or access number at 4,294,967,295" (document 02, F-2), then of a replaying board an access that its log doesn't have.
-fn admit_block(block: &[u8], pages: usize, replaying: bool, named: u16, writes: bool) -> Admission
+// (`replaying` is the first half of the definition's test: a closure for the second would carry block, pages and names.)
+fn admit_block(
+    block: &[u8],
+    pages: usize,
+    board: u8,
+    replaying: bool,
+    named: u16,
+    writes: bool,
+) -> Result<(), Refusal>
     requires { IsBlock pages block.now }
-    ensures { (a : Access) → Takes pages a writes named → result ≡ admission_of replaying a (board_of pages block.now) }
+    ensures { (a : Access) → Takes pages a writes named → result ≡ admission_of board replaying a (board_of pages block.now) }
 {
     if counters_full(block, pages) {
-        return Admission::CountersFull;
+        return Err(Refusal::CountersFull(board));
     }
     if !replaying {
-        return Admission::Pass;
+        return Ok(());
     }
     if differs(block, pages, named, writes) {
-        return Admission::Differs;
+        return Err(Refusal::ReplayDiffers(board));
     }
-    Admission::Pass
+    Ok(())
 }
 
 // The same of a board of the bank, whose block is lent.
@@ -62,11 +57,18 @@ pub fn admit(
     replaying: bool,
     named: u16,
     writes: bool,
-) -> Admission
+) -> Result<(), Refusal>
     requires { OfBank pages board bank.now }
-    ensures { (a : Access) → Takes pages a writes named → result ≡ admission_of replaying a (board_at (decode bank.now) board) }
+    ensures { (a : Access) → Takes pages a writes named → result ≡ admission_of board replaying a (board_at (decode bank.now) board) }
 {
     let a = block_at(pages, board);
     let size = block_size(pages);
-    admit_block(&bank[a..a + size], pages, replaying, named, writes)
+    admit_block(
+        &bank[a..a + size],
+        pages,
+        board as u8,
+        replaying,
+        named,
+        writes,
+    )
 }

@@ -5,7 +5,6 @@ ghost use Rattle.model.specs.Definitions.Codec.{decode};
 ghost use Rattle.model.specs.Clauses.{IsBank};
 
 use copies::state;
-use fields::bytes::{get, wide};
 use format::layout::{BOARDS_AT, PAGES_AT};
 use types::State;
 
@@ -13,14 +12,14 @@ pub fn board_count(bank: &[u8]) -> usize
     requires { IsBank bank.now }
     ensures { result ≡ length (decode bank.now).boards }
 {
-    wide(get(bank, BOARDS_AT))
+    usize::from(bank[BOARDS_AT])
 }
 
 pub fn page_count(bank: &[u8]) -> usize
     requires { IsBank bank.now }
     ensures { result ≡ length (decode bank.now).directory }
 {
-    wide(get(bank, PAGES_AT))
+    usize::from(bank[PAGES_AT])
 }
 
 // The state of a board of the bank.

@@ -4,3 +4,4 @@
 pub mod admission;
 pub mod bank;
 pub mod entry;
+pub mod refusal;

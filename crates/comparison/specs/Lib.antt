@@ -1,2 +1,3 @@
 pub mod Naming
+pub mod Left
 pub mod Matched

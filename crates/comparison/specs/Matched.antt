@@ -1,33 +1,41 @@
--- Gots against showns, place by place: what a loop has found so far. Assumes nothing.
-use Rattle.std.specs.Prelude.{◌≡◌, ℕ, ◌+◌, ◌≤◌, ◌<◌, true, false, ◌&&◌, List, drop, get_or, ltb, eqb}
+-- The first got without its shown: the documents' number of it, and what a turn of a loop finds. Assumes nothing.
+use Rattle.std.specs.Prelude.{◌≡◌, ℕ, suc, ◌+◌, Bool, false, List, [], ◌∷◌, Option, Some, None, cond, eqb}
+use Rattle.std.proofs.Common.{zero, arith}
+use Rattle.std.proofs.lemmas.Bool.Decides.{nat_tests}
 use Rattle.std.proofs.Math.Numerals.{add-one}
-use Rattle.std.proofs.Math.ListN.{length, drop_of_length-le}
-use Rattle.std.proofs.Math.Seq.{drop-cons}
-use borrow.Author.Tests.{ltb-true, ltb-false}
 use Rattle.model.specs.Definitions.Logs.{first_unmatched}
-use Rattle.model.proofs.Laws.Logic.{by_bool, and_left, and_right}
+use Rattle.model.proofs.Laws.Logic.{by_bool}
 
-module _ (gots showns : List ℕ) where
-  -- the gots before place i have the page of their shown, so the others decide
-  abbrev pub MatchedTo : ℕ → Type 0
-  MatchedTo i = first_unmatched (i + 1) (drop i gots) (drop i showns) ≡ first_unmatched 1 gots showns
+eqb_swap : (a b : ℕ) → eqb a b ≡ eqb b a
+eqb_swap a b = grind (arith, nat_tests)
 
-  module _ {i : ℕ} (so_far : MatchedTo i) where
-    pub matched_all : length gots ≤ i → 0 ≡ first_unmatched 1 gots showns
-    unfolding first_unmatched
-    matched_all h = rw (drop_of_length-le gots {i = i} h) at so_far
+-- the place that a number of the documents stands for: none is 0
+abbrev pub place_in : ℕ → Option ℕ
+place_in zero = None
+place_in (suc i) = Some (suc i)
 
-    -- the got at place i: whether there is a shown at that place, of the same page
-    module _ (h : i < length gots) where
-      pub matched_next : (ltb i (length showns) && eqb (get_or gots i 0) (get_or showns i 0)) ≡ true → MatchedTo (i + 1)
-      unfolding first_unmatched
-      matched_next t =
-          let k : i < length showns = ltb-true i (length showns) (and_left _ _ t) in
-          cc (add-one i, add-one (i + 1), drop-cons gots i 0 h, drop-cons showns i 0 k, and_right (ltb i (length showns)) _ t)
+pub place_here : (n : ℕ) {m : ℕ} → m ≡ n + 1 → Some (n + 1) ≡ place_in m
+place_here n e = rw (e, add-one n)
 
-      pub matched_not : (ltb i (length showns) && eqb (get_or gots i 0) (get_or showns i 0)) ≡ false → i + 1 ≡ first_unmatched 1 gots showns
-      unfolding first_unmatched
-      matched_not t =
-          by_bool (ltb i (length showns))
-          (λ l. cc (drop-cons gots i 0 h, drop-cons showns i 0 (ltb-true i (length showns) l), t))
-          (λ l. cc (drop-cons gots i 0 h, drop_of_length-le showns {i = i} (ltb-false i (length showns) l)))
+pub place_none : {m : ℕ} → m ≡ 0 → None ≡ place_in m
+place_none e = rw e
+
+-- no got is left
+pub turn_none : (n : ℕ) (showns : List ℕ) {gots : List ℕ} → gots ≡ [] → first_unmatched n gots showns ≡ 0
+unfolding first_unmatched
+turn_none n showns e = rw e
+
+-- a got of this page has the next shown, and both lists go on, or it has none
+abbrev pub Found : (page : ℕ) → (showns left : List ℕ) → Bool → Type 0
+Found page showns left found = (n : ℕ) (gots : List ℕ) → first_unmatched n (page ∷ gots) showns ≡ cond found (first_unmatched (n + 1) gots left) n
+
+pub found_some : (page shown : ℕ) {showns left : List ℕ} → showns ≡ shown ∷ left → Found page showns left (eqb shown page)
+unfolding first_unmatched
+found_some page shown {showns} {left} e n gots =
+    by_bool (eqb shown page)
+    (λ t. rw (t, e, first_unmatched, eqb_swap page shown, t, add-one n))
+    (λ t. rw (t, e, first_unmatched, eqb_swap page shown, t))
+
+pub found_none : (page : ℕ) {showns : List ℕ} → showns ≡ [] → Found page showns showns false
+unfolding first_unmatched
+found_none page e n gots = rw e

@@ -1,63 +1,97 @@
--- Records that name a board: which are looked for, and what a loop over a log has written of their pages so far. Assumes nothing.
-use Rattle.std.specs.Prelude.{◌≡◌, ℕ, ◌+◌, ◌≤◌, ◌<◌, Bool, ◌&&◌, not, List, ◌∷◌, ◌++◌, length, take, drop, get_or, set, eqb}
-use Rattle.std.proofs.Math.Path.{refl, sym}
-use Rattle.std.proofs.Common.{◌∙◌, add-one, arith, append-nil, drop_of_length-le, drop-cons}
-use Rattle.std.proofs.Math.Bool.{true, false}
-use Rattle.std.proofs.Math.Seq.{take-suc-set, append_snoc}
-use Rattle.types.specs.declared.CopyOrOwn.{CopyOrOwn}
+-- Records that name a board: which are looked for, and whose pages are still to come between two places of a block's stored log. Assumes nothing.
+use Rattle.std.specs.Prelude.{◌≡◌, ℕ, suc, ◌+◌, ◌*◌, ◌-◌, ◌≤◌, ◌<◌, Bool, true, false, ◌&&◌, List, [], ◌∷◌, length, map, eqb}
+use Rattle.std.specs.List.{range_with_len}
+use Rattle.std.proofs.Common.{zero, ap, sym, ◌∙◌, arith}
+use Rattle.std.proofs.lemmas.List.FromFn.{length-map-range_with_len, fill_by_all}
+use native.Mathlib.Nat.{sub-zero}
 use Rattle.types.specs.declared.Kind.{Kind}
-use Rattle.types.specs.declared.Kind.TheVariants.{Got, Shown, Dropped}
 use Rattle.types.specs.declared.Record.{Record}
-use Rattle.model.specs.Definitions.Codec.{page_of}
+use Rattle.model.specs.Definitions.Parts.{part, byte_at}
+use Rattle.model.specs.Definitions.Layout.{slot_size, area_count_at, area_slots_at}
+use Rattle.model.specs.Definitions.Codec.{page_of, decode_record}
 use Rattle.model.specs.Definitions.WellFormed.{is_got}
 use Rattle.model.specs.Definitions.Logs.{is_shown, pages_naming}
+use Rattle.format.specs.Areas.{selected_part}
+use Rattle.steps.specs.Blocks.{IsBlock, board_of}
+use Rattle.steps.specs.Selected.{stored_count_lem, stored_record}
+use Rattle.comparison.specs.declared.naming.Wanted.{Wanted}
+use Rattle.comparison.specs.declared.naming.Wanted.TheVariants.{Gots, Showns}
 
--- showns, else gots
-abbrev pub wanted : (shown : Bool) → Kind → Bool
-wanted true = is_shown
-wanted false = is_got
+abbrev pub wanted : Wanted → Kind → Bool
+wanted Gots = is_got
+wanted Showns = is_shown
 
--- a kind against what is looked for
-module _ (shown : Bool) (p : ℕ) where
-  pub wanted_got : (g : CopyOrOwn) → not shown ≡ wanted shown (Got g p)
-  unfolding is_got is_shown
-  wanted_got g = elim shown as (λ v. not v ≡ wanted v (Got g p)) [ true ↦ refl | false ↦ refl ]
+-- a record of a block's stored log, and those of n places from a place on
+abbrev pub stored_at : ℕ → List ℕ → ℕ → Record
+stored_at pages block i = decode_record (part (selected_part pages block) (area_slots_at pages + i * slot_size) slot_size)
 
-  pub wanted_shown : shown ≡ wanted shown (Shown p)
-  unfolding is_got is_shown
-  wanted_shown = elim shown as (λ v. v ≡ wanted v (Shown p)) [ true ↦ refl | false ↦ refl ]
+-- the pages of those that name a board, between two places
+unfoldable pub pages_from : Wanted → (peer pages : ℕ) → List ℕ → (start end : ℕ) → List ℕ
+pages_from looked_for peer pages block start end = pages_naming (wanted looked_for) peer (map (stored_at pages block) (range_with_len start (end - start)))
 
-  pub wanted_dropped : false ≡ wanted shown (Dropped p)
-  unfolding is_got is_shown
-  wanted_dropped = elim shown as (λ v. false ≡ wanted v (Dropped p)) [ true ↦ refl | false ↦ refl ]
+-- few enough
+named_few : (such : Kind → Bool) (peer : ℕ) (rs : List Record) → length (pages_naming such peer rs) ≤ length rs
+unfolding pages_naming
+named_few such peer [] = omega arith
+named_few such peer (r ∷ rs) =
+    elim (such r.kind && eqb r.peer peer) as (λ b. length (elim b as (λ _. List ℕ) [ true ↦ page_of r.kind ∷ pages_naming such peer rs | false ↦ pages_naming such peer rs ]) ≤ suc (length rs)) [
+      | true ↦ omega (arith, named_few such peer rs)
+      | false ↦ omega (arith, named_few such peer rs)
+    ]
 
--- the pages of the records before place i are the first n of l, those of the others are to come
-pub record NamedTo (such : Kind → Bool) (peer : ℕ) (rs : List Record) (i n : ℕ) (l : List ℕ) : Type 0 where
-  pub few : n ≤ i
-  pub pages : take n l ++ pages_naming such peer (drop i rs) ≡ pages_naming such peer rs
+-- a record in front: its page comes first, or it is passed over
+module _ (such : Kind → Bool) (peer : ℕ) (r : Record) (rs : List Record) where
+  named_first : (such r.kind && eqb r.peer peer) ≡ true → pages_naming such peer (r ∷ rs) ≡ page_of r.kind ∷ pages_naming such peer rs
+  unfolding pages_naming
+  named_first t = rw (pages_naming, t)
 
-module _ {such : Kind → Bool} {peer : ℕ} {rs : List Record} where
-  pub named_none : (l : List ℕ) → NamedTo such peer rs 0 0 l
-  named_none l = record { few = omega arith; pages = refl }
+  named_none : (such r.kind && eqb r.peer peer) ≡ false → pages_naming such peer (r ∷ rs) ≡ pages_naming such peer rs
+  unfolding pages_naming
+  named_none t = rw (pages_naming, t)
 
-  module _ {i n : ℕ} {l : List ℕ} (so_far : NamedTo such peer rs i n l) where
-    -- the record at place i: its page goes behind the others, or it is passed over
-    module _ (h : i < length rs) (r : Record) (e : r ≡ get_or rs i r) where
-      next_record : drop i rs ≡ r ∷ drop (i + 1) rs
-      next_record = rw (add-one i) (cc (drop-cons rs i r h))
+range_first : (a n : ℕ) → 0 < n → range_with_len a n ≡ a ∷ range_with_len (a + 1) (n - 1)
+range_first a zero h = absurd (omega arith)
+range_first a (suc n) h = ap (λ (m : ℕ). a ∷ range_with_len (a + 1) m) (omega arith)
 
-      pub named_next : n < length l → (such r.kind && eqb r.peer peer) ≡ true → NamedTo such peer rs (i + 1) (n + 1) (set l n (page_of r.kind))
-      unfolding pages_naming
-      named_next k t =
-          record {
-            few = omega (arith, so_far.few);
-            pages = rw (add-one n, take-suc-set l n (page_of r.kind) k, append_snoc) (cc (next_record, so_far.pages));
-          }
+module _ (looked_for : Wanted) (peer pages : ℕ) (block : List ℕ) where
+  -- the record at the first place: its page is next, or it is passed over
+  module _ {start end i start₁ end₁ : ℕ} (went : (end₁ ≡ end) × ((0 < end - start) × (i ≡ start) × (start₁ ≡ start + 1))) (r : Record)
+      (e : r ≡ stored_at pages block i) where
+    next_record : map (stored_at pages block) (range_with_len start (end - start)) ≡ r ∷ map (stored_at pages block) (range_with_len start₁ (end₁ - start₁))
+    next_record =
+        let n : end - start - 1 ≡ end₁ - start₁ = omega arith in
+        rw (range_first start (end - start) went.1.0, n, e, went.1.1, went.1.2)
 
-      pub named_other : (such r.kind && eqb r.peer peer) ≡ false → NamedTo such peer rs (i + 1) n l
-      unfolding pages_naming
-      named_other t = record { few = omega (arith, so_far.few); pages = cc (next_record, so_far.pages) }
+    pub from_wanted : (wanted looked_for r.kind && eqb r.peer peer) ≡ true
+        → pages_from looked_for peer pages block start end ≡ page_of r.kind ∷ pages_from looked_for peer pages block start₁ end₁
+    unfolding pages_from
+    from_wanted t = rw next_record (named_first (wanted looked_for) peer r _ t)
 
-    pub named_all : length rs ≤ i → take n l ≡ pages_naming such peer rs
-    unfolding pages_naming
-    named_all h = sym (append-nil (take n l)) ∙ (rw (drop_of_length-le rs {i = i} h) at so_far.pages)
+    pub from_other : (wanted looked_for r.kind && eqb r.peer peer) ≡ false
+        → pages_from looked_for peer pages block start end ≡ pages_from looked_for peer pages block start₁ end₁
+    unfolding pages_from
+    from_other t = rw next_record (named_none (wanted looked_for) peer r _ t)
+
+  pub from_end : (start end : ℕ) → end ≤ start → pages_from looked_for peer pages block start end ≡ []
+  unfolding pages_from pages_naming
+  from_end start end h = let n : end - start ≡ 0 = omega arith in rw n
+
+  pub from_few : (start end : ℕ) → length (pages_from looked_for peer pages block start end) ≤ end - start
+  unfolding pages_from
+  from_few start end =
+      let f : ℕ → Record = stored_at pages block in
+      omega (
+        arith,
+        named_few (wanted looked_for) peer (map f (range_with_len start (end - start))),
+        length-map-range_with_len f start (end - start),
+      )
+
+  pub from_block : IsBlock pages block → {n : ℕ} → n ≡ byte_at (selected_part pages block) area_count_at
+      → pages_from looked_for peer pages block 0 n ≡ pages_naming (wanted looked_for) peer (board_of pages block).stable.selected.log
+  unfolding pages_from
+  from_block b {n} e =
+      let log : List Record = (board_of pages block).stable.selected.log in
+      let f : ℕ → Record = stored_at pages block in
+      let l : length log ≡ n = sym (e ∙ stored_count_lem b) in
+      let all : log ≡ map f (range_with_len 0 n) = fill_by_all f log n (f 0) l (λ k h. sym (stored_record b k (f 0) (rw l h))) in
+      rw all (ap (λ (m : ℕ). pages_naming (wanted looked_for) peer (map f (range_with_len 0 m))) (sub-zero n))

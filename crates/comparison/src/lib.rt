@@ -2,4 +2,5 @@
 #![tactic(auto)]
 
 mod naming;
+mod pages;
 pub mod unmatched;

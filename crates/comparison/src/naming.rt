@@ -1,76 +1,66 @@
 // The pages of the stored records, gots or showns, that name a board, in the order of the log.
-ghost use Rattle.std.specs.Prelude.{◌≡◌, ◌&&◌, ◌≤◌, ◌<◌, eqb, length, take};
-ghost use Rattle.model.specs.Definitions.Layout.{slot_count};
-ghost use Rattle.model.specs.Definitions.Codec.{decode};
-ghost use Rattle.model.specs.Definitions.Logs.{pages_naming, stored_records};
-ghost use Rattle.model.specs.Clauses.{IsBank};
-ghost use Rattle.steps.specs.Blocks.{IsBlock, board_of};
-ghost use Rattle.comparison.specs.Naming.{wanted};
+ghost use Rattle.std.specs.Prelude.{◌≡◌, ◌&&◌, ◌≤◌, eqb, length};
+ghost use Rattle.std.specs.Iterator.{YieldsFirst, item_count};
+ghost use Rattle.model.specs.Definitions.Layout.{most_pages, slot_count, block_size};
+ghost use Rattle.comparison.specs.Naming.{wanted, pages_from};
 
 use fields::slot::page_of;
-use format::layout::{block_at, block_size};
 use format::selected;
+use std::ops::Range;
 use types::{Kind, Record};
 
+// What is looked for in a log.
+#[derive(Clone, Copy, PartialEq, Eq)]
+pub enum Wanted {
+    Gots,
+    Showns,
+}
+
 // A shown, or else a got, whether copy or own.
-fn of_kind(kind: Kind, shown: bool) -> bool
-    ensures { result ≡ wanted shown kind }
+fn of_kind(kind: Kind, looked_for: Wanted) -> bool
+    ensures { result ≡ wanted looked_for kind }
 {
     match kind {
-        Kind::Got(_, _) => !shown,
-        Kind::Shown(_) => shown,
+        Kind::Got(_, _) => looked_for == Wanted::Gots,
+        Kind::Shown(_) => looked_for == Wanted::Showns,
         Kind::Dropped(_) => false,
     }
 }
 
 // A record of that kind that names this board.
-fn names(value: Record, shown: bool, peer: u8) -> bool
-    ensures { result ≡ (wanted shown value.kind && eqb value.peer peer) }
+fn names(value: Record, looked_for: Wanted, peer: u8) -> bool
+    ensures { result ≡ (wanted looked_for value.kind && eqb value.peer peer) }
 {
-    let kind = value.kind;
-    if !of_kind(kind, shown) {
-        return false;
-    }
-    value.peer == peer
+    of_kind(value.kind, looked_for) && value.peer == peer
 }
 
-// The pages of such records, written to the front of `out`; how many they are.
-fn pages_naming(block: &[u8], pages: usize, shown: bool, peer: u8, out: &mut [u8]) -> usize
-    requires { IsBlock pages block.now × (length out.old ≡ slot_count) }
-    ensures written { take result out.new
-        ≡ pages_naming (wanted shown) peer (board_of pages block.now).stable.selected.log }
-    ensures few { result ≤ slot_count }
-{
-    let stored = selected::read_stored_count(block, pages) as usize;
-    let mut n = 0;
-    let mut i = 0;
-    while i < stored {
-        let value = selected::read_stored(block, pages, i);
-        if names(value, shown, peer) {
-            let kind = value.kind;
-            out[n] = page_of(kind);
-            n += 1;
+// The pages of such records of a block, from the next place of its log that is not yet read.
+#[derive(Drop)]
+pub struct Naming<'a> {
+    pub block: &'a [u8],
+    pub pages: usize,
+    pub looked_for: Wanted,
+    pub peer: u8,
+    pub left: Range<usize>,
+    ghost few_pages: { pages ≤ most_pages },
+    ghost is_block: { length block.now ≡ block_size pages },
+    ghost few: { left.end ≤ slot_count },
+}
+
+impl<'a> Iterator for Naming<'a> {
+    type Item = u8;
+
+    ghost next_gives = { YieldsFirst (λ s. pages_from s.looked_for s.peer s.pages s.block.now s.left.start s.left.end) };
+
+    ghost remaining = { item_count (λ s. pages_from s.looked_for s.peer s.pages s.block.now s.left.start s.left.end) };
+
+    fn next(&mut self) -> Option<u8> {
+        while let Some(i) = self.left.next() {
+            let value = selected::read_stored(self.block, self.pages, i);
+            if names(value, self.looked_for, self.peer) {
+                return Some(page_of(value.kind));
+            }
         }
-        i += 1;
+        None
     }
-    n
-}
-
-// The same of a board of the bank, whose block is lent.
-pub fn board_pages(
-    bank: &[u8],
-    pages: usize,
-    board: usize,
-    shown: bool,
-    peer: usize,
-    out: &mut [u8],
-) -> usize
-    requires { IsBank bank.now × (pages ≡ length (decode bank.now).directory) × (board < length (decode bank.now).boards)
-        × (peer < length (decode bank.now).boards) × (length out.old ≡ slot_count) }
-    ensures written { take result out.new ≡ pages_naming (wanted shown) peer (stored_records (decode bank.now) board) }
-    ensures few { result ≤ slot_count }
-{
-    let a = block_at(pages, board);
-    let size = block_size(pages);
-    pages_naming(&bank[a..a + size], pages, shown, peer as u8, out)
 }

@@ -18,12 +18,10 @@ fn write_blocks(old: &[u8], new: &mut [u8], boards: usize, pages: usize)
 {
     let from = block_size_in(OLDER_SINCE_SIZE, pages);
     let to = block_size(pages);
-    let mut board = 0;
-    while board < boards {
+    for board in 0..boards {
         let a = block_at_in(OLDER_SINCE_SIZE, pages, board);
         let b = block_at(pages, board);
         write_block(&old[a..a + from], &mut new[b..b + to], pages);
-        board += 1;
     }
 }
 

@@ -6,8 +6,8 @@ ghost use Rattle.model.specs.Definitions.Codec.{encode_area, decode_area_in, enc
 ghost use Rattle.model.specs.Definitions.Older.{older};
 ghost use Rattle.conversion.specs.Blocks.{OlderArea, OlderBlock, widened_working, widened_area};
 
-use fields::bytes::{clear, copy, get_u16, put_u32};
-use fields::widths::{OLDER_SINCE_SIZE, SLOTS_SIZE};
+use fields::bytes::{clear, copy, get_number, put_number};
+use fields::widths::{OLDER_SINCE_SIZE, SINCE_SIZE, SLOTS_SIZE};
 use format::block::clear_volatiles;
 use format::layout::{
     PLACE_AT, SINCE_AT, area_at, area_at_in, area_size, area_size_in, area_slots_at, place_at_in,
@@ -30,7 +30,8 @@ fn write_working(old: &[u8], new: &mut [u8], pages: usize)
     ensures { new.new ≡ splice new.old 0 (widened_working pages old.now) }
 {
     copy(old, 0, new, 0, SINCE_AT);
-    put_u32(new, SINCE_AT, get_u16(old, SINCE_AT) as u32);
+    let since = get_number::<OLDER_SINCE_SIZE>(old, SINCE_AT);
+    put_number::<SINCE_SIZE>(new, SINCE_AT, since);
     copy(
         old,
         place_at_in(OLDER_SINCE_SIZE),

@@ -6,7 +6,7 @@ ghost use Rattle.model.specs.Definitions.Older.{cleaned_log, cleaned_block, clea
 ghost use Rattle.conversion.specs.Formed.{FormedBank};
 ghost use Rattle.conversion.specs.Cleaning.{cleaned_area, CountedBlock};
 
-use fields::bytes::{clear, get, wide};
+use fields::bytes::clear;
 use fields::widths::{SLOT_SIZE, SLOTS_SIZE};
 use format::block::read_volatile_count;
 use format::layout::{AREA_COUNT_AT, area_at, area_slots_at, block_at, block_size, slots_at};
@@ -28,7 +28,7 @@ fn clean_area(block: &mut [u8], pages: usize, area: usize)
     ensures { block.new ≡ cleaned_area pages area block.old }
 {
     let a = area_at(pages, area);
-    let count = wide(get(block, a + AREA_COUNT_AT));
+    let count = usize::from(block[a + AREA_COUNT_AT]);
     clean_log(block, a + area_slots_at(pages), count);
 }
 
@@ -39,7 +39,7 @@ fn clean_block(block: &mut [u8], pages: usize)
 {
     clean_area(block, pages, 1);
     clean_area(block, pages, 0);
-    let count = wide(read_volatile_count(block));
+    let count = usize::from(read_volatile_count(block));
     clean_log(block, slots_at(pages), count);
 }
 
@@ -49,10 +49,8 @@ pub fn clean_slots(bank: &mut [u8], boards: usize, pages: usize)
     ensures { bank.new ≡ cleaned_in today bank.old }
 {
     let size = block_size(pages);
-    let mut board = 0;
-    while board < boards {
+    for board in 0..boards {
         let a = block_at(pages, board);
         clean_block(&mut bank[a..a + size], pages);
-        board += 1;
     }
 }

@@ -16,23 +16,15 @@ pub fn take_copy(block: &mut [u8], pages: usize, giver: u8, page: usize, frame: 
     requires { IsBlock pages block.old × Space (board_of pages block.old) × (page < pages) × FrameOk frame }
     ensures { block.new ≡ encode_board (took_copy giver page frame.bytes (board_of pages block.old)) }
 {
-    let bytes = frame.bytes;
     record(
         block,
         pages,
         Kind::Got(CopyOrOwn::GotCopy, page as u8),
         giver,
-        bytes,
+        frame.bytes,
     );
-    set_frame(
-        block,
-        pages,
-        page,
-        Frame {
-            right: Right::Copy,
-            bytes,
-        },
-    );
+    let right = Right::Copy;
+    set_frame(block, pages, page, Frame { right, ..frame });
 }
 
 // "the writer gains right own and the page"; the frame is the old owner's.
@@ -40,16 +32,8 @@ pub fn take_own(block: &mut [u8], pages: usize, page: usize, frame: Frame)
     requires { IsBlock pages block.old × (page < pages) × FrameOk frame }
     ensures { block.new ≡ encode_board (took_own page frame.bytes (board_of pages block.old)) }
 {
-    let bytes = frame.bytes;
-    set_frame(
-        block,
-        pages,
-        page,
-        Frame {
-            right: Right::Own,
-            bytes,
-        },
-    );
+    let right = Right::Own;
+    set_frame(block, pages, page, Frame { right, ..frame });
 }
 
 // "record dropped and lose the right"; the record names the writer.

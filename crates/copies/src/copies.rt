@@ -1,4 +1,6 @@
 // Copies and ownership on a bank's bytes: a copy given, copies dropped, a page passed on. Frames go by value from block to block.
+// The bank goes with its pages beside it. A struct of both holds a `&mut`: tried, it proves, but then each function says that the reference is the same and the
+// pages are, beside the bank that it leaves, and the board's number stays in its `requires`.
 ghost use Rattle.std.specs.Prelude.{◌≡◌, ◌≢◌, true, ℕ, ◌^◌, ◌<◌, length};
 ghost use Rattle.model.specs.Definitions.Parts.{member};
 ghost use Rattle.model.specs.Definitions.Bank.{board_at, entry_at, on_board};
@@ -12,8 +14,8 @@ ghost use Rattle.copies.specs.Copies.{pages_in, CanGive};
 
 use crate::boards::{drop_right, take_copy, take_own};
 use crate::givers::giver;
-use fields::copies::{lowest_holder, with_holder, without_holder};
-use fields::sets::has;
+use fields::copies::lowest_holder;
+use fields::sets::Set;
 use format::block::read_page_frame;
 use format::directory::{read_copies, read_owner, write_entry};
 use format::layout::{block_at, block_size};
@@ -49,7 +51,7 @@ pub fn give_copy(bank: &mut [u8], pages: usize, giver: usize, board: usize, page
     copy_to(bank, pages, giver as u8, board, page, frame);
     let owner = read_owner(bank, page);
     let copies = read_copies(bank, page);
-    write_entry(bank, page, owner, with_holder(board, copies));
+    write_entry(bank, page, owner, copies.with_member(board));
 }
 
 // "Only then are the copies taken, together. The got records follow each other, the later ones with count 0." (F-3)
@@ -57,13 +59,11 @@ pub fn give_copies(bank: &mut [u8], pages: usize, board: usize, lacking: u16)
     requires { OfBank pages board bank.old × CanGive board (pages_in pages lacking) (decode bank.old) }
     ensures { Holds bank.new (give_copies board (pages_in pages lacking) (decode bank.old)) }
 {
-    let mut page = 0;
-    while page < pages {
-        if has(page, lacking) {
+    for page in 0..pages {
+        if lacking.has(page) {
             let giver = giver(bank, pages, page, false);
             give_copy(bank, pages, giver, board, page);
         }
-        page += 1;
     }
 }
 
@@ -85,10 +85,9 @@ fn drop_all(bank: &mut [u8], pages: usize, writer: u8, losers: u8, page: usize)
     ensures { Holds bank.new (drop_at (λ c. member c losers) writer page (decode bank.old)) }
 {
     let mut left = losers;
-    while left != 0 {
-        let holder = lowest_holder(left);
+    while let Some(holder) = lowest_holder(left) {
         drop_at(bank, pages, writer, holder, page);
-        left = without_holder(holder, left);
+        left = left.without_member(holder);
     }
 }
 
@@ -127,7 +126,7 @@ pub fn pass_ownership(bank: &mut [u8], pages: usize, owner: usize, board: usize,
 {
     let passed = page_frame(bank, pages, owner, page);
     let copies = read_copies(bank, page);
-    let losers = with_holder(owner, without_holder(board, copies));
+    let losers = copies.without_member(board).with_member(owner);
     drop_all(bank, pages, board as u8, losers, page);
     own_to(bank, pages, board, page, passed);
     write_entry(bank, page, board as u8, 0);

@@ -7,7 +7,6 @@ ghost use Rattle.copies.specs.Banks.{OfBank};
 
 use format::block::read_state;
 use format::layout::{block_at, block_size};
-use steps::state::is_up;
 use types::State;
 
 pub fn board_state(bank: &[u8], pages: usize, board: usize) -> State
@@ -23,5 +22,5 @@ pub fn board_up(bank: &[u8], pages: usize, board: usize) -> bool
     requires { OfBank pages board bank.now }
     ensures { result ≡ is_up (board_at (decode bank.now) board).state }
 {
-    is_up(board_state(bank, pages, board))
+    board_state(bank, pages, board) == State::Up
 }

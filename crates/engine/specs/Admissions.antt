@@ -1,11 +1,11 @@
 -- The tests on entry of an access, as the code makes them, and what each finding says of the call. Assumes nothing.
 use Rattle.std.proofs.Math.Path.{◌≡◌, refl}
 use Rattle.std.proofs.Common.{sym, ap, ◌∙◌, arith, lt-ltb, ltb-true}
-use Rattle.std.specs.Prelude.{◌≢◌, ℕ, ◌<◌, Bool, true, false, ◌&&◌, not, List, [], length, ltb}
+use Rattle.std.specs.Prelude.{◌≢◌, ℕ, ◌<◌, true, false, ◌&&◌, List, [], length, Option, Some, None, unwrap_or, is_some, Ok, Err, ltb}
+use Rattle.std.specs.declared.result.Result.{Result as Checked}
 use Rattle.std.proofs.Math.Option.{none}
 use Rattle.types.specs.declared.State.{State}
 use Rattle.types.specs.declared.State.TheVariants.{Replaying}
-use Rattle.types.specs.declared.Answer.{Answer}
 use Rattle.types.specs.declared.Answer.TheVariants.{OutOfRange, WrongCells, WrongState, CountersFull, ReplayDiffers}
 use Rattle.types.specs.declared.Outcome.{Outcome}
 use Rattle.model.specs.Definitions.Answers.{code}
@@ -30,13 +30,14 @@ use Rattle.accesses.specs.Results.{Answered}
 use Rattle.checks.specs.Findings.{OnBoard}
 use Rattle.checks.specs.Admission.{numbers_fit, admission_of}
 use Rattle.engine.specs.Replies.{call_refused, listed}
-use Rattle.checks.specs.declared.admission.Admission.{Admission}
-use Rattle.checks.specs.declared.admission.Admission.TheVariants.{CountersFull as Full, Differs, Pass}
+use Rattle.checks.specs.declared.refusal.Refusal.{Refusal}
+use Rattle.checks.specs.declared.refusal.Refusal.TheVariants as by
+use Rattle.checks.specs.Refusals.{refusal_answer}
 
--- the access that a flag and numbers stand for; a read has no use for the value
-unfoldable pub read_or_write : Bool → ℕ → ℕ → ℕ → Access
-read_or_write true p o v = Write p o v
-read_or_write false p o v = Read p o
+-- the access that a value, if one is written, and numbers stand for
+abbrev pub read_or_write : Option ℕ → ℕ → ℕ → Access
+read_or_write (Some v) p o = Write p o v
+read_or_write None p o = Read p o
 
 -- an access that codes 2 and 10 let pass, as an ask and the bytes of its cells say it
 pub record WellAsked (pages : ℕ) (a : Access) (q : Ask) (cells : List ℕ) (k : Bank) : Type 0 where
@@ -47,16 +48,16 @@ pub record WellAsked (pages : ℕ) (a : Access) (q : Ask) (cells : List ℕ) (k 
 
 -- ---- code 2
 
--- a read's value is one that fits
-pub in_range : (writes : Bool) (b p o v : ℕ) (k : Bank) → (writes ≡ false → v < byte_values) → ltb b (length k.boards) ≡ true
-    → access_in_range b (read_or_write writes p o v) k ≡ numbers_fit (length k.directory) p o v
-unfolding access_in_range read_or_write cells_read cells_written cell_in_range every
-in_range true b p o v k small h =
+-- a read's value is any that fits
+pub in_range : (w : Option ℕ) (b p o v : ℕ) (k : Bank) → (is_some w ≡ false → v < byte_values) → ltb b (length k.boards) ≡ true
+    → access_in_range b (read_or_write w p o) k ≡ numbers_fit (length k.directory) p o (unwrap_or w v)
+unfolding access_in_range cells_read cells_written cell_in_range every
+in_range (Some v) b p o _ k small h =
     by_bool (ltb p (length k.directory))
     (λ t.
     by_bool (ltb o page_size) (λ u. by_bool (ltb v byte_values) (λ w. rw (h, t, u, w)) (λ w. rw (h, t, u, w))) (λ u. rw (h, t, u)))
     (λ t. rw (h, t))
-in_range false b p o v k small h =
+in_range None b p o v k small h =
     by_bool (ltb p (length k.directory))
     (λ t. by_bool (ltb o page_size) (λ u. rw (h, t, u, lt-ltb v byte_values (small refl))) (λ u. rw (h, t, u)))
     (λ t. rw (h, t))
@@ -80,25 +81,24 @@ module _ (b : ℕ) (a : Access) (k : Bank) where
     unfolding access_within refusals_within unless first_given
     access_down d = cc
 
-    module _ (d : is_down x.state ≡ false) {m : Admission} (told : m ≡ admission_of (is_replaying x.state) a x) where
-      pub access_full : m ≡ Full → access_bank b a k ≡ record { answer = CountersFull b; run = start k; given = [] }
+    module _ (d : is_down x.state ≡ false) {m : Checked (Unit {0}) Refusal} (told : m ≡ admission_of b (is_replaying x.state) a x) where
+      pub access_refused : {y : Refusal} → m ≡ Err y → access_bank b a k ≡ record { answer = refusal_answer y; run = start k; given = [] }
       unfolding access_within refusals_within unless first_given admission_of
-      access_full e =
+      access_refused {y} e =
           by_bool (counters_full last_since x)
-          (λ t. cc)
+          (λ t.
+          let i : y ≡ by.CountersFull b = cc in
+          let g : access_bank b a k ≡ record { answer = CountersFull b; run = start k; given = [] } = cc in
+          rw (i, g))
           (λ t.
           by_bool (is_replaying x.state && differs a x)
-          (λ u. let z : ◌≡◌ {A = ℕ} 0 1 = cc in absurd (omega arith))
+          (λ u.
+          let i : y ≡ by.ReplayDiffers b = cc in
+          let g : access_bank b a k ≡ record { answer = ReplayDiffers b; run = start k; given = [] } = cc in
+          rw (i, g))
           (λ u. let z : ◌≡◌ {A = ℕ} 0 1 = cc in absurd (omega arith)))
 
-      pub access_differs : m ≡ Differs → access_bank b a k ≡ record { answer = ReplayDiffers b; run = start k; given = [] }
-      unfolding access_within refusals_within unless first_given admission_of
-      access_differs e =
-          by_bool (counters_full last_since x)
-          (λ t. let z : ◌≡◌ {A = ℕ} 0 1 = cc in absurd (omega arith))
-          (λ t. by_bool (is_replaying x.state && differs a x) (λ u. cc) (λ u. let z : ◌≡◌ {A = ℕ} 0 1 = cc in absurd (omega arith)))
-
-      pub access_passes : m ≡ Pass → first_given (access_refusals b a k) ≡ none
+      pub access_passes : m ≡ Ok tt → first_given (access_refusals b a k) ≡ none
       unfolding refusals_within first_given admission_of
       access_passes e =
           by_bool (counters_full last_since x)
@@ -116,11 +116,35 @@ module _ (b : ℕ) (a : Access) (k : Bank) where
 
 -- ---- an access that codes 2 and 10 let pass: what the code knows when it has made the tests of its block
 
+-- what a refusal answers is no code 0, and stands beside no value
+pub refusal_code : (r : Refusal) → code (refusal_answer r) ≢ 0
+unfolding code
+refusal_code by.Malformed e = omega arith
+refusal_code by.OutOfRange e = omega arith
+refusal_code (by.WrongState b) e = omega arith
+refusal_code (by.CountersFull b) e = omega arith
+refusal_code (by.ReplayDiffers b) e = omega arith
+refusal_code by.WrongCells e = omega arith
+refusal_code by.HasRecords e = omega arith
+refusal_code by.SameBoard e = omega arith
+
+refusal_plain : (g : ℕ → ℕ) (r : Refusal) → on_value g (refusal_answer r) ≡ refusal_answer r
+unfolding on_value
+refusal_plain g by.Malformed = refl
+refusal_plain g by.OutOfRange = refl
+refusal_plain g (by.WrongState b) = refl
+refusal_plain g (by.CountersFull b) = refl
+refusal_plain g (by.ReplayDiffers b) = refl
+refusal_plain g by.WrongCells = refl
+refusal_plain g by.HasRecords = refl
+refusal_plain g by.SameBoard = refl
+
 -- a refusal leaves the bytes, and nothing is read
-refused_answered : {a : Access} {s out : List ℕ} {o : Outcome} (x : Answer) {t : Result} → on_value (λ v. 0) x ≡ x → code x ≢ 0 → IsBank s
-    → t ≡ record { answer = x; run = start (decode s); given = [] } → o ≡ record { answer = x; stores = 0 } → Answered a s o 0 t out
+refused_answered : {a : Access} {s out : List ℕ} (r : Refusal) {t : Result} → IsBank s
+    → t ≡ record { answer = refusal_answer r; run = start (decode s); given = [] } → Answered a s (record { answer = refusal_answer r; stores = 0 }) 0 t out
 unfolding start
-refused_answered x same not ok e q = rw e (record { bytes = sym ok.back; answer = rw q (sym same); stores = rw q; read = λ z. absurd (not z) })
+refused_answered r ok e =
+    rw e (record { bytes = sym ok.back; answer = sym (refusal_plain (λ v. 0) r); stores = refl; read = λ z. absurd (refusal_code r z) })
 
 pub asks_counted : {pages : ℕ} {q : Ask} {s : List ℕ} (boards : ℕ) → Asks (length (decode s).boards) pages q s → boards ≡ length (decode s).boards
     → Asks boards pages q s
@@ -134,32 +158,21 @@ module _ {boards pages : ℕ} {q : Ask} {s cells : List ℕ} (h : Asks boards pa
   abbrev k : Bank
   k = decode s
 
-  pub answers_down : {o : Outcome} {out : List ℕ} → is_down state ≡ true → o ≡ record { answer = WrongState b; stores = 0 }
-      → Answered a s o 0 (access_bank b a k) out
-  unfolding on_value code
-  answers_down d o =
-      refused_answered (WrongState b) refl (λ z. absurd (omega arith)) h.bank.bank (access_down b a k w.range w.right (rw (← is) d)) o
+  pub answers_down : {out : List ℕ} → is_down state ≡ true → Answered a s (record { answer = WrongState b; stores = 0 }) 0 (access_bank b a k) out
+  answers_down d = refused_answered (by.WrongState b) h.bank.bank (access_down b a k w.range w.right (rw (← is) d))
 
-  module _ (power : is_down state ≡ false) {m : Admission} (told : m ≡ admission_of (is_replaying state) a (board_at k b)) where
+  module _ (power : is_down state ≡ false) {m : Checked (Unit {0}) Refusal} (told : m ≡ admission_of b (is_replaying state) a (board_at k b)) where
     on : is_down (board_at k b).state ≡ false
     on = rw (← is) power
 
-    told_of : m ≡ admission_of (is_replaying (board_at k b).state) a (board_at k b)
-    told_of = told ∙ ap (λ (t : State). admission_of (is_replaying t) a (board_at k b)) is
+    told_of : m ≡ admission_of b (is_replaying (board_at k b).state) a (board_at k b)
+    told_of = told ∙ ap (λ (t : State). admission_of b (is_replaying t) a (board_at k b)) is
 
-    pub answers_full : {o : Outcome} {out : List ℕ} → m ≡ Full → o ≡ record { answer = CountersFull b; stores = 0 }
-        → Answered a s o 0 (access_bank b a k) out
-    unfolding on_value code
-    answers_full e o =
-        refused_answered (CountersFull b) refl (λ z. absurd (omega arith)) h.bank.bank (access_full b a k w.range w.right on told_of e) o
+    pub answers_refused : {r : Refusal} {out : List ℕ} → m ≡ Err r
+        → Answered a s (record { answer = refusal_answer r; stores = 0 }) 0 (access_bank b a k) out
+    answers_refused {r} e = refused_answered r h.bank.bank (access_refused b a k w.range w.right on told_of e)
 
-    pub answers_differs : {o : Outcome} {out : List ℕ} → m ≡ Differs → o ≡ record { answer = ReplayDiffers b; stores = 0 }
-        → Answered a s o 0 (access_bank b a k) out
-    unfolding on_value code
-    answers_differs e o =
-        refused_answered (ReplayDiffers b) refl (λ z. absurd (omega arith)) h.bank.bank (access_differs b a k w.range w.right on told_of e) o
-
-    module _ (e : m ≡ Pass) where
+    module _ (e : m ≡ Ok tt) where
       none_holds : first_given (access_refusals b a k) ≡ none
       none_holds = access_passes b a k w.range w.right on told_of e
 
@@ -204,20 +217,12 @@ module _ {b : ℕ} {s : List ℕ} {st : State} (on : OnBoard b s st) (a : Access
   cells_refused h w = call_refused s on.formed (Accessing b a) WrongCells (access_wrong b a (decode s) h w)
 
 module _ (p o v : ℕ) where
-  pub flag_write : (writes : Bool) → writes ≡ true → read_or_write writes p o v ≡ Write p o v
-  unfolding read_or_write
-  flag_write writes t = cc
-
-  pub flag_read : (writes : Bool) → writes ≡ false → read_or_write writes p o v ≡ Read p o
-  unfolding read_or_write
-  flag_read writes t = cc
-
   pub page_fits : (pages : ℕ) → numbers_fit pages p o v ≡ true → p < pages
   page_fits pages h = ltb-true p pages (and_left (ltb p pages) _ h)
 
   pub offset_fits : (pages : ℕ) → numbers_fit pages p o v ≡ true → o < page_size
   offset_fits pages h = ltb-true o page_size (and_left (ltb o page_size) _ (and_right (ltb p pages) _ h))
 
-  pub numbers : (writes : Bool) {b : ℕ} {s : List ℕ} {st : State} → OnBoard b s st → (writes ≡ false → v < byte_values)
-      → {pages : ℕ} → pages ≡ length (decode s).directory → access_in_range b (read_or_write writes p o v) (decode s) ≡ numbers_fit pages p o v
-  numbers writes {b} {s} on small e = in_range writes b p o v (decode s) small (listed on) ∙ rw e
+pub numbers : (w : Option ℕ) (p o v : ℕ) {b : ℕ} {s : List ℕ} {st : State} → OnBoard b s st → (is_some w ≡ false → v < byte_values)
+    → {pages : ℕ} → pages ≡ length (decode s).directory → access_in_range b (read_or_write w p o) (decode s) ≡ numbers_fit pages p o (unwrap_or w v)
+numbers w p o v {b} {s} on small e = in_range w b p o v (decode s) small (listed on) ∙ rw e

@@ -1,6 +1,6 @@
 -- The three kinds of access as the code asks for them: cells that are read and a byte that is written, and what was read, in the answer's value or in
 -- the second buffer. Assumes nothing.
-use Rattle.std.specs.Prelude.{◌≡◌, ◌≢◌, ℕ, ◌*◌, ◌%◌, ◌≤◌, Bool, false, ◌&&◌, List, [], ◌∷◌, length, get_or, eqb, ltb}
+use Rattle.std.specs.Prelude.{◌≡◌, ◌≢◌, ℕ, ◌*◌, ◌%◌, ◌≤◌, ◌<◌, Some, None, Bool, false, ◌&&◌, List, [], ◌∷◌, length, get_or, eqb, ltb}
 use Rattle.std.proofs.Math.Path.{refl, ap}
 use Rattle.std.proofs.Common.{sym, ◌∙◌, arith, eqb-true, ne_eqb, ltb-true, ltb-false}
 use Rattle.std.proofs.Math.Bool.{true}
@@ -20,7 +20,7 @@ use Rattle.model.specs.Definitions.Codec.{decode}
 use Rattle.model.specs.Definitions.Steps.{Cell, Access, Read, Write, ReadCells, cells_asked, cells_read, cells_written, any_cell, any_write, names, takes, value_of}
 use Rattle.model.specs.Definitions.Calls.{Result, cell_in_range, access_in_range, wrong_cells, access_bank, Accessing, call_within, call_bank, Reply, refused}
 use Rattle.model.specs.Definitions.Calls.{reply_of, call, buffer_after}
-use Rattle.model.proofs.Laws.Logic.{by_bool, by_eq, and_left, and_right, clash}
+use Rattle.model.proofs.Laws.Logic.{by_bool, by_eq, and_left, and_right}
 use Rattle.model.proofs.Laws.Keeps.Rights.{or_none}
 use Rattle.model.proofs.Laws.Keeps.Entered.{cell_of}
 use Rattle.model.proofs.Laws.Lists.{every_each, each_imp, each_head}
@@ -32,12 +32,12 @@ use Rattle.steps.specs.Asked.{got, Takes}
 use Rattle.accesses.specs.declared.ask.Ask.{Ask}
 use Rattle.accesses.specs.Asks.{Asks, InRange}
 use Rattle.accesses.specs.Results.{Answered}
-use Rattle.checks.specs.declared.entry.Refusal.{Refusal}
-use Rattle.checks.specs.declared.entry.Refusal.TheVariants.{Unreadable, NoBoard}
-use Rattle.checks.specs.Findings.{OnBoard, on_bank, on_formed, refusal_answer}
+use Rattle.checks.specs.declared.refusal.Refusal.{Refusal}
+use Rattle.checks.specs.Refusals.{refusal_answer}
+use Rattle.checks.specs.Findings.{OnBoard, on_bank, on_formed}
 use Rattle.engine.specs.Clauses.{Replied}
 use Rattle.engine.specs.Replies.{call_bank_lem, ran_replied}
-use Rattle.engine.specs.Admissions.{WellAsked}
+use Rattle.engine.specs.Admissions.{WellAsked, refusal_code}
 
 -- ---- what is asked for
 
@@ -68,6 +68,12 @@ module _ (b : ℕ) (a : Access) (k : Bank) (h : access_in_range b a k ≡ true) 
       (λ w t. cell_in pages w.0 (and_left (cell_in_range pages w.0) _ t))
       (and_right (every (cell_in_range pages) (cells_read a)) _ cells_fit)
 
+  pub values_in : Each (λ w. w.1 < byte_values) (cells_written a)
+  values_in =
+      every_each (λ w. cell_in_range pages w.0 && ltb w.1 byte_values) (cells_written a)
+      (λ w t. ltb-true w.1 byte_values (and_right (cell_in_range pages w.0) _ t))
+      (and_right (every (cell_in_range pages) (cells_read a)) _ cells_fit)
+
 -- bytes name the pages of an access: those that it reads, or the one that it writes
 module _ {pages : ℕ} {a : Access} (cells : List ℕ) (own : (p : ℕ) → names a p ≡ any_cell (cells_asked cells) p) (within : Each (CellIn pages) (cells_asked cells))
     {named : ℕ} (members : (p : ℕ) → member p named ≡ any_cell (cells_asked cells) p) where
@@ -94,7 +100,7 @@ unfolding cells_read cells_written takes got
 all_cells cells n = record { reads = refl; wrote = refl; copies = refl }
 
 abbrev pub read_ask : ℕ → ℕ → Ask
-read_ask b named = record { board = b; writes = false; named = named; page = 0; offset = 0; value = 0 }
+read_ask b named = record { board = b; named = named; write = None }
 
 module _ {a : Access} {cells : List ℕ} (x : Reading a cells) (b : ℕ) (k : Bank) (range : access_in_range b a k ≡ true)
     {pages : ℕ} (e : pages ≡ length k.directory) where
@@ -115,7 +121,7 @@ module _ {a : Access} {cells : List ℕ} (x : Reading a cells) (b : ℕ) (k : Ba
       }
 
   pub read_range : (named n : ℕ) → length cells ≡ 2 * n → InRange pages (read_ask b named) cells n
-  read_range named n l = record { cells = reads_within; room = l; byte = λ t. clash t refl }
+  read_range named n l = record { cells = reads_within; room = l; byte = tt; small = tt }
 
 -- a list of cells is in range if each of them is
 pub cells_range : (b : ℕ) (cells : List ℕ) (n : ℕ) (k : Bank) → ltb b (length k.boards) ≡ true
@@ -136,12 +142,16 @@ right_cells cells n h =
     (by_eq (length cells % 2) 1 (λ e. absurd (even e)) (λ e. omega (arith, same, count_cells cells, e)), omega (arith, same, few))
 
 abbrev pub write_ask : ℕ → ℕ → ℕ → ℕ → ℕ → Ask
-write_ask b named p o v = record { board = b; writes = true; named = named; page = p; offset = o; value = v }
+write_ask b named p o v = record { board = b; named = named; write = Some (record { page = p; offset = o; value = v }) }
 
 module _ (b p o v : ℕ) (k : Bank) (range : access_in_range b (Write p o v) k ≡ true) {pages : ℕ} (e : pages ≡ length k.directory) where
   written_in : CellIn pages (record { page = p; offset = o })
   unfolding cells_written
   written_in = rw e (each_head (writes_in b (Write p o v) k range))
+
+  value_in : v < byte_values
+  unfolding cells_written
+  value_in = each_head (values_in b (Write p o v) k range)
 
   pub write_within : Each (CellIn pages) (cells_asked (p ∷ o ∷ []))
   unfolding cells_asked
@@ -164,7 +174,7 @@ module _ (b p o v : ℕ) (k : Bank) (range : access_in_range b (Write p o v) k �
 
   pub write_range : (named : ℕ) → InRange pages (write_ask b named p o v) [] 0
   unfolding cells_asked
-  write_range named = record { cells = each_nil; room = refl; byte = λ t. written_in }
+  write_range named = record { cells = each_nil; room = refl; byte = written_in; small = value_in }
 
 pub few_pages : {b : ℕ} {s : List ℕ} {st : State} → OnBoard b s st → {pages : ℕ} → pages ≡ length (decode s).directory → pages ≤ most_pages
 few_pages on e = omega (arith, e, on.whole.sizes.pages)
@@ -187,6 +197,10 @@ module _ {A : Type 0} (x : Answer) (done other : A) where
   pub when_other : eqb (code x) 0 ≡ false → other ≡ if_done x done other
   unfolding if_done
   when_other t = cc
+
+-- a refusal has no use for what is taken
+pub when_refused : {A : Type 0} (r : Refusal) (done other : A) → other ≡ if_done (refusal_answer r) done other
+when_refused r done other = when_other (refusal_answer r) done other (ne_eqb (code (refusal_answer r)) 0 (refusal_code r))
 
 -- a code other than 0 stands beside no value
 other_value : (g : ℕ → ℕ) (x : Answer) → code x ≢ 0 → on_value g x ≡ x
@@ -246,6 +260,13 @@ pub byte_read : {p q n : ℕ} {t out : List ℕ} {o : Outcome} {r : Result} → 
 unfolding bytes_seen
 byte_read h z = sym (ap (λ (l : List ℕ). get_or l 0 0) (h.read z))
 
+-- a refusal, whose value is none
+pub refusal_replied : {b : ℕ} {s : List ℕ} {st : State} → OnBoard b s st → {a : Access} {t out : List ℕ} (y : Refusal)
+    → Answered a t (record { answer = refusal_answer y; stores = 0 }) 0 (access_bank b a (decode s)) out → {n : ℕ}
+    → (code (access_bank b a (decode s)).answer ≡ 0 → value (access_bank b a (decode s)).answer ≡ n)
+    → Replied (call (Accessing b a) s) (record { answer = refusal_answer y; stores = 0 }) t
+refusal_replied on y h {n} e = rw (sym (when_refused y (Done n) (refusal_answer y))) at (value_replied on h n e)
+
 -- "The bytes go in the asked order into a second lent buffer, which any code but 0 leaves unchanged" (document 02, F-3)
 pub buffer_left : {b : ℕ} {s : List ℕ} {st : State} → OnBoard b s st → {cells : List ℕ} {n : ℕ} {t bytes left : List ℕ} {o : Outcome} (out : List ℕ)
     → Answered (ReadCells cells n) t o 0 (access_bank b (ReadCells cells n) (decode s)) bytes
@@ -268,8 +289,3 @@ buffer_left {b} {s} on {cells} {n} {t} {bytes} {left} {o} out h l =
 pub buffer_kept : {y : Reply} (x : Answer) (s out : List ℕ) → y ≡ refused x s → code x ≢ 0 → out ≡ buffer_after y out
 unfolding buffer_after refused
 buffer_kept x s out e not = let z : eqb (code x) 0 ≡ false = ne_eqb (code x) 0 not in cc
-
-pub refusal_code : (a : Refusal) → code (refusal_answer a) ≢ 0
-unfolding code
-refusal_code Unreadable e = omega arith
-refusal_code NoBoard e = omega arith

@@ -1,5 +1,6 @@
 -- Two logs held against each other: what is answered by what the tests and the search say, one law for each way through the call. Assumes nothing.
-use Rattle.std.specs.Prelude.{◌≡◌, ◌≢◌, ℕ, ◌≤◌, ◌<◌, List, length}
+use Rattle.std.specs.Prelude.{◌≡◌, ◌≢◌, ℕ, ◌≤◌, ◌<◌, List, length, Option, Some, None, suc}
+use Rattle.std.proofs.Common.{zero, refl, sym, ◌∙◌, arith}
 use Rattle.std.proofs.Math.Bool.{true, false}
 use Rattle.std.proofs.Math.Dec.{eqb, ltb}
 use borrow.Author.Tests.{lt-ltb, le-ltb, eq-eqb, ne_eqb}
@@ -10,24 +11,40 @@ use Rattle.model.specs.Definitions.Bank.{Bank}
 use Rattle.model.specs.Definitions.Codec.{decode}
 use Rattle.model.specs.Definitions.Logs.{unmatched_in, compared_in_order, compared_logs}
 use Rattle.model.specs.Definitions.Calls.{unless, first_given, compare_bank, Comparing, call_within, call_bank, refused, call}
+use Rattle.comparison.specs.Matched.{place_in}
 use Rattle.checks.specs.Findings.{OnBoard}
 use Rattle.engine.specs.Replies.{call_refused, listed}
 
 -- ---- the lower board as giver first
 
-module _ (x y : ℕ) (k : Bank) {i : ℕ} (first : i ≡ unmatched_in x y k) where
-  pub first_place : i ≢ 0 → Compared i y ≡ compared_in_order x y k
+-- a place in a log, and none
+some_place : (n : ℕ) {i : ℕ} → Some i ≡ place_in n → (i ≡ n) × (eqb n 0 ≡ false)
+some_place zero e = cc
+some_place (suc n) e = (cc, ne_eqb (suc n) 0 (λ z. absurd (omega arith)))
+
+none_place : (n : ℕ) → None ≡ place_in n → n ≡ 0
+none_place zero e = refl
+none_place (suc n) e = cc
+
+module _ (x y : ℕ) (k : Bank) where
+  pub first_place : {r : Option ℕ} {i : ℕ} → r ≡ place_in (unmatched_in x y k) → r ≡ Some i → Compared i y ≡ compared_in_order x y k
   unfolding compared_in_order
-  first_place n = let t : eqb i 0 ≡ false = ne_eqb i 0 n in cc
+  first_place e q = let p = some_place (unmatched_in x y k) (sym q ∙ e) in cc
 
-  module _ (none : i ≡ 0) {j : ℕ} (second : j ≡ unmatched_in y x k) where
-    pub second_place : j ≢ 0 → Compared j x ≡ compared_in_order x y k
+  module _ (first : None ≡ place_in (unmatched_in x y k)) where
+    pub second_place : {r : Option ℕ} {i : ℕ} → r ≡ place_in (unmatched_in y x k) → r ≡ Some i → Compared i x ≡ compared_in_order x y k
     unfolding compared_in_order
-    second_place n = let s : eqb i 0 ≡ true = eq-eqb i 0 none in let t : eqb j 0 ≡ false = ne_eqb j 0 n in cc
+    second_place e q =
+        let s : eqb (unmatched_in x y k) 0 ≡ true = eq-eqb (unmatched_in x y k) 0 (none_place (unmatched_in x y k) first) in
+        let p = some_place (unmatched_in y x k) (sym q ∙ e) in
+        cc
 
-    pub no_place : j ≡ 0 → Compared 0 0 ≡ compared_in_order x y k
+    pub no_place : {r : Option ℕ} → r ≡ place_in (unmatched_in y x k) → r ≡ None → Compared 0 0 ≡ compared_in_order x y k
     unfolding compared_in_order
-    no_place e = let s : eqb i 0 ≡ true = eq-eqb i 0 none in let t : eqb j 0 ≡ true = eq-eqb j 0 e in cc
+    no_place e q =
+        let s : eqb (unmatched_in x y k) 0 ≡ true = eq-eqb (unmatched_in x y k) 0 (none_place (unmatched_in x y k) first) in
+        let t : eqb (unmatched_in y x k) 0 ≡ true = eq-eqb (unmatched_in y x k) 0 (none_place (unmatched_in y x k) (sym q ∙ e)) in
+        cc
 
 -- ---- in either order
 

@@ -1,6 +1,7 @@
 -- What a call replies, once its tests are known, one law for each way through it; and the contract from such a law. Assumes nothing.
-use Rattle.std.specs.Prelude.{◌≡◌, ℕ, ◌+◌, ◌≤◌, Bool, true, false, ◌&&◌, List, [], length, ltb}
-use Rattle.std.proofs.Common.{sym, ◌∙◌, arith, lt-ltb}
+use Rattle.std.specs.Prelude.{◌≡◌, ℕ, ◌+◌, ◌≤◌, Bool, true, false, ◌&&◌, List, [], length, Err, ltb}
+use Rattle.std.specs.declared.result.Result.{Result as Checked}
+use Rattle.std.proofs.Common.{refl, sym, ◌∙◌, arith, lt-ltb}
 use Rattle.std.proofs.Math.Path.{ap}
 use Rattle.types.specs.declared.State.{State}
 use Rattle.types.specs.declared.Answer.{Answer}
@@ -22,16 +23,20 @@ use Rattle.model.specs.Clauses.{most_stores}
 use Rattle.exchange.specs.Progress.{lost_by, Came}
 use Rattle.accesses.specs.Results.{ended_as}
 use Rattle.engine.specs.Clauses.{Replied}
-use Rattle.checks.specs.declared.entry.Refusal.{Refusal}
-use Rattle.checks.specs.declared.entry.Finding.{Finding}
-use Rattle.checks.specs.declared.entry.Finding.TheVariants.{Refused}
-use Rattle.checks.specs.Findings.{OnBoard, finding_of, refusal_answer, refused_says}
+use Rattle.checks.specs.declared.refusal.Refusal.{Refusal}
+use Rattle.checks.specs.Refusals.{refusal_answer, outcome_of}
+use Rattle.checks.specs.Findings.{OnBoard, finding_of, refused_says}
 
 -- ---- the contract of a call, from its reply
 
 -- its second half follows from the first
 pub replied_few : (c : Call) (s : List ℕ) {o : Outcome} {t : List ℕ} → Replied (call c s) o t → Replied (call c s) o t × (o.stores ≤ most_stores)
 replied_few c s h = (h, rw h.0 (call_few c s))
+
+-- what a call answers, refused or not
+pub answered_replied : (c : Call) (s : List ℕ) (r : Checked Outcome Refusal) {o : Outcome} {t : List ℕ} → o ≡ outcome_of r → Replied (call c s) (outcome_of r) t
+    → Replied (call c s) o t × (o.stores ≤ most_stores)
+answered_replied c s r e h = replied_few c s (rw e h)
 
 -- a refusal: no store, the bytes as they were
 pub refused_replied : {y : Reply} {a : Answer} {o : Outcome} {s : List ℕ} → y ≡ refused a s → o ≡ record { answer = a; stores = 0 }
@@ -132,14 +137,14 @@ out_of_bank (Restarting b) k h = cc
 out_of_bank (Comparing b c) k h = cc
 
 -- what every call of a board finds first: where that refuses it, so does the call
-pub found_refused : (c : Call) (s : List ℕ) {b : ℕ} → board_named c ≡ b → {e : Finding} {a : Refusal} → e ≡ finding_of b s → e ≡ Refused a
+pub found_refused : (c : Call) (s : List ℕ) {b : ℕ} → board_named c ≡ b → {e : Checked State Refusal} {a : Refusal} → e ≡ finding_of b s → e ≡ Err a
     → call c s ≡ refused (refusal_answer a) s
 found_refused c s {b} own told q =
     refused_says b s told (λ x. call c s ≡ refused (refusal_answer x) s) (call_malformed c s)
     (λ v h. call_refused s v c OutOfRange (out_of_bank c (decode s) (rw own h))) q
 
-pub found_replied : (c : Call) (s : List ℕ) {b : ℕ} → board_named c ≡ b → {e : Finding} {a : Refusal} {o : Outcome} → e ≡ finding_of b s → e ≡ Refused a
-    → o ≡ record { answer = refusal_answer a; stores = 0 } → Replied (call c s) o s × (o.stores ≤ most_stores)
+pub found_replied : (c : Call) (s : List ℕ) {b : ℕ} → board_named c ≡ b → {e : Checked State Refusal} {a : Refusal} {o : Outcome} → e ≡ finding_of b s
+    → e ≡ Err a → o ≡ record { answer = refusal_answer a; stores = 0 } → Replied (call c s) o s × (o.stores ≤ most_stores)
 found_replied c s own told q r = refused_replied (found_refused c s own told q) r
 
 -- ---- on the bytes of a bank that has the board

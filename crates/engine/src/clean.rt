@@ -4,9 +4,8 @@ ghost use Rattle.model.specs.Definitions.Older.{clean as cleaning};
 ghost use Rattle.model.specs.Clauses.{most_stores};
 ghost use Rattle.engine.specs.Clauses.{Replied};
 
-use checks::entry::refuse;
+use checks::refusal::Refusal;
 use conversion::clean::clean_slots;
-use fields::bytes::{get, wide};
 use fields::widths::SINCE_SIZE;
 use format::layout::{BOARDS_AT, PAGES_AT};
 use types::{Answer, Outcome};
@@ -18,10 +17,10 @@ pub fn clean(bank: &mut [u8]) -> Outcome
     ensures few { result.stores ≤ most_stores }
 {
     if !formed_in(bank, SINCE_SIZE, true) {
-        return refuse(Answer::Malformed);
+        return Outcome::from(Refusal::Malformed);
     }
-    let boards = wide(get(bank, BOARDS_AT));
-    let pages = wide(get(bank, PAGES_AT));
+    let boards = usize::from(bank[BOARDS_AT]);
+    let pages = usize::from(bank[PAGES_AT]);
     clean_slots(bank, boards, pages);
     Outcome {
         answer: Answer::Done(0),

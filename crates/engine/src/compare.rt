@@ -4,10 +4,12 @@ ghost use Rattle.model.specs.Definitions.Codec.{decode};
 ghost use Rattle.model.specs.Definitions.Logs.{compared_in_order, compared_logs};
 ghost use Rattle.model.specs.Definitions.Calls.{call, Comparing};
 ghost use Rattle.model.specs.Clauses.{IsBank, most_stores};
+ghost use Rattle.checks.specs.Refusals.{outcome_of};
 ghost use Rattle.engine.specs.Clauses.{Replied};
 
 use checks::bank::{board_count, page_count};
-use checks::entry::{Finding, enter, refuse, refuse_entry};
+use checks::entry::enter;
+use checks::refusal::{Refusal, answered};
 use comparison::unmatched::unmatched_in;
 use types::{Answer, Outcome};
 
@@ -17,15 +19,14 @@ fn compare_in_order(bank: &[u8], pages: usize, lower: usize, higher: usize) -> A
         × (higher < length (decode bank.now).boards) }
     ensures { result ≡ compared_in_order lower higher (decode bank.now) }
 {
-    let first = unmatched_in(bank, pages, lower, higher);
-    if first != 0 {
+    if let Some(first) = unmatched_in(bank, pages, lower, higher) {
         return Answer::Compared(first, higher as u8);
     }
-    let second = unmatched_in(bank, pages, higher, lower);
-    if second != 0 {
-        return Answer::Compared(second, lower as u8);
+    match unmatched_in(bank, pages, higher, lower) {
+        Some(second) => Answer::Compared(second, lower as u8),
+        // "both are 0 if there is none" (document 02, F-7)
+        None => Answer::Compared(0, 0),
     }
-    Answer::Compared(0, 0)
 }
 
 // Two boards of the bank, named in either order.
@@ -40,24 +41,26 @@ fn compare_boards(bank: &[u8], b: usize, c: usize) -> Answer
     compare_in_order(bank, pages, c, b)
 }
 
+fn try_compare_logs(bank: &[u8], board: u32, other: u32) -> Result<Outcome, Refusal>
+    ensures { Replied (call (Comparing board other) bank.now) (outcome_of result) bank.now }
+{
+    enter(bank, board)?;
+    let b = board as usize;
+    let c = other as usize;
+    if board_count(bank) <= c {
+        return Err(Refusal::OutOfRange);
+    }
+    if b == c {
+        return Err(Refusal::SameBoard);
+    }
+    let answer = compare_boards(bank, b, c);
+    Ok(Outcome { answer, stores: 0 })
+}
+
 // "It works in every state of the boards": only their numbers are tested.
 pub fn compare_logs(bank: &[u8], board: u32, other: u32) -> Outcome
     ensures reply { Replied (call (Comparing board other) bank.now) result bank.now }
     ensures few { result.stores ≤ most_stores }
 {
-    match enter(bank, board) {
-        Finding::Refused(refusal) => refuse_entry(refusal),
-        Finding::Board(_) => {
-            let b = board as usize;
-            let c = other as usize;
-            if board_count(bank) <= c {
-                return refuse(Answer::OutOfRange);
-            }
-            if b == c {
-                return refuse(Answer::SameBoard);
-            }
-            let answer = compare_boards(bank, b, c);
-            Outcome { answer, stores: 0 }
-        }
-    }
+    answered(try_compare_logs(bank, board, other))
 }

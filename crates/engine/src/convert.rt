@@ -4,9 +4,8 @@ ghost use Rattle.model.specs.Definitions.Older.{convert as converting, adopt as 
 ghost use Rattle.model.specs.Clauses.{most_stores};
 ghost use Rattle.engine.specs.Clauses.{Replied};
 
-use checks::entry::refuse;
+use checks::refusal::Refusal;
 use conversion::bank::write_converted;
-use fields::bytes::{get, wide};
 use fields::widths::{OLDER_SINCE_SIZE, SINCE_SIZE};
 use format::layout::{BOARDS_AT, PAGES_AT, bank_size};
 use types::{Answer, Outcome};
@@ -20,15 +19,15 @@ pub fn convert(old: &[u8], new: &mut [u8]) -> Outcome
     ensures few { result.stores ≤ most_stores }
 {
     if !formed_in(old, OLDER_SINCE_SIZE, false) {
-        return refuse(Answer::Malformed);
+        return Outcome::from(Refusal::Malformed);
     }
-    let boards = wide(get(old, BOARDS_AT));
-    let pages = wide(get(old, PAGES_AT));
+    let boards = usize::from(old[BOARDS_AT]);
+    let pages = usize::from(old[PAGES_AT]);
     if new.len() != bank_size(boards, pages) {
-        return refuse(Answer::Malformed);
+        return Outcome::from(Refusal::Malformed);
     }
     if !no_records(old, OLDER_SINCE_SIZE) {
-        return refuse(Answer::HasRecords);
+        return Outcome::from(Refusal::HasRecords);
     }
     write_converted(old, new, boards, pages);
     Outcome {
@@ -43,10 +42,10 @@ pub fn adopt(bank: &[u8]) -> Outcome
     ensures few { result.stores ≤ most_stores }
 {
     if !formed_in(bank, SINCE_SIZE, false) {
-        return refuse(Answer::Malformed);
+        return Outcome::from(Refusal::Malformed);
     }
     if !no_records(bank, SINCE_SIZE) {
-        return refuse(Answer::HasRecords);
+        return Outcome::from(Refusal::HasRecords);
     }
     Outcome {
         answer: Answer::Done(0),

@@ -4,10 +4,12 @@ ghost use Rattle.model.specs.Definitions.Codec.{encode, decode};
 ghost use Rattle.model.specs.Definitions.Steps.{fuse_board};
 ghost use Rattle.model.specs.Definitions.Calls.{call, Fusing};
 ghost use Rattle.model.specs.Clauses.{IsBank, most_stores};
+ghost use Rattle.checks.specs.Refusals.{outcome_of};
 ghost use Rattle.engine.specs.Clauses.{Replied};
 
 use checks::bank::page_count;
-use checks::entry::{Finding, enter, refuse, refuse_entry, wrong_state};
+use checks::entry::enter;
+use checks::refusal::{Refusal, answered};
 use format::layout;
 use format::layout::{block_at, block_size};
 use steps::fuse::set_fuse;
@@ -32,26 +34,28 @@ fn fuse_board(bank: &mut [u8], pages: usize, board: usize, stores: u16)
     }
 }
 
+fn try_fuse(bank: &mut [u8], board: u32, stores: u32) -> Result<Outcome, Refusal>
+    ensures { Replied (call (Fusing board stores) bank.old) (outcome_of result) bank.new }
+{
+    let state = enter(bank, board)?;
+    if NO_FUSE <= stores {
+        return Err(Refusal::OutOfRange);
+    }
+    if is_down(state) {
+        return Err(Refusal::WrongState(board as u8));
+    }
+    let pages = page_count(bank);
+    fuse_board(bank, pages, board as usize, stores as u16);
+    Ok(Outcome {
+        answer: Answer::Done(0),
+        stores: 0,
+    })
+}
+
 // "Fuse k .. : cut after its k-th next store"; "code 2 then covers only what is above 65,534" (document 02, F-1).
 pub fn fuse(bank: &mut [u8], board: u32, stores: u32) -> Outcome
     ensures reply { Replied (call (Fusing board stores) bank.old) result bank.new }
     ensures few { result.stores ≤ most_stores }
 {
-    match enter(bank, board) {
-        Finding::Refused(refusal) => refuse_entry(refusal),
-        Finding::Board(state) => {
-            if NO_FUSE <= stores {
-                return refuse(Answer::OutOfRange);
-            }
-            if is_down(state) {
-                return wrong_state(board);
-            }
-            let pages = page_count(bank);
-            fuse_board(bank, pages, board as usize, stores as u16);
-            Outcome {
-                answer: Answer::Done(0),
-                stores: 0,
-            }
-        }
-    }
+    answered(try_fuse(bank, board, stores))
 }

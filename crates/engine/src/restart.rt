@@ -7,12 +7,14 @@ ghost use Rattle.model.specs.Definitions.Calls.{call, Restarting};
 ghost use Rattle.steps.specs.Blocks.{IsBlock, board_of};
 ghost use Rattle.copies.specs.Banks.{OfBank, Holds};
 ghost use Rattle.model.specs.Clauses.{most_stores};
+ghost use Rattle.checks.specs.Refusals.{outcome_of};
 ghost use Rattle.engine.specs.Clauses.{Replied};
 
 use accesses::outcome::ended;
 use accesses::replaying::end_replay;
 use checks::bank::page_count;
-use checks::entry::{Finding, enter, refuse_entry, wrong_state};
+use checks::entry::enter;
+use checks::refusal::{Refusal, answered};
 use format::layout::{block_at, block_size};
 use format::selected::read_number;
 use replay::next::replay_over;
@@ -20,7 +22,7 @@ use replay::restart::begin_replay;
 use steps::state::is_down;
 use types::{Answer, Outcome};
 
-// The number that a board begins again with, and whether its log has no record left.
+// The number that a board begins again with, and whether its log has no record left: both count in either case, so no Option says it.
 #[derive(Clone, Copy)]
 struct Restarted {
     number: u32,
@@ -53,29 +55,30 @@ fn restart_board(bank: &mut [u8], pages: usize, board: usize) -> Restarted
     restart_block(&mut bank[a..a + size], pages)
 }
 
+fn try_restart(bank: &mut [u8], board: u32) -> Result<Outcome, Refusal>
+    ensures { Replied (call (Restarting board) bank.old) (outcome_of result) bank.new }
+{
+    let state = enter(bank, board)?;
+    if !is_down(state) {
+        return Err(Refusal::WrongState(board as u8));
+    }
+    let pages = page_count(bank);
+    let b = board as usize;
+    let restarted = restart_board(bank, pages, b);
+    if !restarted.over {
+        return Ok(Outcome {
+            answer: Answer::Done(restarted.number),
+            stores: 0,
+        });
+    }
+    let stored = end_replay(bank, pages, b);
+    Ok(ended(restarted.number, b, stored))
+}
+
 // "Restart", and the end of replay where its log has no record to repeat.
 pub fn restart(bank: &mut [u8], board: u32) -> Outcome
     ensures reply { Replied (call (Restarting board) bank.old) result bank.new }
     ensures few { result.stores ≤ most_stores }
 {
-    match enter(bank, board) {
-        Finding::Refused(refusal) => refuse_entry(refusal),
-        Finding::Board(state) => {
-            if !is_down(state) {
-                return wrong_state(board);
-            }
-            let pages = page_count(bank);
-            let b = board as usize;
-            let restarted = restart_board(bank, pages, b);
-            let number = restarted.number;
-            if !restarted.over {
-                return Outcome {
-                    answer: Answer::Done(number),
-                    stores: 0,
-                };
-            }
-            let stored = end_replay(bank, pages, b);
-            ended(number, b, stored)
-        }
-    }
+    answered(try_restart(bank, board))
 }

@@ -1,6 +1,6 @@
 -- A board's run of stores made in its block, which is lent from a bank: the bank's run, where the board has its power yet and where it lost it.
 -- Assumes nothing.
-use Rattle.std.specs.Prelude.{◌≡◌, ℕ, ◌+◌, ◌-◌, Bool, List, ◌++◌, map, length, take, drop}
+use Rattle.std.specs.Prelude.{◌≡◌, ℕ, ◌+◌, ◌-◌, Bool, List, ◌++◌, map, length, take, drop, Result, Ok, Err, is_err}
 use Rattle.std.proofs.Math.Path.{refl}
 use Rattle.std.proofs.Common.{sym, ◌∙◌}
 use Rattle.std.proofs.Math.Bool.{true, false}
@@ -12,9 +12,16 @@ use Rattle.model.specs.Definitions.BoardRuns.{BoardRun}
 use Rattle.model.proofs.Laws.Boards.{boards_on_board}
 use Rattle.steps.specs.Blocks.{board_of}
 use Rattle.steps.specs.BankBlocks.{LentBlock, lent_board}
+use Rattle.stores.specs.declared.spend.PowerLost.{PowerLost}
+use Rattle.stores.specs.Clauses.{is_lost}
 use Rattle.stores.specs.Lifted.{lifted, lifted_lost, lifted_going}
 use Rattle.copies.specs.Banks.{Holds, OfBank, holds_decode, holds_of, lent_holds}
 use Rattle.exchange.specs.Progress.{lost_by, Came}
+
+-- an error is a loss
+pub lost_told : (r : Result ℕ PowerLost) → is_lost r ≡ is_err r
+lost_told (Ok x) = refl
+lost_told (Err e) = refl
 
 module _ {s : List ℕ} {pages b a n : ℕ} (o : OfBank pages b s) (l : LentBlock (decode s) s pages b a n) (run : Board → BoardRun)
     (v : FieldsOk pages (run (board_at (decode s) b)).board) (ys : List ℕ) (kept : length ys ≡ length (take (a + n - a) (drop a s)))

@@ -7,12 +7,13 @@ ghost use Rattle.model.specs.Definitions.Codec.{decode};
 ghost use Rattle.model.specs.Definitions.WellFormed.{WellFormed};
 ghost use Rattle.model.specs.Definitions.Steps.{step, note, flush, checkpoint};
 ghost use Rattle.model.specs.Clauses.{RoomFor, Recordable};
+ghost use Rattle.stores.specs.Clauses.{stores_made, is_lost};
 ghost use Rattle.copies.specs.Banks.{OfBank};
 ghost use Rattle.exchange.specs.Progress.{running, lost_by, Came};
 
 use format::layout::{block_at, block_size};
 use steps::power::forget;
-use stores::spend::Stored;
+use stores::spend::PowerLost;
 use stores::{checkpoint, flush};
 use types::{Kind, PAGE_SIZE};
 
@@ -24,32 +25,32 @@ pub fn log_through(
     kind: Kind,
     peer: u8,
     bytes: [u8; PAGE_SIZE],
-) -> Stored
+) -> Result<u32, PowerLost>
     requires { OfBank pages board bank.old × WellFormed (decode bank.old) × ((board_at (decode bank.old) board).state ≡ Up)
         × RoomFor 1 (board_at (decode bank.old) board) × Recordable pages kind peer bytes }
-    ensures run { (n : ℕ) → Came bank.new (n + result.stores) (lost_by board result.lost)
+    ensures run { (n : ℕ) → Came bank.new (n + stores_made result) (lost_by board (is_lost result))
         (flush board (step (note board kind peer bytes) (running n (decode bank.old)))) }
-    ensures few { result.stores ≤ slot_count }
+    ensures few { stores_made result ≤ slot_count }
 {
     let a = block_at(pages, board);
     let size = block_size(pages);
     let stored = flush::log_through(&mut bank[a..a + size], pages, kind, peer, bytes);
-    if stored.lost {
+    if stored.is_err() {
         forget(bank, pages, board);
     }
     stored
 }
 
-pub fn checkpoint(bank: &mut [u8], pages: usize, board: usize) -> Stored
+pub fn checkpoint(bank: &mut [u8], pages: usize, board: usize) -> Result<u32, PowerLost>
     requires { OfBank pages board bank.old × WellFormed (decode bank.old) × ((board_at (decode bank.old) board).state ≢ Replaying) }
-    ensures run { (n : ℕ) → Came bank.new (n + result.stores) (lost_by board result.lost)
+    ensures run { (n : ℕ) → Came bank.new (n + stores_made result) (lost_by board (is_lost result))
         (checkpoint board (running n (decode bank.old))) }
-    ensures few { result.stores ≤ pages + 2 }
+    ensures few { stores_made result ≤ pages + 2 }
 {
     let a = block_at(pages, board);
     let size = block_size(pages);
     let stored = checkpoint::checkpoint(&mut bank[a..a + size], pages);
-    if stored.lost {
+    if stored.is_err() {
         forget(bank, pages, board);
     }
     stored

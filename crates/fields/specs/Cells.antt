@@ -1,5 +1,5 @@
 -- Cells as bytes: the cell at each place, and what a loop over them has found so far. Assumes nothing.
-use Rattle.std.specs.Prelude.{◌≡◌, refl, ◌≢◌, ℕ, suc, ◌+◌, ◌*◌, ◌/◌, ◌%◌, ◌≤◌, ◌<◌, Bool, true, false, ◌||◌, not, List, [], ◌∷◌, length, drop, get_or, eqb}
+use Rattle.std.specs.Prelude.{◌≡◌, refl, ◌≢◌, ℕ, suc, ◌+◌, ◌*◌, ◌/◌, ◌%◌, ◌≤◌, ◌<◌, Bool, true, false, ◌||◌, not, List, [], ◌∷◌, ◌++◌, length, drop, get_or, eqb}
 use Rattle.std.proofs.Common.{sym, ◌∙◌, arith, length-drop, drop-cons}
 use borrow.Author.Tests.{eq-eqb, ne_eqb, lt-ltb, le-ltb}
 use Rattle.words.specs.Bytes.{Each}
@@ -26,8 +26,17 @@ next_cell cells i h =
     let k : 2 * i + 1 ≡ suc (2 * i) = omega arith in
     rw (drop-cons cells (2 * i) 0 (omega arith), drop-cons cells (suc (2 * i)) 0 (omega arith), j, k)
 
+-- two bytes and what stands behind them: a cell and the cells behind it
+pub first_cell : (cell rest : List ℕ) → length cell ≡ 2
+    → cells_asked (cell ++ rest) ≡ record { page = get_or cell 0 0; offset = get_or cell 1 0 } ∷ cells_asked rest
+unfolding cells_asked
+first_cell [] rest h = absurd (omega arith)
+first_cell (p ∷ []) rest h = absurd (omega arith)
+first_cell (p ∷ o ∷ []) rest h = refl
+first_cell (p ∷ o ∷ b ∷ more) rest h = absurd (omega arith)
+
 -- "An odd last byte is no cell"
-no_cell : (l : List ℕ) → length l < 2 → cells_asked l ≡ []
+pub no_cell : (l : List ℕ) → length l < 2 → cells_asked l ≡ []
 unfolding cells_asked
 no_cell [] h = refl
 no_cell (p ∷ []) h = refl
@@ -45,22 +54,23 @@ count_cells (p ∷ o ∷ more) = omega (arith, count_cells more)
 
 -- ---- all in range
 
--- every cell before place i passes the test
-abbrev pub PassedTo : (Cell → Bool) → List ℕ → ℕ → Type 0
-PassedTo f cells i = every f (cells_asked (drop (2 * i) cells)) ≡ every f (cells_asked cells)
+-- every cell before the rest passes the test
+abbrev pub PassedTo : (Cell → Bool) → List ℕ → List ℕ → Type 0
+PassedTo f cells rest = every f (cells_asked rest) ≡ every f (cells_asked cells)
 
-module _ (f : Cell → Bool) (cells : List ℕ) (i : ℕ) (so_far : PassedTo f cells i) where
-  pub passed_next : 2 * i + 1 < length cells → f (cell_at cells i) ≡ true → PassedTo f cells (i + 1)
-  unfolding every
-  passed_next h t = let e = next_cell cells i h in cc
+module _ (f : Cell → Bool) (cells rest : List ℕ) (so_far : PassedTo f cells rest) where
+  module _ (cell behind : List ℕ) (e : rest ≡ cell ++ behind) (two : length cell ≡ 2) where
+    pub passed_next : f (record { page = get_or cell 0 0; offset = get_or cell 1 0 }) ≡ true → PassedTo f cells behind
+    unfolding every
+    passed_next t = let n = first_cell cell behind two in cc
 
-  pub passed_not : 2 * i + 1 < length cells → f (cell_at cells i) ≡ false → false ≡ every f (cells_asked cells)
-  unfolding every
-  passed_not h t = let e = next_cell cells i h in cc
+    pub passed_not : f (record { page = get_or cell 0 0; offset = get_or cell 1 0 }) ≡ false → false ≡ every f (cells_asked cells)
+    unfolding every
+    passed_not t = let n = first_cell cell behind two in cc
 
-  pub passed_all : length cells / 2 ≤ i → true ≡ every f (cells_asked cells)
+  pub passed_all : length rest < 2 → true ≡ every f (cells_asked cells)
   unfolding every
-  passed_all h = let e = cells_end cells i h in cc
+  passed_all h = let n = no_cell rest h in cc
 
 -- ---- the pages that are named
 
@@ -84,32 +94,33 @@ joined p q named rest =
     let t : member p (with_member q named) ≡ member p named = member_with_other q p named (λ i. n (sym i)) in
     rw (s, t))
 
--- the pages of the cells before place i are in the set, those behind it are to come
-pub record NamedTo (pages : ℕ) (cells : List ℕ) (i : ℕ) (named : ℕ) : Type 0 where
-  pub range : Each (CellIn pages) (cells_asked (drop (2 * i) cells))
-  pub members : (p : ℕ) → (member p named || any_cell (cells_asked (drop (2 * i) cells)) p) ≡ any_cell (cells_asked cells) p
+-- the pages of the cells before the rest are in the set, those of the rest are to come
+pub record NamedTo (pages : ℕ) (cells rest : List ℕ) (named : ℕ) : Type 0 where
+  pub range : Each (CellIn pages) (cells_asked rest)
+  pub members : (p : ℕ) → (member p named || any_cell (cells_asked rest) p) ≡ any_cell (cells_asked cells) p
 
 module _ {pages : ℕ} {cells : List ℕ} where
-  pub named_none : Each (CellIn pages) (cells_asked cells) → NamedTo pages cells 0 0
+  pub named_none : Each (CellIn pages) (cells_asked cells) → NamedTo pages cells cells 0
   named_none e = record { range = e; members = λ p. rw (member_none p) }
 
-  module _ {i named : ℕ} (n : NamedTo pages cells i named) where
-    pub named_in : 2 * i + 1 < length cells → get_or cells (2 * i) 0 < pages
-    named_in h = (each_head (rw (next_cell cells i h) at n.range)).0
+  module _ {rest : List ℕ} {named : ℕ} (n : NamedTo pages cells rest named) where
+    module _ (cell behind : List ℕ) (e : rest ≡ cell ++ behind) (two : length cell ≡ 2) where
+      pub named_in : get_or cell 0 0 < pages
+      named_in = (each_head (rw (e, first_cell cell behind two) at n.range)).0
 
-    pub named_next : 2 * i + 1 < length cells → NamedTo pages cells (i + 1) (with_member (get_or cells (2 * i) 0) named)
-    unfolding any_cell
-    named_next h =
-        record {
-          range = each_tail (rw (next_cell cells i h) at n.range);
-          members = λ p.
-              joined p (get_or cells (2 * i) 0) named (any_cell (cells_asked (drop (2 * (i + 1)) cells)) p)
-              ∙ (rw (next_cell cells i h) at (n.members p));
-        }
+      pub named_next : NamedTo pages cells behind (with_member (get_or cell 0 0) named)
+      unfolding any_cell
+      named_next =
+          record {
+            range = each_tail (rw (e, first_cell cell behind two) at n.range);
+            members = λ p.
+                joined p (get_or cell 0 0) named (any_cell (cells_asked behind) p)
+                ∙ (rw (e, first_cell cell behind two) at (n.members p));
+          }
 
-    pub named_all : length cells / 2 ≤ i → (p : ℕ) → member p named ≡ any_cell (cells_asked cells) p
+    pub named_all : length rest < 2 → (p : ℕ) → member p named ≡ any_cell (cells_asked cells) p
     unfolding any_cell
-    named_all h p = or_no (member p named) ∙ (rw (cells_end cells i h) at (n.members p))
+    named_all h p = or_no (member p named) ∙ (rw (no_cell rest h) at (n.members p))
 
 -- ---- code 10, test by test
 

@@ -7,33 +7,28 @@ ghost use Rattle.model.specs.Definitions.Steps.{ReadCells, cells_asked, any_cell
 ghost use Rattle.model.specs.Definitions.Calls.{cell_in_range, wrong_cells};
 ghost use Rattle.fields.specs.Cells.{CellIn};
 
-use crate::sets::with_member;
+use crate::sets::Set;
 use types::PAGE_SIZE;
 
 // "The front display wants up to 32 cells in one call."
 pub const MOST_CELLS: usize = 32;
 
 // "page ≥ P, offset ≥ 16": neither.
+#[tactic(auto, unfolding(model::specs::Definitions::Calls::cell_in_range))]
 fn cell_fits(pages: usize, page: u8, offset: u8) -> bool
     ensures { result ≡ cell_in_range pages (record { page = page; offset = offset }) }
 {
-    if pages <= page as usize {
-        return false;
-    }
-    (offset as usize) < PAGE_SIZE
+    usize::from(page) < pages && usize::from(offset) < PAGE_SIZE
 }
 
 // The same of every cell, also past the 32nd; an odd last byte is no cell.
 pub fn cells_fit(pages: usize, cells: &[u8]) -> bool
     ensures { result ≡ every (cell_in_range pages) (cells_asked cells.now) }
 {
-    let count = cells.len() / 2;
-    let mut i = 0;
-    while i < count {
-        if !cell_fits(pages, cells[2 * i], cells[2 * i + 1]) {
+    for cell in cells.chunks_exact(2) {
+        if !cell_fits(pages, cell[0], cell[1]) {
             return false;
         }
-        i += 1;
     }
     true
 }
@@ -60,12 +55,9 @@ pub fn named_pages(pages: usize, cells: &[u8]) -> u16
     requires { Each (CellIn pages) (cells_asked cells.now) × (pages ≤ most_pages) }
     ensures { (p : ℕ) → member p result ≡ any_cell (cells_asked cells.now) p }
 {
-    let count = cells.len() / 2;
-    let mut named = 0;
-    let mut i = 0;
-    while i < count {
-        named = with_member(cells[2 * i] as usize, named);
-        i += 1;
+    let mut named: u16 = 0;
+    for cell in cells.chunks_exact(2) {
+        named = named.with_member(usize::from(cell[0]));
     }
     named
 }

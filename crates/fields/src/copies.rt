@@ -1,42 +1,23 @@
-// A copy-set byte, "where bit b stands for board b": its ones, its lowest holder, and one board in or out, as in any set.
-ghost use Rattle.std.specs.Prelude.{◌≡◌, ◌<◌};
+// A copy-set byte, "where bit b stands for board b": its ones and its lowest holder. One board in or out is as in any set.
+ghost use Rattle.std.specs.Prelude.{◌≡◌, not, eqb, is_some, IfSome};
 ghost use Rattle.std.specs.Int.Count.{ones, count_trailing_zeros};
 ghost use Rattle.model.specs.Definitions.Layout.{most_boards};
-ghost use Rattle.model.specs.Definitions.Parts.{member, with_member, without_member};
-
-use crate::sets::{has, with_member, without_member};
 
 // "How many copies are out is the number of ones in it."
 pub fn count_copies(copies: u8) -> u32
     ensures { result ≡ ones copies }
 {
-    u8::count_ones(copies)
+    copies.count_ones()
 }
 
-// The lowest board with a copy; 8 where none has one.
-pub fn lowest_holder(copies: u8) -> usize
-    ensures { result ≡ count_trailing_zeros most_boards copies }
+// The lowest board with a copy, where one has it. (The test of 0 is the Option's: the library counts eight zeros there.)
+pub fn lowest_holder(copies: u8) -> Option<usize>
+    ensures some { is_some result ≡ not (eqb copies 0) }
+    ensures lowest { IfSome result (λ b. b ≡ count_trailing_zeros most_boards copies) }
 {
-    u8::trailing_zeros(copies) as usize
-}
-
-pub fn holds(board: usize, copies: u8) -> bool
-    requires { board < most_boards }
-    ensures { result ≡ member board copies }
-{
-    has(board, copies as u16)
-}
-
-pub fn with_holder(board: usize, copies: u8) -> u8
-    requires { board < most_boards }
-    ensures { result ≡ with_member board copies }
-{
-    with_member(board, copies as u16) as u8
-}
-
-pub fn without_holder(board: usize, copies: u8) -> u8
-    requires { board < most_boards }
-    ensures { result ≡ without_member board copies }
-{
-    without_member(board, copies as u16) as u8
+    if copies == 0 {
+        None
+    } else {
+        Some(copies.trailing_zeros() as usize)
+    }
 }

@@ -4,6 +4,7 @@
 pub mod bytes;
 pub mod cells;
 pub mod copies;
+pub mod encoded;
 pub mod frame;
 pub mod sets;
 pub mod slot;

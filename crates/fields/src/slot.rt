@@ -1,13 +1,15 @@
 // A slot of a log: its 24 bytes as a record and back.
-ghost use Rattle.std.specs.Prelude.{◌≡◌, ◌+◌, ◌≤◌, length};
-ghost use Rattle.model.specs.Definitions.Parts.{part, splice};
+ghost use Rattle.std.specs.Prelude.{◌≡◌, length};
+ghost use Rattle.model.specs.Definitions.Parts.{splice};
 ghost use Rattle.model.specs.Definitions.Layout.{mark0_at, slot_size};
 ghost use Rattle.model.specs.Definitions.Codec.{mark0, mark1, page_of, kind_of, encode_record, decode_record};
 ghost use Rattle.fields.specs.SlotParts.{front_bytes};
 
-use crate::bytes::{get_u32, put_u32, read_page, write_page};
+use crate::bytes::{get_number, put_number, read_page, write_page};
+use crate::encoded::Encoded;
 use crate::widths::{
-    MARK0_AT, MARK1_AT, RECORD_COUNT_AT, SLOT_BYTES_AT, SLOT_PAGE_AT, SLOT_PEER_AT, SLOT_SIZE,
+    MARK0_AT, MARK1_AT, RECORD_COUNT_AT, SINCE_SIZE, SLOT_BYTES_AT, SLOT_PAGE_AT, SLOT_PEER_AT,
+    SLOT_SIZE,
 };
 use types::{CopyOrOwn, Kind, Record};
 
@@ -26,23 +28,21 @@ pub const DROPPED_MARK0: u8 = b'D';
 
 pub const DROPPED_MARK1: u8 = b'R';
 
-// The kind that a mark and a page stand for.
+// The kind that a mark and a page stand for. (No From: it would have to stand in `types`, below the model's letters.)
+#[tactic(auto, unfolding(model::specs::Definitions::Codec::kind_of))]
 fn read_kind(m0: u8, m1: u8, page: u8) -> Kind
     ensures { result ≡ kind_of m0 m1 page }
 {
-    if m0 == GOT_MARK0 {
-        if m1 == COPY_MARK1 {
-            return Kind::Got(CopyOrOwn::GotCopy, page);
-        }
-        return Kind::Got(CopyOrOwn::GotOwn, page);
+    match (m0, m1) {
+        (GOT_MARK0, COPY_MARK1) => Kind::Got(CopyOrOwn::GotCopy, page),
+        (GOT_MARK0, _) => Kind::Got(CopyOrOwn::GotOwn, page),
+        (SHOWN_MARK0, _) => Kind::Shown(page),
+        _ => Kind::Dropped(page),
     }
-    if m0 == SHOWN_MARK0 {
-        return Kind::Shown(page);
-    }
-    Kind::Dropped(page)
 }
 
 // The first byte of a kind's mark.
+#[tactic(auto, unfolding(model::specs::Definitions::Codec::mark0))]
 fn first_mark(kind: Kind) -> u8
     ensures { result ≡ mark0 kind }
 {
@@ -54,44 +54,25 @@ fn first_mark(kind: Kind) -> u8
 }
 
 // The second byte of a kind's mark; a got's says copy or own.
+#[tactic(auto, unfolding(model::specs::Definitions::Codec::mark1))]
 fn second_mark(kind: Kind) -> u8
     ensures { result ≡ mark1 kind }
 {
     match kind {
-        Kind::Got(right, _) => match right {
-            CopyOrOwn::GotCopy => COPY_MARK1,
-            CopyOrOwn::GotOwn => OWN_MARK1,
-        },
+        Kind::Got(CopyOrOwn::GotCopy, _) => COPY_MARK1,
+        Kind::Got(CopyOrOwn::GotOwn, _) => OWN_MARK1,
         Kind::Shown(_) => SHOWN_MARK1,
         Kind::Dropped(_) => DROPPED_MARK1,
     }
 }
 
 // The page that a kind carries.
+#[tactic(auto, unfolding(model::specs::Definitions::Codec::page_of))]
 pub fn page_of(kind: Kind) -> u8
     ensures { result ≡ page_of kind }
 {
     match kind {
-        Kind::Got(_, page) => page,
-        Kind::Shown(page) => page,
-        Kind::Dropped(page) => page,
-    }
-}
-
-// The record in a slot.
-fn read_record(slot: &[u8]) -> Record
-    requires { length slot.now ≡ slot_size }
-    ensures { result ≡ decode_record slot.now }
-{
-    let count = get_u32(slot, RECORD_COUNT_AT);
-    let kind = read_kind(slot[MARK0_AT], slot[MARK1_AT], slot[SLOT_PAGE_AT]);
-    let peer = slot[SLOT_PEER_AT];
-    let bytes = read_page(slot, SLOT_BYTES_AT);
-    Record {
-        count,
-        kind,
-        peer,
-        bytes,
+        Kind::Got(_, page) | Kind::Shown(page) | Kind::Dropped(page) => page,
     }
 }
 
@@ -106,29 +87,27 @@ fn write_front(slot: &mut [u8], kind: Kind, peer: u8)
     slot[SLOT_PEER_AT] = peer;
 }
 
-// A record over a whole slot.
-fn write_record(slot: &mut [u8], r: Record)
-    requires { length slot.old ≡ slot_size }
-    ensures { slot.new ≡ encode_record r }
-{
-    let kind = r.kind;
-    write_front(slot, kind, r.peer);
-    put_u32(slot, RECORD_COUNT_AT, r.count);
-    let bytes = r.bytes;
-    write_page(slot, SLOT_BYTES_AT, bytes);
-}
+impl Encoded for Record {
+    const SIZE: usize = SLOT_SIZE;
 
-// The record at a place of a larger part, read and written through its own part.
-pub fn read_record_at(s: &[u8], at: usize) -> Record
-    requires { at + slot_size ≤ length s.now }
-    ensures { result ≡ decode_record (part s.now at slot_size) }
-{
-    read_record(&s[at..at + SLOT_SIZE])
-}
+    ghost SIZE = { slot_size };
 
-pub fn write_record_at(s: &mut [u8], at: usize, r: Record)
-    requires { at + slot_size ≤ length s.old }
-    ensures { s.new ≡ splice s.old at (encode_record r) }
-{
-    write_record(&mut s[at..at + SLOT_SIZE], r);
+    ghost encode = { encode_record };
+
+    ghost decode = { decode_record };
+
+    fn read(s: &[u8]) -> Record {
+        Record {
+            count: get_number::<SINCE_SIZE>(s, RECORD_COUNT_AT) as u32,
+            kind: read_kind(s[MARK0_AT], s[MARK1_AT], s[SLOT_PAGE_AT]),
+            peer: s[SLOT_PEER_AT],
+            bytes: read_page(s, SLOT_BYTES_AT),
+        }
+    }
+
+    fn write(self, s: &mut [u8]) {
+        write_front(s, self.kind, self.peer);
+        put_number::<SINCE_SIZE>(s, RECORD_COUNT_AT, u64::from(self.count));
+        write_page(s, SLOT_BYTES_AT, self.bytes);
+    }
 }

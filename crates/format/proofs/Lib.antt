@@ -1,1 +1,2 @@
 pub mod LentArea
+pub mod Selectors

@@ -1,4 +1,4 @@
-// The directory, page by page: the owner and the copy-set, on the bytes of a whole bank.
+// The directory, page by page: the owner and the copy-set, on the bytes of a whole bank; a field's reader is one call.
 ghost use Rattle.std.specs.Prelude.{◌≡◌, ◌+◌, ◌*◌, ◌≤◌, length};
 ghost use Rattle.model.specs.Definitions.Parts.{part, splice};
 ghost use Rattle.model.specs.Definitions.Layout.{head_size, entry_size};

@@ -138,7 +138,7 @@ pub fn slots_at_in(since: usize, pages: usize) -> usize
     frames_at_in(since) + pages * FRAME_SIZE
 }
 
-// Where area 0 or 1 stands in a block; 2 gives the block's end.
+// Where area 0 or 1 stands in a block; 2 gives the block's end. A number and no enum: it is multiplied by the area's size.
 pub fn area_at_in(since: usize, pages: usize, area: usize) -> usize
     requires { (since ≤ since_size) × (pages ≤ most_pages) × (area ≤ 2) }
     ensures { result ≡ area_at_in (form_of since) pages area }
@@ -176,7 +176,7 @@ pub fn bank_size_in(since: usize, boards: usize, pages: usize) -> usize
     block_at_in(since, pages, boards)
 }
 
-// ---- in today's form
+// ---- in today's form: no second bodies, but names for what most callers ask, each one call of the form above
 
 pub fn area_size(pages: usize) -> usize
     requires { pages ≤ most_pages }
@@ -206,6 +206,8 @@ pub fn block_size(pages: usize) -> usize
     block_size_in(SINCE_SIZE, pages)
 }
 
+// Whoever changes a block lends `&mut bank[a..a + size]` in two lines: a function that hands out that part was tried in four forms, and what becomes of the
+// bank didn't prove.
 pub fn block_at(pages: usize, board: usize) -> usize
     requires { (pages ≤ most_pages) × (board ≤ most_boards) }
     ensures { result ≡ blocks_at pages + board * block_size pages }

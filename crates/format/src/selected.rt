@@ -18,46 +18,45 @@ pub fn selected_at(block: &[u8], pages: usize) -> usize
     ensures place { result ≡ selected_at pages block.now }
     ensures within { result + area_size pages ≤ block_size pages }
 {
-    if read_selector(block) {
-        return area_at(pages, 1);
-    }
-    area_at(pages, 0)
+    area_at(pages, usize::from(read_selector(block)))
+}
+
+// The selected area, as its own part.
+fn selected(block: &[u8], pages: usize) -> &[u8]
+    requires { (pages ≤ most_pages) × (length block.now ≡ block_size pages) }
+    ensures bytes { result.now ≡ selected_part pages block.now }
+    ensures whole { length result.now ≡ area_size pages }
+{
+    let a = selected_at(block, pages);
+    &block[a..a + area_size(pages)]
 }
 
 pub fn read_number(block: &[u8], pages: usize) -> u32
     requires { (pages ≤ most_pages) × (length block.now ≡ block_size pages) }
     ensures { result ≡ number_of (part (selected_part pages block.now) area_number_at number_size) }
 {
-    let a = selected_at(block, pages);
-    let size = area_size(pages);
-    area::read_number(&block[a..a + size])
+    area::read_number(selected(block, pages))
 }
 
 pub fn read_stored_count(block: &[u8], pages: usize) -> u8
     requires { (pages ≤ most_pages) × (length block.now ≡ block_size pages) }
     ensures { result ≡ byte_at (selected_part pages block.now) area_count_at }
 {
-    let a = selected_at(block, pages);
-    let size = area_size(pages);
-    area::read_stored_count(&block[a..a + size])
+    area::read_stored_count(selected(block, pages))
 }
 
 pub fn read_page_frame(block: &[u8], pages: usize, page: usize) -> Frame
     requires { (pages ≤ most_pages) × (page < pages) × (length block.now ≡ block_size pages) }
     ensures { result ≡ decode_frame (part (selected_part pages block.now) (area_frames_at + page * frame_size) frame_size) }
 {
-    let a = selected_at(block, pages);
-    let size = area_size(pages);
-    area::read_page_frame(&block[a..a + size], page)
+    area::read_page_frame(selected(block, pages), page)
 }
 
 pub fn read_stored(block: &[u8], pages: usize, index: usize) -> Record
     requires { (pages ≤ most_pages) × (index < slot_count) × (length block.now ≡ block_size pages) }
     ensures { result ≡ decode_record (part (selected_part pages block.now) (area_slots_at pages + index * slot_size) slot_size) }
 {
-    let a = selected_at(block, pages);
-    let size = area_size(pages);
-    area::read_stored(&block[a..a + size], pages, index)
+    area::read_stored(selected(block, pages), pages, index)
 }
 
 pub fn write_stored_count(block: &mut [u8], pages: usize, count: u8)

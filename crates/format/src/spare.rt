@@ -15,10 +15,7 @@ pub fn spare_at(block: &[u8], pages: usize) -> usize
     ensures place { result ≡ spare_at pages block.now }
     ensures within { result + area_size pages ≤ block_size pages }
 {
-    if read_selector(block) {
-        return area_at(pages, 0);
-    }
-    area_at(pages, 1)
+    area_at(pages, usize::from(!read_selector(block)))
 }
 
 // "one area frame", to the spare area

@@ -1,5 +1,6 @@
 -- The words in which the contracts of a line's text are said. Assumes nothing.
 use Rattle.std.specs.Prelude.{◌≡◌, ℕ, suc, ◌+◌, ◌*◌, ◌<◌, true, false, List, [], ◌∷◌, length, eqb}
+use Rattle.arrayvec.specs.ArrayVec.{ArrayVec}
 use Rattle.lines.specs.declared.tally.Tally.{Tally}
 use Rattle.model.specs.Definitions.Parts.{splice}
 use Rattle.lines.specs.Definitions.Lines.{space, words}
@@ -16,6 +17,10 @@ word_length (c ∷ l) = elim (eqb c space) [ true ↦ 0 | false ↦ suc (word_le
 unfoldable pub words_behind : List ℕ → List (List ℕ)
 words_behind [] = []
 words_behind (c ∷ l) = words l
+
+-- the numbers that a line holds so far
+abbrev pub numbers_in : ArrayVec ℕ → List ℕ
+numbers_in v = v.items
 
 -- ---- output
 

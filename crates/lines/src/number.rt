@@ -2,28 +2,12 @@
 ghost use Rattle.std.specs.Prelude.{◌≡◌, ◌<◌};
 ghost use Rattle.lines.specs.Definitions.Numbers.{is_digit, leading_zero, digits_from, number};
 
-// What a word is, read as a number.
-#[derive(Clone, Copy)]
-pub enum Number {
-    Value(u32),
-    Wrong,
-}
-
 // The digits "0" to "9".
-pub const ZERO: u8 = 48;
+pub const ZERO: u8 = b'0';
 
-const NINE: u8 = 57;
+const NINE: u8 = b'9';
 
-// The largest number that a line may hold.
-const LAST: u64 = 4294967295;
-
-// A byte at a wider type, with its bound.
-fn wide(b: u8) -> u64
-    ensures { (result ≡ b) × (result < 256) }
-{
-    b as u64
-}
-
+#[tactic(auto, unfolding(crate::specs::Definitions::Numbers::is_digit))]
 fn is_digit(c: u8) -> bool
     ensures { result ≡ is_digit c }
 {
@@ -31,45 +15,34 @@ fn is_digit(c: u8) -> bool
 }
 
 // "no leading zeros"
+#[tactic(auto, using(crate::specs::Laws::Numbers::leading_short, crate::specs::Laws::Numbers::leading_long, std::proofs::lemmas::Bool::Decides::nat_tests))]
 fn leading_zero(word: &[u8]) -> bool
     ensures { result ≡ leading_zero word.now }
 {
-    if word.len() <= 1 {
-        return false;
-    }
-    word[0] == ZERO
+    matches!(word, [ZERO, _, ..])
 }
 
-// A row of digits; it ends at the first byte that is none, or where the number is too large.
-fn read_digits(word: &[u8]) -> Number
+// The number of a row of digits; none at a byte that is no digit, or where the number is larger than 4,294,967,295.
+fn read_digits(word: &[u8]) -> Option<u32>
     ensures { result ≡ digits_from 0 word.now }
 {
-    let mut v: u64 = 0;
-    let mut i = 0;
-    while i < word.len() {
-        let c = word[i];
-        if !is_digit(c) {
-            return Number::Wrong;
+    let mut v: u32 = 0;
+    for c in word {
+        if !is_digit(*c) {
+            return None;
         }
-        v = 10 * v + wide(c - ZERO);
-        if LAST < v {
-            return Number::Wrong;
-        }
-        i += 1;
+        v = v.checked_mul(10)?.checked_add(u32::from(*c - ZERO))?;
     }
-    Number::Value(v as u32)
+    Some(v)
 }
 
-// The number that a word is.
+// The number that a word is, if it is one.
 #[tactic(auto, using(crate::specs::Laws::Numbers::number_empty, crate::specs::Laws::Numbers::number_leading, crate::specs::Laws::Numbers::number_digits))]
-pub fn read_number(word: &[u8]) -> Number
+pub fn read_number(word: &[u8]) -> Option<u32>
     ensures { result ≡ number word.now }
 {
-    if word.len() == 0 {
-        return Number::Wrong;
-    }
-    if leading_zero(word) {
-        return Number::Wrong;
+    if word.is_empty() || leading_zero(word) {
+        return None;
     }
     read_digits(word)
 }

@@ -1,11 +1,12 @@
 // What a line's bytes ask for.
-ghost use Rattle.std.specs.Prelude.{◌≡◌};
-ghost use Rattle.lines.specs.declared.request.Numbers.{Numbers};
-ghost use Rattle.lines.specs.Definitions.Lines.{and_one, more, numbers_from, with_one, with_two, with_three, with_four, request_of, request};
-ghost use Rattle.lines.specs.Clauses.{word_length, words_behind};
+ghost use Rattle.std.specs.Prelude.{◌≡◌, []};
+ghost use Rattle.std.specs.Option.{option_map};
+ghost use Rattle.lines.specs.Definitions.Lines.{words, numbers_from, request_of, request};
+ghost use Rattle.lines.specs.Clauses.{numbers_in};
 
-use crate::number::{Number, read_number};
+use crate::number::read_number;
 use crate::text::{MOST_BYTES, SPACE};
+use arrayvec::ArrayVec;
 
 // "N n p; R b p o; W b p o v; C b (checkpoint); K b (cut); F b k; S b (restart)", and anything else; K asks for a fuse of 0.
 #[derive(Clone, Copy)]
@@ -19,139 +20,47 @@ pub enum Request {
     Unreadable,
 }
 
-// The numbers of a line so far; no line has more than four.
-#[derive(Clone, Copy)]
-pub enum Numbers {
-    None,
-    One(u32),
-    Two(u32, u32),
-    Three(u32, u32, u32),
-    Four(u32, u32, u32, u32),
-    Wrong,
-}
-
-// How many bytes stand before the first space.
-fn word_length(s: &[u8]) -> usize
-    ensures { result ≡ word_length s.now }
+// The numbers of the words behind a letter; none where a word is no number, or where there are more than four.
+fn read_numbers(rest: &[u8]) -> Option<ArrayVec<u32, 4>>
+    ensures { option_map numbers_in result ≡ numbers_from (Some []) (words rest.now) }
 {
-    let mut i = 0;
-    while i < s.len() {
-        if s[i] == SPACE {
-            return i;
-        }
-        i += 1;
+    let mut numbers = ArrayVec::new();
+    for word in rest.split(|c| *c == SPACE) {
+        numbers.try_push(read_number(word)?).ok()?;
     }
-    i
-}
-
-// One number more.
-fn and_one(numbers: Numbers, a: u32) -> Numbers
-    ensures { result ≡ and_one numbers a }
-{
-    match numbers {
-        Numbers::None => Numbers::One(a),
-        Numbers::One(b) => Numbers::Two(b, a),
-        Numbers::Two(b, c) => Numbers::Three(b, c, a),
-        Numbers::Three(b, c, d) => Numbers::Four(b, c, d, a),
-        Numbers::Four(_, _, _, _) => Numbers::Wrong,
-        Numbers::Wrong => Numbers::Wrong,
-    }
-}
-
-fn add_number(numbers: Numbers, number: Number) -> Numbers
-    ensures { result ≡ more numbers number }
-{
-    match number {
-        Number::Value(a) => and_one(numbers, a),
-        Number::Wrong => Numbers::Wrong,
-    }
-}
-
-// The numbers of the words behind a letter.
-fn read_numbers(rest: &[u8]) -> Numbers
-    ensures { result ≡ numbers_from Numbers.None (words_behind rest.now) }
-{
-    let mut numbers = Numbers::None;
-    let mut at = 0;
-    while at < rest.len() {
-        let a = at + 1;
-        let e = a + word_length(&rest[a..]);
-        numbers = add_number(numbers, read_number(&rest[a..e]));
-        at = e;
-    }
-    numbers
-}
-
-fn with_one(letter: u8, b: u32) -> Request
-    ensures { result ≡ with_one letter b }
-{
-    if letter == b'C' {
-        return Request::Checkpoint(b);
-    }
-    if letter == b'K' {
-        return Request::Fuse(b, 0);
-    }
-    if letter == b'S' {
-        return Request::Restart(b);
-    }
-    Request::Unreadable
-}
-
-fn with_two(letter: u8, b: u32, k: u32) -> Request
-    ensures { result ≡ with_two letter b k }
-{
-    if letter == b'N' {
-        return Request::Make(b, k);
-    }
-    if letter == b'F' {
-        return Request::Fuse(b, k);
-    }
-    Request::Unreadable
-}
-
-fn with_three(letter: u8, b: u32, p: u32, o: u32) -> Request
-    ensures { result ≡ with_three letter b p o }
-{
-    if letter == b'R' {
-        return Request::Read(b, p, o);
-    }
-    Request::Unreadable
-}
-
-fn with_four(letter: u8, b: u32, p: u32, o: u32, v: u32) -> Request
-    ensures { result ≡ with_four letter b p o v }
-{
-    if letter == b'W' {
-        return Request::Write(b, p, o, v);
-    }
-    Request::Unreadable
+    Some(numbers)
 }
 
 // The line with this letter and these numbers.
-fn request_of(letter: u8, numbers: Numbers) -> Request
-    ensures { result ≡ request_of letter numbers }
+#[tactic(auto, using(crate::specs::Laws::Lines::request_of_lem, crate::specs::Laws::Lines::no_letter), unfolding(crate::specs::Definitions::Lines::with_one, crate::specs::Definitions::Lines::with_two, crate::specs::Definitions::Lines::with_three, crate::specs::Definitions::Lines::with_four))]
+fn request_of(letter: u8, numbers: &[u32]) -> Request
+    ensures { result ≡ request_of letter (Some numbers.now) }
 {
-    match numbers {
-        Numbers::None => Request::Unreadable,
-        Numbers::One(b) => with_one(letter, b),
-        Numbers::Two(b, k) => with_two(letter, b, k),
-        Numbers::Three(b, p, o) => with_three(letter, b, p, o),
-        Numbers::Four(b, p, o, v) => with_four(letter, b, p, o, v),
-        Numbers::Wrong => Request::Unreadable,
+    match (letter, numbers) {
+        (b'N', [n, p]) => Request::Make(*n, *p),
+        (b'R', [b, p, o]) => Request::Read(*b, *p, *o),
+        (b'W', [b, p, o, v]) => Request::Write(*b, *p, *o, *v),
+        (b'C', [b]) => Request::Checkpoint(*b),
+        (b'K', [b]) => Request::Fuse(*b, 0),
+        (b'F', [b, k]) => Request::Fuse(*b, *k),
+        (b'S', [b]) => Request::Restart(*b),
+        _ => Request::Unreadable,
     }
 }
 
 // A line of any length, without the byte 10 that ends it.
-#[tactic(auto, using(crate::specs::Laws::Lines::word_within, crate::specs::Laws::Lines::tail_part, crate::specs::Laws::Lines::request_long, crate::specs::Laws::Lines::request_other, crate::specs::Laws::Lines::request_letter))]
+#[tactic(auto, using(crate::specs::Laws::Lines::request_long, crate::specs::Laws::Lines::request_short, crate::specs::Laws::Lines::request_other_byte))]
 pub fn read_request(line: &[u8]) -> Request
     ensures { result ≡ request line.now }
 {
     if MOST_BYTES < line.len() {
         return Request::Unreadable;
     }
-    if word_length(line) != 1 {
+    let [letter, SPACE, rest @ ..] = line else {
         return Request::Unreadable;
+    };
+    match read_numbers(rest) {
+        Some(numbers) => request_of(*letter, &numbers),
+        None => Request::Unreadable,
     }
-    let letter = line[0];
-    request_of(letter, read_numbers(&line[1..]))
 }

@@ -3,7 +3,7 @@ ghost use Rattle.std.specs.Prelude.{◌≡◌};
 ghost use Rattle.lines.specs.Definitions.Tally.{counted, stopped};
 ghost use Rattle.lines.specs.Clauses.{Counts};
 
-#[derive(Clone, Copy)]
+#[derive(Clone, Copy, Default)]
 pub struct Tally {
     pub read: u32,
     pub done: u32,
@@ -13,47 +13,23 @@ pub struct Tally {
 // "reading stops after line 4,294,967,295"
 const MOST_LINES: u32 = 4294967295;
 
+#[tactic(auto, unfolding(crate::specs::Definitions::Tally::stopped))]
 pub fn stopped(tally: Tally) -> bool
     ensures { result ≡ stopped tally }
 {
     MOST_LINES <= tally.read
 }
 
-// The tally with one line more: "done is code 0, refused all others".
+// One line more: "done is code 0, refused all others".
 #[tactic(auto, unfolding(crate::specs::Definitions::Tally::counted))]
-fn next(tally: Tally, code: u8) -> Tally
-    requires { Counts tally }
-    ensures { result ≡ counted code tally }
-{
-    if code == 0 {
-        return Tally {
-            read: tally.read + 1,
-            done: tally.done + 1,
-            refused: tally.refused,
-        };
-    }
-    Tally {
-        read: tally.read + 1,
-        done: tally.done,
-        refused: tally.refused + 1,
-    }
-}
-
-// One line more, in a tally that is lent.
 pub fn count_line(tally: &mut Tally, code: u8)
     requires { Counts tally.old }
     ensures { tally.new ≡ counted code tally.old }
 {
-    let new = next(*tally, code);
-    *tally = new;
-}
-
-// The same by value, for every other caller: the tally is a local here, and lent from here.
-pub fn with_line(tally: Tally, code: u8) -> Tally
-    requires { Counts tally }
-    ensures { result ≡ counted code tally }
-{
-    let mut lent = tally;
-    count_line(&mut lent, code);
-    lent
+    tally.read += 1;
+    if code == 0 {
+        tally.done += 1;
+    } else {
+        tally.refused += 1;
+    }
 }

@@ -1,12 +1,11 @@
 -- Whether an access differs from the log, by a walk over the gots that are due: each is tried against the pages that are lacking still, and what is left
 -- of the walk decides as the whole does. Assumes nothing.
-use Rattle.std.specs.Prelude.{◌≡◌, Bool, ◌&&◌, ◌||◌, not, length, drop, eqb}
+use Rattle.std.specs.Prelude.{◌≡◌, Bool, ◌&&◌, ◌||◌, not, length, drop, eqb, Some, None}
 use Rattle.std.proofs.Math.Path.{refl, sym, ap}
 use Rattle.std.proofs.Common.{◌∙◌, arith}
 use Prim.Native.Nat.{ℕ, suc, ◌+◌, ◌^◌, ◌≤◌, ◌<◌}
 use Rattle.std.proofs.Math.Numerals.{add-one}
-use Rattle.std.proofs.Math.Bool.{true, false}
-use Rattle.std.proofs.Math.Option.{none, some}
+use Rattle.std.proofs.Math.Bool.{true, false, and-false}
 use mathlib.Core.List.{List, ◌∷◌}
 use Rattle.std.proofs.Math.ListN.{set, length-set}
 use Rattle.std.proofs.Math.Dec.{leb}
@@ -30,7 +29,7 @@ use Rattle.model.proofs.Laws.Sets.{member_without_same, member_without_other}
 use Rattle.steps.specs.Access.{lacking_test}
 use Rattle.replay.specs.Clauses.{first, fits}
 use Rattle.replay.specs.Next.{ready_past}
-use Rattle.replay.specs.Got.{due_unready, first_none, due_next, took_next, took_none, and_false}
+use Rattle.replay.specs.Got.{due_unready, first_none, due_next, took_next, took_none}
 
 -- ---- what is left of the walk
 
@@ -40,11 +39,11 @@ differs_from a fs n y =
     not (needs_gots a fs n (due y)) || (not (replay_over (took_due y)) && lacking a (took_due y).working.frames)
 
 module _ (a : Access) (fs : List Frame) (n : ℕ) (y : Board) where
-  differs_none : first (due y) ≡ none → differs_from a fs n y ≡ (not (replay_over y) && lacking a y.working.frames)
+  differs_none : first (due y) ≡ None → differs_from a fs n y ≡ (not (replay_over y) && lacking a y.working.frames)
   unfolding differs_from needs_gots
   differs_none h = rw (first_none (due y) h, took_none y h)
 
-  differs_next : (r : Record) → first (due y) ≡ some r
+  differs_next : (r : Record) → first (due y) ≡ Some r
       → differs_from a fs n y
       ≡ elim (needs_got a fs r.kind && leb n (page_of r.kind)) [
         | true ↦ differs_from a fs (suc (page_of r.kind)) (on_working (took_got r) y)
@@ -66,7 +65,7 @@ unfolding fits needs_got page_of
 fits_needed a fs s n (Got h p) m =
     by_bool (leb n p)
     (λ t. rw (m (leb-true n p t)))
-    (λ t. rw (t, and_false (same_got h (takes a) && member p s), and_false (same_got h (takes a) && lacks_page a fs p)))
+    (λ t. rw (t, and-false (same_got h (takes a) && member p s), and-false (same_got h (takes a) && lacks_page a fs p)))
 fits_needed a fs s n (Shown p) m = refl
 fits_needed a fs s n (Dropped p) m = refl
 
@@ -114,22 +113,22 @@ module _ {pages : ℕ} {a : Access} {x : Board} where
     pub walk_over : length x.stable.selected.log ≤ i → false ≡ differs a x
     unfolding first
     walk_over l =
-        let d : first (due w.board) ≡ none = rw (← walk_due, due_unready (drop i records) since (ready_past records i since l)) in
+        let d : first (due w.board) ≡ None = rw (← walk_due, due_unready (drop i records) since (ready_past records i since l)) in
         let o : replay_over w.board ≡ true = walk_place ∙ le-leb (length records) i l in
         sym (w.same ∙ differs_none a x.working.frames n w.board d ∙ rw o)
 
     -- no got is due: none may be lacking
-    pub walk_none : i < length x.stable.selected.log → first (gots_due (drop i x.stable.selected.log) since) ≡ none
+    pub walk_none : i < length x.stable.selected.log → first (gots_due (drop i x.stable.selected.log) since) ≡ None
         → (m : ℕ) → s < 2 ^ m → ((p : ℕ) → names a p ≡ true → p < pages) → not (eqb s 0) ≡ differs a x
     walk_none l h m k below =
-        let d : first (due w.board) ≡ none = rw walk_due at h in
+        let d : first (due w.board) ≡ None = rw walk_due at h in
         let o : replay_over w.board ≡ false = walk_place ∙ lt-leb (length records) i l in
         let t : not (eqb s 0) ≡ lacking a w.board.working.frames =
         lacking_test a w.board.working.frames m s k (λ p e. rw w.frames (below p e)) w.set in
         sym (w.same ∙ differs_none a x.working.frames n w.board d ∙ rw o (sym t))
 
-    module _ (r : Record) (h : first (gots_due (drop i x.stable.selected.log) since) ≡ some r) where
-      here : first (due w.board) ≡ some r
+    module _ (r : Record) (h : first (gots_due (drop i x.stable.selected.log) since) ≡ Some r) where
+      here : first (due w.board) ≡ Some r
       here = rw walk_due at h
 
       tested : fits (takes a) s n r.kind ≡ (needs_got a x.working.frames r.kind && leb n (page_of r.kind))

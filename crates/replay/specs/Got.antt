@@ -1,8 +1,8 @@
 -- The gots that are due: the first is the record that is ready, the others follow it with count 0, and what their use leaves. Assumes nothing.
-use Rattle.std.specs.Prelude.{◌≡◌, refl, ℕ, ◌+◌, ◌≤◌, ◌<◌, Bool, true, false, ◌&&◌, not, length, set, eqb}
+use Rattle.std.specs.Prelude.{◌≡◌, refl, ℕ, ◌+◌, ◌≤◌, ◌<◌, Bool, true, false, ◌&&◌, not, length, set, eqb, Some, None}
 use Rattle.std.proofs.Common.{sym, ◌∙◌, arith, le-leb}
+use Rattle.std.proofs.Math.Bool.{and-false}
 use Rattle.std.proofs.Math.Path.{ap}
-use Rattle.std.proofs.Math.Option.{none, some}
 use mathlib.Core.List.{List, [], ◌∷◌}
 use Rattle.std.proofs.Math.ListN.{drop}
 use Rattle.std.proofs.Math.Seq.{drop-drop}
@@ -17,22 +17,22 @@ use Rattle.model.specs.Definitions.Bank.{Board, on_working}
 use Rattle.model.specs.Definitions.Codec.{page_of}
 use Rattle.model.specs.Definitions.WellFormed.{is_got, FrameOk, RecordOk, FieldsOk}
 use Rattle.model.specs.Definitions.Replay.{records_left, used, gots_due, due, same_got, right_got, took_got, took_gots, took_due}
-use Rattle.model.proofs.Laws.Logic.{by_bool, by_option, clash}
+use Rattle.model.proofs.Laws.Logic.{by_bool, clash}
 use Rattle.model.proofs.Laws.Codes.Tests.{by_kind}
 use Rattle.model.proofs.Laws.Valid.{copy_some, own_some, frames_ok_set}
 use Rattle.model.proofs.Laws.BoardFields.{used_fields}
 use Rattle.steps.specs.Asked.{got}
 use Rattle.replay.specs.Clauses.{ready_in, ready, first, fits, takes_got, took_first}
-use Rattle.replay.specs.Next.{Ready, ready_in_some, ready_valid}
+use Rattle.replay.specs.Next.{by_option, Ready, ready_in_some, ready_valid}
 
 -- ---- the first got that is due is the record that is ready
 
-pub due_unready : (l : List Record) (since : ℕ) → ready_in l since ≡ none → gots_due l since ≡ []
+pub due_unready : (l : List Record) (since : ℕ) → ready_in l since ≡ None → gots_due l since ≡ []
 unfolding ready_in gots_due
 due_unready [] since h = refl
 due_unready (r ∷ rs) since h =
     by_bool (eqb r.count since)
-    (λ t. let z : ◌≡◌ {A = ℕ} 0 1 = cc in absurd (omega arith))
+    (λ t. cc)
     (λ t. cc)
 
 gots_first : (r : Record) (rs : List Record) (since : ℕ) → eqb r.count since ≡ true
@@ -40,46 +40,46 @@ gots_first : (r : Record) (rs : List Record) (since : ℕ) → eqb r.count since
 unfolding gots_due is_got
 gots_first r rs since t = by_kind r.kind (λ g p e. cc) (λ p e. cc) (λ p e. cc)
 
-gots_ready : (l : List Record) (since : ℕ) (r : Record) → ready_in l since ≡ some r
+gots_ready : (l : List Record) (since : ℕ) (r : Record) → ready_in l since ≡ Some r
     → gots_due l since ≡ elim (is_got r.kind) [ true ↦ r ∷ gots_due (drop 1 l) 0 | false ↦ [] ]
 gots_ready l since r h =
     let s : Ready l since r = ready_in_some l since r h in
     ap (λ (q : List Record). gots_due q since) s.first ∙ gots_first r (drop 1 l) since s.equal
 
-pub due_got : (l : List Record) (since : ℕ) (r : Record) → ready_in l since ≡ some r → is_got r.kind ≡ true → ready_in l since ≡ first (gots_due l since)
+pub due_got : (l : List Record) (since : ℕ) (r : Record) → ready_in l since ≡ Some r → is_got r.kind ≡ true → ready_in l since ≡ first (gots_due l since)
 unfolding first
 due_got l since r h g = h ∙ sym (ap first (rw g at (gots_ready l since r h)))
 
-pub due_other : (l : List Record) (since : ℕ) (r : Record) → ready_in l since ≡ some r → is_got r.kind ≡ false → gots_due l since ≡ []
+pub due_other : (l : List Record) (since : ℕ) (r : Record) → ready_in l since ≡ Some r → is_got r.kind ≡ false → gots_due l since ≡ []
 due_other l since r h g = rw g at (gots_ready l since r h)
 
-pub first_none : (l : List Record) → first l ≡ none → l ≡ []
+pub first_none : (l : List Record) → first l ≡ None → l ≡ []
 unfolding first
 first_none [] h = refl
-first_none (r ∷ rs) h = let z : ◌≡◌ {A = ℕ} 0 1 = cc in absurd (omega arith)
+first_none (r ∷ rs) h = cc
 
 -- a got that is first: it is ready, and those behind it come after its use
 pub record First (l : List Record) (since : ℕ) (r : Record) : Type 0 where
-  pub ready : ready_in l since ≡ some r
+  pub ready : ready_in l since ≡ Some r
   pub kind : is_got r.kind ≡ true
   pub all : gots_due l since ≡ r ∷ gots_due (drop 1 l) 0
 
-pub first_some : (l : List Record) (since : ℕ) (r : Record) → first (gots_due l since) ≡ some r → First l since r
+pub first_some : (l : List Record) (since : ℕ) (r : Record) → first (gots_due l since) ≡ Some r → First l since r
 unfolding first
 first_some l since r h =
     by_option (ready_in l since)
-    (λ e. let z : ◌≡◌ {A = ℕ} 0 1 = cc (due_unready l since e) in absurd (omega arith))
+    (λ e. cc (due_unready l since e))
     (λ q e.
     by_bool (is_got q.kind)
     (λ t.
     let z : q ≡ r = cc (gots_ready l since q e) in
     record { ready = rw z at e; kind = rw z at t; all = rw z at (rw t at (gots_ready l since q e)) })
-    (λ t. let z : ◌≡◌ {A = ℕ} 0 1 = cc (gots_ready l since q e) in absurd (omega arith)))
+    (λ t. cc (gots_ready l since q e)))
 
 -- ---- one of them used
 
-module _ (x : Board) (r : Record) (h : first (due x) ≡ some r) where
-  pub due_ready : (ready x ≡ some r) × (is_got r.kind ≡ true)
+module _ (x : Board) (r : Record) (h : first (due x) ≡ Some r) where
+  pub due_ready : (ready x ≡ Some r) × (is_got r.kind ≡ true)
   unfolding ready due
   due_ready = let f : First (records_left x) x.working.since r = first_some (records_left x) x.working.since r h in (f.ready, f.kind)
 
@@ -105,7 +105,7 @@ module _ (x : Board) (r : Record) (h : first (due x) ≡ some r) where
   unfolding took_got
   took_written p f e g = (sym took_first_lem.0, rw (e, g) (sym took_first_lem.1))
 
-module _ (x : Board) (h : first (due x) ≡ none) where
+module _ (x : Board) (h : first (due x) ≡ None) where
   pub took_none : took_due x ≡ x
   unfolding took_due took_gots on_working
   took_none = rw (first_none (due x) h)
@@ -134,7 +134,7 @@ got_frame_ok r v h =
           (λ p k. clash h (rw k));
     }
 
-took_got_fields : {pages : ℕ} (x : Board) (r : Record) → FieldsOk pages x → first (due x) ≡ some r → FieldsOk pages (on_working (took_got r) x)
+took_got_fields : {pages : ℕ} (x : Board) (r : Record) → FieldsOk pages x → first (due x) ≡ Some r → FieldsOk pages (on_working (took_got r) x)
 unfolding took_got on_working
 took_got_fields x r ok h =
     let d = due_ready x r h in
@@ -165,7 +165,7 @@ took_within : {pages : ℕ} (l : List Record) (x : Board) → due x ≡ l → Fi
 unfolding first
 took_within [] x e ok = rw (took_none x (ap first e)) ok
 took_within (r ∷ rs) x e ok =
-    let h : first (due x) ≡ some r = ap first e in
+    let h : first (due x) ≡ Some r = ap first e in
     let y : Board = on_working (took_got r) x in
     let k : due y ≡ rs = cc (sym (due_next x r h) ∙ e) in
     rw (took_next x r h) (took_within rs y k (took_got_fields x r ok h))
@@ -185,18 +185,14 @@ unfolding same_got got
 serves_own true = refl
 serves_own false = refl
 
-pub and_false : (a : Bool) → (a && false) ≡ false
-and_false true = refl
-and_false false = refl
-
 module _ (g h : CopyOrOwn) (s n p : ℕ) where
   pub fits_low : p < n → false ≡ fits g s n (Got h p)
   unfolding fits
-  fits_low l = rw (lt-leb n p l, and_false (same_got h g && member p s))
+  fits_low l = rw (lt-leb n p l, and-false (same_got h g && member p s))
 
   pub fits_out : member p s ≡ false → false ≡ fits g s n (Got h p)
   unfolding fits
-  fits_out m = rw (m, and_false (same_got h g))
+  fits_out m = rw (m, and-false (same_got h g))
 
   pub fits_in : n ≤ p → member p s ≡ true → (t : Bool) → t ≡ same_got h g → t ≡ fits g s n (Got h p)
   unfolding fits

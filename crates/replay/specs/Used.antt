@@ -1,7 +1,6 @@
 -- Records used one by one, as the loop does it, come to what the definitions use up at once. Assumes nothing.
-use Rattle.std.specs.Prelude.{◌≡◌, refl, ℕ, suc, ◌+◌, ◌*◌, ◌<◌, true, false, List, [], ◌∷◌, length, drop, set, eqb}
+use Rattle.std.specs.Prelude.{◌≡◌, refl, ℕ, suc, ◌+◌, ◌*◌, ◌<◌, true, false, List, [], ◌∷◌, length, drop, set, eqb, Some, None}
 use Rattle.std.proofs.Common.{sym, ap, ◌∙◌, arith, drop-drop}
-use Rattle.std.proofs.Math.Option.{none, some}
 use Rattle.words.specs.LittleEndian.{bytes_of}
 use Rattle.types.specs.declared.Frame.{Frame}
 use Rattle.types.specs.declared.Kind.{Kind}
@@ -13,7 +12,7 @@ use Rattle.model.specs.Definitions.Bank.{Working, Board, empty_frame, on_working
 use Rattle.model.specs.Definitions.Codec.{encode_frame, encode_board, decode_board_in}
 use Rattle.model.specs.Definitions.WellFormed.{is_got, FramesOk, FieldsOk}
 use Rattle.model.specs.Definitions.Replay.{records_left, used, use_up, used_up}
-use Rattle.model.proofs.Laws.Logic.{by_bool, by_option, clash}
+use Rattle.model.proofs.Laws.Logic.{by_bool, clash}
 use Rattle.model.proofs.Laws.Keeps.Replay.{use_up_used}
 use Rattle.model.proofs.Laws.BlockReplay.{used_shown, used_frame}
 use Rattle.model.proofs.Laws.Codes.Tests.{by_kind}
@@ -21,7 +20,7 @@ use Rattle.model.proofs.Laws.Valid.{frame_ok_empty, frames_ok_set}
 use Rattle.model.proofs.Laws.BoardFields.{on_working_fields, used_fields}
 use Rattle.steps.specs.Blocks.{IsBlock, board_of}
 use Rattle.replay.specs.Clauses.{ready_in, ready, frames_after, uses_next, used_next}
-use Rattle.replay.specs.Next.{Ready, ready_in_some}
+use Rattle.replay.specs.Next.{by_option, Ready, ready_in_some}
 
 module _ {pages : ℕ} {l : List ℕ} (b : IsBlock pages l) where
   pub record_used : (p : ℕ) → p ≡ byte_at l place_at
@@ -35,31 +34,31 @@ module _ {pages : ℕ} {l : List ℕ} (b : IsBlock pages l) where
   frame_used p f m h n e = rw (e, ← used_shown (board_of pages l)) (used_frame pages (board_of pages l) b.fields p h f n)
 
 -- each case of the definitions
-pub next_none : (x : Board) → ready x ≡ none → (uses_next x ≡ false) × (used_next x ≡ x)
+pub next_none : (x : Board) → ready x ≡ None → (uses_next x ≡ false) × (used_next x ≡ x)
 unfolding uses_next used_next
 next_none x e = (cc, cc)
 
-pub next_got : (x : Board) (r : Record) → ready x ≡ some r → is_got r.kind ≡ true → (uses_next x ≡ false) × (used_next x ≡ x)
+pub next_got : (x : Board) (r : Record) → ready x ≡ Some r → is_got r.kind ≡ true → (uses_next x ≡ false) × (used_next x ≡ x)
 unfolding uses_next used_next
 next_got x r e g = (cc, cc)
 
-pub next_used : (x : Board) (r : Record) → ready x ≡ some r → is_got r.kind ≡ false
+pub next_used : (x : Board) (r : Record) → ready x ≡ Some r → is_got r.kind ≡ false
     → (uses_next x ≡ true) × (used_next x ≡ on_working (λ w. used (frames_after r.kind w.frames) w) x)
 unfolding uses_next used_next
 next_used x r e g = (cc, cc)
 
 -- what the code writes for a shown or a dropped
-pub next_leaves : (x : Board) (r : Record) (fs : List Frame) → ready x ≡ some r → is_got r.kind ≡ false
+pub next_leaves : (x : Board) (r : Record) (fs : List Frame) → ready x ≡ Some r → is_got r.kind ≡ false
     → frames_after r.kind x.working.frames ≡ fs → (true ≡ uses_next x) × (on_working (λ w. used fs w) x ≡ used_next x)
 unfolding on_working
 next_leaves x r fs e g f = let n = next_used x r e g in (sym n.0, rw (n.1, f))
 
-use_up_unready : (l : List Record) (w : Working) → ready_in l w.since ≡ none → use_up l w ≡ w
+use_up_unready : (l : List Record) (w : Working) → ready_in l w.since ≡ None → use_up l w ≡ w
 unfolding ready_in use_up
 use_up_unready [] w h = refl
 use_up_unready (r ∷ rs) w h =
     by_bool (eqb r.count w.since)
-    (λ t. let z : ◌≡◌ {A = ℕ} 0 1 = cc in absurd (omega arith))
+    (λ t. cc)
     (λ t. cc)
 
 use_up_got : (r : Record) (rs : List Record) (w : Working) → is_got r.kind ≡ true → use_up (r ∷ rs) w ≡ w

@@ -1,51 +1,35 @@
 // The gots that are due in a replaying board's log: whether an access needs them, and the frames that they bring.
+#![tactic(auto, using(steps::specs::BlockLaws::block_length))]
+
 ghost use Rattle.std.specs.Prelude.{◌≡◌, ◌<◌, drop};
 ghost use Rattle.model.specs.Definitions.Layout.{most_pages};
 ghost use Rattle.model.specs.Definitions.Codec.{page_of, encode_board};
-ghost use Rattle.model.specs.Definitions.WellFormed.{is_got};
 ghost use Rattle.model.specs.Definitions.Steps.{Access};
 ghost use Rattle.model.specs.Definitions.Replay.{gots_due, same_got, differs, right_got, took_due};
 ghost use Rattle.steps.specs.Asked.{got, Takes};
 ghost use Rattle.steps.specs.Blocks.{IsBlock, board_of};
-ghost use Rattle.replay.specs.Clauses.{stood, first, fits, takes_got, took_first};
+ghost use Rattle.replay.specs.Clauses.{first, fits, takes_got, took_first};
 
-use crate::next::{NextRecord, no_record, ready_at};
+use crate::next::ready_at;
 use crate::used::use_with_frame;
-use fields::sets::{has, without_member};
+use fields::sets::Set;
 use fields::slot::page_of;
 use format::block::{read_place, read_since};
 use format::selected;
 use steps::access::lacking_pages;
 use types::{CopyOrOwn, Frame, Kind, Record, Right};
 
-fn is_got(kind: Kind) -> bool
-    ensures { result ≡ is_got kind }
-{
-    match kind {
-        Kind::Got(_, _) => true,
-        Kind::Shown(_) => false,
-        Kind::Dropped(_) => false,
-    }
-}
-
 // The got at a place, if it is due there: "A got record is due when it is next and its count equals since."
-fn due_at(block: &[u8], pages: usize, place: usize, since: u32) -> NextRecord
+fn due_at(block: &[u8], pages: usize, place: usize, since: u32) -> Option<Record>
     requires { IsBlock pages block.now }
-    ensures { result ≡ stood (first (gots_due (drop place (board_of pages block.now).stable.selected.log) since)) }
+    ensures { result ≡ first (gots_due (drop place (board_of pages block.now).stable.selected.log) since) }
 {
-    let next = ready_at(block, pages, place, since);
-    if !next.found {
-        return next;
-    }
-    let value = next.value;
-    let kind = value.kind;
-    if is_got(kind) {
-        return next;
-    }
-    no_record()
+    let next = ready_at(block, pages, place, since)?;
+    matches!(next.kind, Kind::Got(..)).then_some(next)
 }
 
-// Whether a got is of the kind that an access takes: a read a copy, a write ownership.
+// Whether a got is of the kind that an access takes: a read a copy, a write ownership. (Here and below the flag is a value to compare by; it chooses no step.)
+#[tactic(auto, unfolding(model::specs::Definitions::Replay::same_got, steps::specs::Asked::got))]
 fn serves(brought: CopyOrOwn, writes: bool) -> bool
     ensures { result ≡ same_got brought (got writes) }
 {
@@ -61,18 +45,10 @@ fn needs_got(kind: Kind, writes: bool, lacking: u16, lowest: usize) -> bool
     ensures { result ≡ fits (got writes) lacking lowest kind }
 {
     match kind {
-        Kind::Got(brought, p) => {
-            let page = p as usize;
-            if page < lowest {
-                return false;
-            }
-            if !has(page, lacking) {
-                return false;
-            }
-            serves(brought, writes)
+        Kind::Got(brought, page) => {
+            lowest <= usize::from(page) && lacking.has(usize::from(page)) && serves(brought, writes)
         }
-        Kind::Shown(_) => false,
-        Kind::Dropped(_) => false,
+        Kind::Shown(_) | Kind::Dropped(_) => false,
     }
 }
 
@@ -82,40 +58,34 @@ pub fn differs(block: &[u8], pages: usize, named: u16, writes: bool) -> bool
     requires { IsBlock pages block.now }
     ensures { (a : Access) → Takes pages a writes named → result ≡ differs a (board_of pages block.now) }
 {
-    let stored = selected::read_stored_count(block, pages) as usize;
+    let stored = usize::from(selected::read_stored_count(block, pages));
     let mut lacking = lacking_pages(block, pages, named, writes);
-    let mut place = read_place(block) as usize;
     let mut since = read_since(block);
     let mut lowest = 0;
-    while place < stored {
-        let got = due_at(block, pages, place, since);
-        if !got.found {
+    for place in usize::from(read_place(block))..stored {
+        let Some(got) = due_at(block, pages, place, since) else {
             return lacking != 0;
-        }
-        let value = got.value;
-        let kind = value.kind;
-        if !needs_got(kind, writes, lacking, lowest) {
+        };
+        if !needs_got(got.kind, writes, lacking, lowest) {
             return true;
         }
-        let page = page_of(kind) as usize;
-        lacking = without_member(page, lacking);
+        let page = usize::from(page_of(got.kind));
+        lacking = lacking.without_member(page);
         lowest = page + 1;
         since = 0;
-        place += 1;
     }
     false
 }
 
+// The right that a got brings. (No `From`: it would have to stand in `types`, where a kind has no right.)
+#[tactic(auto, unfolding(model::specs::Definitions::Replay::right_got))]
 fn right_got(kind: Kind) -> Right
     ensures { result ≡ right_got kind }
 {
     match kind {
-        Kind::Got(got, _) => match got {
-            CopyOrOwn::GotCopy => Right::Copy,
-            CopyOrOwn::GotOwn => Right::Own,
-        },
-        Kind::Shown(_) => Right::None,
-        Kind::Dropped(_) => Right::None,
+        Kind::Got(CopyOrOwn::GotCopy, _) => Right::Copy,
+        Kind::Got(CopyOrOwn::GotOwn, _) => Right::Own,
+        Kind::Shown(_) | Kind::Dropped(_) => Right::None,
     }
 }
 
@@ -123,10 +93,9 @@ fn right_got(kind: Kind) -> Right
 fn got_frame(value: Record) -> Frame
     ensures { result ≡ record { right = right_got value.kind; bytes = value.bytes } }
 {
-    let kind = value.kind;
     let bytes = value.bytes;
     Frame {
-        right: right_got(kind),
+        right: right_got(value.kind),
         bytes,
     }
 }
@@ -137,18 +106,17 @@ fn take_got(block: &mut [u8], pages: usize) -> bool
     ensures { (result ≡ takes_got (board_of pages block.old))
         × (block.new ≡ encode_board (took_first (board_of pages block.old))) }
 {
-    let place = read_place(block);
-    let got = due_at(block, pages, place as usize, read_since(block));
-    if !got.found {
+    let place = usize::from(read_place(block));
+    let Some(got) = due_at(block, pages, place, read_since(block)) else {
         return false;
-    }
-    let value = got.value;
-    let kind = value.kind;
-    use_with_frame(block, pages, page_of(kind) as usize, got_frame(value));
+    };
+    let page = usize::from(page_of(got.kind));
+    use_with_frame(block, pages, page, got_frame(got));
     true
 }
 
-// "a due got and the count 0 gots right behind it go together" (document 02, F-3). Without one nothing changes.
+// "a due got and the count 0 gots right behind it go together" (document 02, F-3). Without one nothing changes. (One function for this and `use_up` would take
+// the step as a closure, and be longer than both.)
 pub fn take_due(block: &mut [u8], pages: usize)
     requires { IsBlock pages block.old }
     ensures { block.new ≡ encode_board (took_due (board_of pages block.old)) }

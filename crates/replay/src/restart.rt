@@ -1,4 +1,6 @@
 // Restart: the selected area loaded, and the first records of its log used up.
+#![tactic(auto, using(steps::specs::BlockLaws::block_length))]
+
 ghost use Rattle.std.specs.Prelude.{◌≡◌, ◌<◌};
 ghost use Rattle.model.specs.Definitions.Bank.{frame_at, on_working, on_frames};
 ghost use Rattle.model.specs.Definitions.Codec.{encode_board};
@@ -39,10 +41,8 @@ fn load_frames(block: &mut [u8], pages: usize)
     ensures { block.new ≡ encode_board (on_working (on_frames (λ fs. (board_of pages block.old).stable.selected.frames))
         (board_of pages block.old)) }
 {
-    let mut page = 0;
-    while page < pages {
+    for page in 0..pages {
         load_frame(block, pages, page);
-        page += 1;
     }
 }
 

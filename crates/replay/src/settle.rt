@@ -1,4 +1,6 @@
 // The end of replay on a board's block: each page's right by the directory, and the board is up.
+#![tactic(auto, using(steps::specs::BlockLaws::block_length))]
+
 ghost use Rattle.std.specs.Prelude.{◌≡◌, ◌<◌};
 ghost use Rattle.model.specs.Definitions.Parts.{each, member};
 ghost use Rattle.model.specs.Definitions.Bank.{frame_at, on_working, on_frames};
@@ -7,23 +9,24 @@ ghost use Rattle.model.specs.Definitions.Steps.{with_frame};
 ghost use Rattle.model.specs.Definitions.Replay.{settled_frame, settled};
 ghost use Rattle.steps.specs.Blocks.{IsBlock, board_of};
 
-use fields::sets::has;
+use fields::sets::Set;
 use format::block::{read_page_frame, write_page_frame, write_place, write_state};
 use steps::access::empty_frame;
 use types::{Frame, Right, State};
 
-// "pages the directory gives to others lose their right; those it gives this board are own"
+// "pages the directory gives to others lose their right; those it gives this board are own" (The flag is the definition's own argument.)
+#[tactic(auto, unfolding(model::specs::Definitions::Replay::settled_frame))]
 fn settled_frame(frame: Frame, own: bool) -> Frame
     ensures { result ≡ settled_frame own frame }
 {
     if own {
-        let bytes = frame.bytes;
-        return Frame {
+        Frame {
             right: Right::Own,
-            bytes,
-        };
+            ..frame
+        }
+    } else {
+        empty_frame()
     }
-    empty_frame()
 }
 
 fn settle_frame(block: &mut [u8], pages: usize, page: usize, own: bool)
@@ -39,10 +42,8 @@ fn settle_frames(block: &mut [u8], pages: usize, owned: u16)
     requires { IsBlock pages block.old }
     ensures { block.new ≡ encode_board (on_working (on_frames (each (λ p f. settled_frame (member p owned) f))) (board_of pages block.old)) }
 {
-    let mut page = 0;
-    while page < pages {
-        settle_frame(block, pages, page, has(page, owned));
-        page += 1;
+    for page in 0..pages {
+        settle_frame(block, pages, page, owned.has(page));
     }
 }
 

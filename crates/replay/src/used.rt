@@ -1,5 +1,7 @@
 // Records used up: one, every shown or dropped that comes next, and those that an access makes due.
-ghost use Rattle.std.specs.Prelude.{◌≡◌, true, ◌<◌, length, set};
+#![tactic(auto, using(steps::specs::BlockLaws::block_length))]
+
+ghost use Rattle.std.specs.Prelude.{◌≡◌, ◌<◌, length, set, IfSome};
 ghost use Rattle.model.specs.Definitions.Layout.{page_size, slot_count, last_since, last_number};
 ghost use Rattle.model.specs.Definitions.Bank.{on_working};
 ghost use Rattle.model.specs.Definitions.Codec.{encode_board};
@@ -12,7 +14,7 @@ ghost use Rattle.replay.specs.Clauses.{uses_next, used_next};
 
 use crate::next::next_ready;
 use format::block::{read_place, write_page_frame, write_place, write_since};
-use steps::access::{empty_frame, perform};
+use steps::access::{CellWrite, empty_frame, perform};
 use types::{Frame, Kind};
 
 // One record used: the next place, since 0.
@@ -39,20 +41,17 @@ fn use_next(block: &mut [u8], pages: usize) -> bool
     requires { IsBlock pages block.old }
     ensures { (result ≡ uses_next (board_of pages block.old)) × (block.new ≡ encode_board (used_next (board_of pages block.old))) }
 {
-    let next = next_ready(block, pages);
-    if !next.found {
+    let Some(next) = next_ready(block, pages) else {
         return false;
-    }
-    let value = next.value;
-    let kind = value.kind;
-    match kind {
+    };
+    match next.kind {
         Kind::Got(_, _) => false,
         Kind::Shown(_) => {
             use_record(block, pages);
             true
         }
         Kind::Dropped(page) => {
-            use_with_frame(block, pages, page as usize, empty_frame());
+            use_with_frame(block, pages, usize::from(page), empty_frame());
             true
         }
     }
@@ -67,20 +66,13 @@ pub fn use_up(block: &mut [u8], pages: usize)
 }
 
 // A replayed access: local, then the records that it makes due are used up.
-pub fn replay_access(
-    block: &mut [u8],
-    pages: usize,
-    writes: bool,
-    page: usize,
-    offset: usize,
-    value: u8,
-)
+pub fn replay_access(block: &mut [u8], pages: usize, write: Option<CellWrite>)
     requires { IsBlock pages block.old × ((board_of pages block.old).working.number < last_number) × ((board_of pages block.old).working.since < last_since)
-        × (writes ≡ true → (page < pages) × (offset < page_size))
-        × Writable (board_of pages block.old).working.frames (wrote_byte writes page offset value) }
-    ensures { (a : Access) → cells_written a ≡ wrote_byte writes page offset value
+        × IfSome write (λ w. (w.page < pages) × (w.offset < page_size))
+        × Writable (board_of pages block.old).working.frames (wrote_byte write) }
+    ensures { (a : Access) → cells_written a ≡ wrote_byte write
         → block.new ≡ encode_board (replayed a (board_of pages block.old)) }
 {
-    perform(block, pages, writes, page, offset, value);
+    perform(block, pages, write);
     use_up(block, pages);
 }

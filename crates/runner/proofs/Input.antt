@@ -8,17 +8,7 @@ use Rattle.script.specs.Definitions.Runner.{begin, run}
 use Rattle.script.specs.Feeding.{Machine, idle, feed, behind, finish, fed_whole}
 use Rattle.script.specs.Clauses.{machine_of, state_of, from_nothing}
 use Rattle.script.specs.Laws.Feeding.{feed_append, byte_stopped, fed_run, whole_behind}
-use Rattle.runner.specs.declared.reads.Next.{Next}
-use Rattle.runner.specs.declared.reads.Next.TheVariants.{Read, End}
 use Rattle.runner.specs.Reads.{WasFed}
-
-is_end : Next → Type 0
-is_end Read = ⊥
-is_end End = Unit {0}
-
-pub end_is_not_read : {P : Type 0} → End ≡ Read → P
-unfolding is_end
-end_is_not_read e = absurd (subst is_end e tt)
 
 pub ok_then : {T E P Q : Type 0} (r : Result T E) → OnOk r P → (P → Q) → OnOk r Q
 ok_then (Ok x) h f = f h

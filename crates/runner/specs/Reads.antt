@@ -6,10 +6,11 @@ use Rattle.lines.specs.Definitions.Tally.{stopped}
 use Rattle.script.specs.declared.feed.Machine.{Machine as Held}
 use Rattle.script.specs.Feeding.{Machine, idle, feed}
 use Rattle.script.specs.Clauses.{InBuffers, machine_of}
+use Rattle.std.specs.declared.ops.ControlFlow.{ControlFlow}
+use Rattle.std.specs.declared.ops.ControlFlow.TheVariants.{Continue, Break}
+use Rattle.std.specs.ControlFlow.{ForContinue, ForBreak}
 use Rattle.runner.specs.declared.reads.Failure.{Failure}
 use Rattle.runner.specs.declared.reads.Failure.TheVariants.{Input, Output}
-use Rattle.runner.specs.declared.reads.Turn.{Turn}
-use Rattle.runner.specs.declared.reads.Next.TheVariants.{Read, End}
 
 -- said only of a read that failed
 abbrev pub IfInput : Failure → Type 0 → Type 0
@@ -22,13 +23,18 @@ pub record WasFed (cs : List ℕ) (m r : Machine) (rest rest' held held' : Optio
   pub machine : r ≡ (feed cs m).machine
   pub written : Appends held held' (feed cs m).output
 
+-- the machine that a read leaves, whether another read comes or not
+abbrev pub left_by : ControlFlow Held Held → Held
+left_by (Continue m) = m
+left_by (Break m) = m
+
 -- one read, into a buffer of so many bytes
-pub record Turned (t : Turn) (room : ℕ) (from : Held) (line bank line' bank' : List ℕ) (rest rest' held held' : Option (List ℕ)) : Type 0 where
+pub record Turned (t : ControlFlow Held Held) (room : ℕ) (from : Held) (line bank line' bank' : List ℕ) (rest rest' held held' : Option (List ℕ)) : Type 0 where
   pub bytes : List ℕ
-  pub fed : WasFed bytes (machine_of line bank from) (machine_of line' bank' t.machine) rest rest' held held'
-  pub buffers : InBuffers line' bank' t.machine
-  pub more : t.next ≡ Read → 0 < length bytes
-  pub over : t.next ≡ End → 0 < room → stopped t.machine.progress.tally ≡ false → IsAtEnd rest'
+  pub fed : WasFed bytes (machine_of line bank from) (machine_of line' bank' (left_by t)) rest rest' held held'
+  pub buffers : InBuffers line' bank' (left_by t)
+  pub more : ForContinue t (λ _. 0 < length bytes)
+  pub over : ForBreak t (λ m. 0 < room → stopped m.progress.tally ≡ false → IsAtEnd rest')
 
 -- what the bytes that were read so far print is in the writer
 pub record PrintedSoFar (rest rest' held held' : Option (List ℕ)) : Type 0 where

@@ -59,10 +59,7 @@ fn run_named<R: Print + Eprint + Alloc>(
 // The script of that path. Whether it was run to its end.
 fn run_file<R: Files + Print + Eprint + Alloc>(rt: &R, path: &str) -> io::Result<bool> {
     match fs::open(rt, path) {
-        Ok(file) => {
-            let mut file = file;
-            run_named(rt, path, &mut file)
-        }
+        Ok(mut file) => run_named(rt, path, &mut file),
         Err(error) => {
             tell(rt, path, Failure::Input(error))?;
             Ok(false)
@@ -71,6 +68,7 @@ fn run_file<R: Files + Print + Eprint + Alloc>(rt: &R, path: &str) -> io::Result
 }
 
 // Argument `i`, the path of a script: whether it was run to its end; none where there is no such argument. A path that is no UTF-8 is none of std's.
+// (A buffer and how much of it is filled: so std's `arg` gives it.)
 fn run_argument<R: Env + Files + Print + Eprint + Alloc>(
     rt: &R,
     i: usize,

@@ -1,12 +1,12 @@
 // One input, read by read: what a read prints is written out before the next one.
-ghost use Rattle.std.specs.Prelude.{◌+◌, ◌-◌, ◌*◌, ◌^◌, ◌≤◌, ◌<◌, ◌≡◌, true, length, OnOk, IfOk, IfErr, IfSome};
+ghost use Rattle.std.specs.Prelude.{◌+◌, ◌-◌, ◌*◌, ◌^◌, ◌≤◌, ◌<◌, ◌≡◌, true, length, if◌then◌else◌, OnOk, IfOk, IfErr, IfSome};
 ghost use Rattle.std.specs.Io.KnownBytes.{Appends, Keeps};
 ghost use Rattle.lines.specs.Clauses.{most_line, most_last};
 ghost use Rattle.script.specs.Definitions.Runner.{run};
 ghost use Rattle.script.specs.Feeding.{finish};
 ghost use Rattle.script.specs.Clauses.{InBuffers, Buffers, machine_of};
 ghost use Rattle.lines.specs.Definitions.Tally.{stopped};
-ghost use Rattle.runner.specs.declared.reads.Next.TheVariants.{End};
+ghost use Rattle.std.specs.declared.ops.ControlFlow.TheVariants.{Continue, Break};
 ghost use Rattle.runner.specs.Reads.{IfInput, PrintedSoFar, Turned};
 
 use lines::tally::stopped;
@@ -14,6 +14,7 @@ use script::feed::{Machine, start};
 use script::stream::{BANK_BUFFER, LINE_BUFFER, OUT_PER_BYTE, end_input, feed_read};
 use std::io;
 use std::io::{Read, Write};
+use std::ops::ControlFlow;
 
 // How much is read at once.
 const READ_BUFFER: usize = 4096;
@@ -28,43 +29,26 @@ pub enum Failure {
     Output(io::Error),
 }
 
-// What comes after a read.
-#[derive(Clone, Copy)]
-enum Next {
-    Read,
-    End,
-}
-
-#[derive(Clone, Copy)]
-struct Turn {
-    machine: Machine,
-    next: Next,
-}
-
 // Writes all that was printed.
 fn write_out<W: Write>(output: &mut W, printed: &[u8]) -> Result<(), Failure>
     ensures ok { OnOk result (Appends (W.contents output.old) (W.contents output.new) printed.now) }
     ensures err { IfErr result (λ e. IfInput e ⊥) }
 {
-    match output.write_all(printed) {
-        Ok(()) => Ok(()),
-        Err(error) => Err(Failure::Output(error)),
-    }
+    output.write_all(printed).map_err(Failure::Output)
 }
 
 // After a write: nothing more where the runner has stopped reading.
-fn next_of(machine: Machine) -> Next
-    ensures { result ≡ End → stopped machine.progress.tally ≡ true }
+fn next_of(machine: Machine) -> ControlFlow<Machine, Machine>
+    ensures { result ≡ (if stopped machine.progress.tally then Break machine else Continue machine) }
 {
-    let progress = machine.progress;
-    if stopped(progress.tally) {
-        Next::End
+    if stopped(machine.progress.tally) {
+        ControlFlow::Break(machine)
     } else {
-        Next::Read
+        ControlFlow::Continue(machine)
     }
 }
 
-// Reads once, feeds what came and writes out what it prints.
+// Reads once, feeds what came and writes out what it prints. It breaks off at the end of input, and where the runner has stopped reading.
 fn run_read<R: Read, W: Write>(
     input: &mut R,
     output: &mut W,
@@ -73,31 +57,20 @@ fn run_read<R: Read, W: Write>(
     bank: &mut [u8],
     out: &mut [u8],
     from: Machine,
-) -> Result<Turn, Failure>
+) -> Result<ControlFlow<Machine, Machine>, Failure>
     requires { InBuffers line.old bank.old from × (most_line * length buffer.old ≤ length out.old) }
     ensures ok { IfOk result (λ t. Turned t (length buffer.old) from line.old bank.old line.new
         bank.new (R.remaining input.old) (R.remaining input.new) (W.contents output.old) (W.contents output.new)) }
     ensures err { IfErr result (λ e. IfInput e (Keeps (R.remaining input.old) (R.remaining input.new)
         × Keeps (W.contents output.old) (W.contents output.new))) }
 {
-    let n = match input.read(buffer) {
-        Ok(n) => n,
-        Err(error) => return Err(Failure::Input(error)),
-    };
+    let n = input.read(buffer).map_err(Failure::Input)?;
     if n == 0 {
-        return Ok(Turn {
-            machine: from,
-            next: Next::End,
-        });
+        return Ok(ControlFlow::Break(from));
     }
     let machine = feed_read(&buffer[..n], line, bank, out, from);
-    let progress = machine.progress;
-    let end = progress.at;
-    write_out(output, &out[..end])?;
-    Ok(Turn {
-        machine,
-        next: next_of(machine),
-    })
+    write_out(output, &out[..machine.progress.at])?;
+    Ok(next_of(machine))
 }
 
 // The end of input: a last line without its byte 10, and the three numbers.
@@ -117,7 +90,7 @@ fn run_end<W: Write>(
     write_out(output, &out[..end])
 }
 
-// All reads, then the end of input. A proved loop has to end and nothing says that an input does, so it counts down from a number that no run uses up.
+// All reads, then the end of input. A proved loop has to end and nothing says that an input does, so it takes a number of turns that no run uses up.
 fn run_reads<R: Read, W: Write>(
     input: &mut R,
     output: &mut W,
@@ -133,13 +106,10 @@ fn run_reads<R: Read, W: Write>(
         (R.remaining input.new) (W.contents output.old) (W.contents output.new))) }
 {
     let mut machine = start();
-    let mut turns = u64::MAX;
-    while 0 < turns {
-        let turn = run_read(input, output, buffer, line, bank, out, machine)?;
-        machine = turn.machine;
-        match turn.next {
-            Next::Read => turns -= 1,
-            Next::End => return run_end(output, line, bank, out, machine),
+    for _turn in 0..u64::MAX {
+        match run_read(input, output, buffer, line, bank, out, machine)? {
+            ControlFlow::Continue(next) => machine = next,
+            ControlFlow::Break(last) => return run_end(output, line, bank, out, last),
         }
     }
     run_end(output, line, bank, out, machine)

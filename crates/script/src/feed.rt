@@ -7,42 +7,40 @@ ghost use Rattle.script.specs.Clauses.{InBuffers, RunningFor, FedBy, machine_of,
 
 use crate::line::{Progress, run_line};
 use lines::print::put_last;
-use lines::tally::{Tally, stopped};
+use lines::tally::stopped;
 use lines::text::{MOST_BYTES, NEWLINE};
 
-// What is kept between two bytes: how many bytes of a line there are, and how far the runner is.
-#[derive(Clone, Copy)]
+// What is kept between two bytes: how many bytes of a line there are, and how far the runner is. The line itself stands in a buffer that is lent, since `FedBy`
+// says of all of it what it becomes (`line_left`).
+#[derive(Clone, Copy, Default)]
 pub struct Machine {
     pub pending: usize,
     pub progress: Progress,
 }
 
 // One byte of input.
+#[tactic(auto, using(lines::specs::Laws::Tally::counts_on))]
 pub fn feed_byte(c: u8, line: &mut [u8], bank: &mut [u8], out: &mut [u8], from: Machine) -> Machine
     requires { RunningFor 1 line.old bank.old out.old from }
     ensures { FedBy (c ∷ []) from result line.old bank.old out.old line.new bank.new out.new }
 {
-    let pending = from.pending;
-    let progress = from.progress;
-    let tally = progress.tally;
-    if stopped(tally) {
+    if stopped(from.progress.tally) {
         return from;
     }
     if c == NEWLINE {
-        let next = run_line(&line[..pending], bank, out, progress);
         return Machine {
             pending: 0,
-            progress: next,
+            progress: run_line(&line[..from.pending], bank, out, from.progress),
         };
     }
     // Of a line that is too long one byte more is kept.
-    if MOST_BYTES < pending {
+    if MOST_BYTES < from.pending {
         return from;
     }
-    line[pending] = c;
+    line[from.pending] = c;
     Machine {
-        pending: pending + 1,
-        progress,
+        pending: from.pending + 1,
+        ..from
     }
 }
 
@@ -59,10 +57,8 @@ pub fn feed(
         out.new }
 {
     let mut machine = from;
-    let mut i = 0;
-    while i < input.len() {
-        machine = feed_byte(input[i], line, bank, out, machine);
-        i += 1;
+    for c in input {
+        machine = feed_byte(*c, line, bank, out, machine);
     }
     machine
 }
@@ -71,24 +67,11 @@ pub fn feed(
 pub fn start() -> Machine
     ensures { result ≡ from_nothing }
 {
-    let tally = Tally {
-        read: 0,
-        done: 0,
-        refused: 0,
-    };
-    let progress = Progress {
-        size: 0,
-        tally,
-        at: 0,
-    };
-    Machine {
-        pending: 0,
-        progress,
-    }
+    Machine::default()
 }
 
 // The end of input: a line that has begun ends, then come the three numbers. The answer is the place behind the output.
-#[tactic(auto, using(crate::specs::Laws::Machine::empty_output, crate::specs::Laws::Machine::empty_bank))]
+#[tactic(auto, using(lines::specs::Laws::Tally::counts_on))]
 pub fn finish(line: &[u8], bank: &mut [u8], out: &mut [u8], from: Machine) -> usize
     requires { InBuffers line.now bank.old from × (from.progress.at + most_line + most_last ≤ length out.old) }
     ensures output { Put out.old from.progress.at (finishing (machine_of line.now bank.old from))
@@ -96,18 +79,9 @@ pub fn finish(line: &[u8], bank: &mut [u8], out: &mut [u8], from: Machine) -> us
     ensures bank { bank.new ≡ splice bank.old 0
         (at_end (machine_of line.now bank.old from)).machine.state.bank }
 {
-    let pending = from.pending;
-    let progress = from.progress;
-    let tally = progress.tally;
-    let at = progress.at;
-    if stopped(tally) {
-        return put_last(out, at, tally);
+    if stopped(from.progress.tally) || from.pending == 0 {
+        return put_last(out, from.progress.at, from.progress.tally);
     }
-    if pending == 0 {
-        return put_last(out, at, tally);
-    }
-    let last = run_line(&line[..pending], bank, out, progress);
-    let total = last.tally;
-    let end = last.at;
-    put_last(out, end, total)
+    let last = run_line(&line[..from.pending], bank, out, from.progress);
+    put_last(out, last.at, last.tally)
 }

@@ -5,10 +5,10 @@ ghost use Rattle.script.specs.Clauses.{Ready, Ran, state_of};
 use crate::work::line_work;
 use lines::print::put_line;
 use lines::request::read_request;
-use lines::tally::{Tally, with_line};
+use lines::tally::{Tally, count_line};
 
 // How far the runner is: the bank's bytes, the tally, and the place of the output's next byte.
-#[derive(Clone, Copy)]
+#[derive(Clone, Copy, Default)]
 pub struct Progress {
     pub size: usize,
     pub tally: Tally,
@@ -21,17 +21,14 @@ pub fn run_line(line: &[u8], bank: &mut [u8], out: &mut [u8], from: Progress) ->
     ensures { Ran (line_step line.now (state_of bank.old from)) from result bank.old out.old bank.new
         out.new }
 {
-    let size = from.size;
-    let tally = from.tally;
-    let at = from.at;
-    let number = tally.read + 1;
-    let work = line_work(bank, size, number, read_request(line));
-    let printed = work.printed;
-    let end = put_line(out, at, number, printed);
-    let next = with_line(tally, printed.code);
+    let number = from.tally.read + 1;
+    let work = line_work(bank, from.size, number, read_request(line));
+    let at = put_line(out, from.at, number, work.printed);
+    let mut tally = from.tally;
+    count_line(&mut tally, work.printed.code);
     Progress {
         size: work.size,
-        tally: next,
-        at: end,
+        tally,
+        at,
     }
 }

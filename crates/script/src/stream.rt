@@ -22,16 +22,12 @@ pub const OUT_PER_BYTE: usize = MOST_LINE;
 fn empty_out(from: Machine) -> Machine
     ensures { result ≡ emptied from }
 {
-    let progress = from.progress;
-    let tally = progress.tally;
-    let begun = Progress {
-        size: progress.size,
-        tally,
-        at: 0,
-    };
     Machine {
-        pending: from.pending,
-        progress: begun,
+        progress: Progress {
+            at: 0,
+            ..from.progress
+        },
+        ..from
     }
 }
 

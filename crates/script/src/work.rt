@@ -10,12 +10,12 @@ use engine::fuse::fuse;
 use engine::make::make;
 use engine::restart::restart;
 use format::layout::bank_size;
-use fresh::sizes::sizes_allowed;
-use lines::print::{Printed, printed_of, unreadable};
+use fresh::sizes::Sizes;
+use lines::print::{Printed, unreadable};
 use lines::request::Request;
 use types::{Answer, Outcome};
 
-// What a line prints, and how many bytes the bank has then: 0 where there is none.
+// What a line prints, and how many bytes the bank has then: 0 where there is none, since no bank is a bank of no bytes (`Worked`).
 #[derive(Clone, Copy)]
 pub struct Work {
     pub printed: Printed,
@@ -23,18 +23,18 @@ pub struct Work {
 }
 
 // A line that is not an N on line 1, on a bank's bytes.
+#[tactic(auto, unfolding(crate::specs::Definitions::Runner::work, crate::specs::Definitions::Runner::worked, crate::specs::Definitions::Runner::unread))]
 fn do_call(bank: &mut [u8], request: Request) -> Printed
     ensures printed { result ≡ (called request bank.old).printed }
     ensures bytes { bank.new ≡ (called request bank.old).bank }
 {
     match request {
-        Request::Make(_, _) => unreadable(),
-        Request::Read(b, p, o) => printed_of(read(bank, b, p, o)),
-        Request::Write(b, p, o, v) => printed_of(write(bank, b, p, o, v)),
-        Request::Checkpoint(b) => printed_of(checkpoint(bank, b)),
-        Request::Fuse(b, k) => printed_of(fuse(bank, b, k)),
-        Request::Restart(b) => printed_of(restart(bank, b)),
-        Request::Unreadable => unreadable(),
+        Request::Make(_, _) | Request::Unreadable => unreadable(),
+        Request::Read(b, p, o) => read(bank, b, p, o).into(),
+        Request::Write(b, p, o, v) => write(bank, b, p, o, v).into(),
+        Request::Checkpoint(b) => checkpoint(bank, b).into(),
+        Request::Fuse(b, k) => fuse(bank, b, k).into(),
+        Request::Restart(b) => restart(bank, b).into(),
     }
 }
 
@@ -43,20 +43,20 @@ fn make_bank(bank: &mut [u8], boards: u32, pages: u32) -> Work
     requires { length bank.old ≡ most_bank }
     ensures { Works (work 1 (Make boards pages) bank.old) result bank.old bank.new }
 {
-    if !sizes_allowed(boards, pages) {
+    let Some(sizes) = Sizes::of(boards, pages) else {
         let refused = Outcome {
             answer: Answer::OutOfRange,
             stores: 0,
         };
         return Work {
-            printed: printed_of(refused),
+            printed: refused.into(),
             size: 0,
         };
-    }
-    let size = bank_size(boards as usize, pages as usize);
+    };
+    let size = bank_size(sizes.boards, sizes.pages);
     let outcome = make(&mut bank[..size], boards, pages);
     Work {
-        printed: printed_of(outcome),
+        printed: outcome.into(),
         size,
     }
 }
@@ -71,16 +71,12 @@ fn call_line(bank: &mut [u8], size: usize, request: Request) -> Work
 }
 
 // Line `number`, which asks for `request`.
-#[tactic(auto, using(crate::specs::Laws::Work::work_called))]
 pub fn line_work(bank: &mut [u8], size: usize, number: u32, request: Request) -> Work
     requires { (length bank.old ≡ most_bank) × (size ≤ length bank.old) }
     ensures { Works (work number request (take size bank.old)) result bank.old bank.new }
 {
-    if number != 1 {
-        return call_line(bank, size, request);
-    }
     match request {
-        Request::Make(boards, pages) => make_bank(bank, boards, pages),
+        Request::Make(boards, pages) if number == 1 => make_bank(bank, boards, pages),
         _ => call_line(bank, size, request),
     }
 }

@@ -1,6 +1,6 @@
 -- An access on a block: what its reads and writes say of the board that the block stands for, and its tests by a flag and plain numbers.
 -- Assumes nothing.
-use Rattle.std.specs.Prelude.{◌≡◌, refl, ◌≢◌, ℕ, zero, suc, ◌+◌, ◌*◌, ◌/◌, ◌%◌, ◌^◌, ◌≤◌, ◌<◌, Bool, true, ◌&&◌, ◌||◌, not, List, [], ◌∷◌, length, eqb}
+use Rattle.std.specs.Prelude.{◌≡◌, refl, ◌≢◌, ℕ, zero, suc, ◌+◌, ◌*◌, ◌/◌, ◌%◌, ◌^◌, ◌≤◌, ◌<◌, Bool, true, ◌&&◌, ◌||◌, not, List, [], ◌∷◌, length, eqb, Option, Some, None}
 use Rattle.std.proofs.Common.{sym, ap, ◌∙◌, pow-suc, arith, eq-eqb, ne_eqb}
 use Rattle.std.proofs.Math.Decide.{dec_lt}
 use Rattle.std.proofs.Math.Bool.{false}
@@ -23,6 +23,7 @@ use Rattle.model.proofs.Laws.Valid.{Writable}
 use Rattle.model.proofs.Laws.BlockFields.{read_right, read_byte, write_frame, write_byte}
 use Rattle.model.proofs.Laws.BlockWorking.{accessed_read}
 use Rattle.model.proofs.Laws.BoardFields.{accessed_fields}
+use Rattle.steps.specs.declared.access.CellWrite.{CellWrite}
 use Rattle.steps.specs.Asked.{got, Takes, wrote_byte}
 use Rattle.steps.specs.Blocks.{IsBlock, board_of}
 use Rattle.steps.specs.BlockLaws.{block_written}
@@ -136,17 +137,17 @@ pub accessed_same : (a c : Access) (x : Board) → cells_written c ≡ cells_wri
 unfolding on_working accessed
 accessed_same a c x e = rw e
 
--- an access that the flag and the numbers stand for
-wrote_by : {X : Type 0} (writes : Bool) (p o v : ℕ) → ((a : Access) → cells_written a ≡ wrote_byte writes p o v → X) → X
+-- an access that what is written stands for
+wrote_by : {X : Type 0} (w : Option CellWrite) → ((a : Access) → cells_written a ≡ wrote_byte w → X) → X
 unfolding cells_written
-wrote_by true p o v f = f (Write p o v) refl
-wrote_by false p o v f = f (Read p o) refl
+wrote_by (Some w) f = f (Write w.page w.offset w.value) refl
+wrote_by None f = f (Read 0 0) refl
 
 -- so what it leaves is a block
-pub performed_block : {pages : ℕ} {l : List ℕ} (m : List ℕ) → IsBlock pages l → (writes : Bool) (p o v : ℕ)
-    → Writable (board_of pages l).working.frames (wrote_byte writes p o v) → (board_of pages l).working.number < last_number
+pub performed_block : {pages : ℕ} {l : List ℕ} (m : List ℕ) → IsBlock pages l → (write : Option CellWrite)
+    → Writable (board_of pages l).working.frames (wrote_byte write) → (board_of pages l).working.number < last_number
     → (board_of pages l).working.since < last_since
-    → ((a : Access) → cells_written a ≡ wrote_byte writes p o v → m ≡ encode_board (on_working (accessed a) (board_of pages l))) → IsBlock pages m
-performed_block {pages} {l} m b writes p o v w n s f =
-    wrote_by writes p o v
+    → ((a : Access) → cells_written a ≡ wrote_byte write → m ≡ encode_board (on_working (accessed a) (board_of pages l))) → IsBlock pages m
+performed_block {pages} {l} m b write w n s f =
+    wrote_by write
     (λ a e. block_written (on_working (accessed a) (board_of pages l)) b.few (accessed_fields b.fields a (rw e w) n s) (f a e))

@@ -1,5 +1,7 @@
 // An access on a board's block: bytes and rights of pages read, the counters, one byte or one frame written.
-ghost use Rattle.std.specs.Prelude.{◌≡◌, true, ◌&&◌, map, ℕ, ◌*◌, ◌<◌, length};
+#![tactic(auto, using(crate::specs::BlockLaws::block_length))]
+
+ghost use Rattle.std.specs.Prelude.{◌≡◌, ◌&&◌, map, ℕ, ◌*◌, ◌<◌, length, IfSome};
 ghost use Rattle.words.specs.Bytes.{Each};
 ghost use Rattle.model.specs.Definitions.Parts.{member};
 ghost use Rattle.model.specs.Definitions.Layout.{page_size, last_since, last_number};
@@ -12,8 +14,7 @@ ghost use Rattle.fields.specs.Cells.{CellIn};
 ghost use Rattle.steps.specs.Asked.{got, Takes, wrote_byte};
 
 use fields::bytes::{get, put};
-use fields::frame::right_of;
-use fields::sets::{has, with_member};
+use fields::sets::Set;
 use fields::widths::{FRAME_BYTES_AT, FRAME_SIZE, RIGHT_AT};
 use format::block::{read_number, read_since, write_number, write_page_frame, write_since};
 use format::layout::FRAMES_AT;
@@ -40,7 +41,7 @@ fn right(block: &[u8], pages: usize, page: usize) -> Right
     requires { IsBlock pages block.now × (page < pages) }
     ensures { result ≡ (frame_at (board_of pages block.now).working.frames page).right }
 {
-    right_of(get(block, FRAMES_AT + page * FRAME_SIZE + RIGHT_AT))
+    Right::from(get(block, FRAMES_AT + page * FRAME_SIZE + RIGHT_AT))
 }
 
 // "The bytes go in the asked order into a second lent buffer" (document 02, F-3).
@@ -48,16 +49,16 @@ pub fn gather(block: &[u8], pages: usize, cells: &[u8], out: &mut [u8])
     requires { IsBlock pages block.now × Each (CellIn pages) (cells_asked cells.now) × (length cells.now ≡ 2 * length out.old) }
     ensures { out.new ≡ map (cell_byte (board_of pages block.now).working.frames) (cells_asked cells.now) }
 {
-    let mut i = 0;
-    while i < out.len() {
-        let page = cells[2 * i] as usize;
-        let offset = cells[2 * i + 1] as usize;
-        out[i] = read_byte(block, pages, page, offset);
-        i += 1;
+    for (i, byte) in out.iter_mut().enumerate() {
+        let page = usize::from(cells[2 * i]);
+        let offset = usize::from(cells[2 * i + 1]);
+        *byte = read_byte(block, pages, page, offset);
     }
 }
 
-// "local if a read has any right or a write has right own": whether a right is too little.
+// "local if a read has any right or a write has right own": whether a right is too little. (Here and below the flag is a value to compare by, `got writes`
+// of the contracts; it chooses no step.)
+#[tactic(auto, unfolding(model::specs::Definitions::Steps::lacks, crate::specs::Asked::got))]
 fn too_little(right: Right, writes: bool) -> bool
     ensures { result ≡ lacks (got writes) right }
 {
@@ -73,10 +74,7 @@ fn lacks_page(block: &[u8], pages: usize, page: usize, named: u16, writes: bool)
     requires { IsBlock pages block.now × (page < pages) }
     ensures { result ≡ (member page named && lacks (got writes) (frame_at (board_of pages block.now).working.frames page).right) }
 {
-    if !has(page, named) {
-        return false;
-    }
-    too_little(right(block, pages, page), writes)
+    named.has(page) && too_little(right(block, pages, page), writes)
 }
 
 // The pages that an access names and to which it lacks a right.
@@ -85,13 +83,11 @@ pub fn lacking_pages(block: &[u8], pages: usize, named: u16, writes: bool) -> u1
     ensures { (a : Access) → Takes pages a writes named → (p : ℕ)
         → member p result ≡ lacks_page a (board_of pages block.now).working.frames p }
 {
-    let mut lacking = 0;
-    let mut page = 0;
-    while page < pages {
+    let mut lacking = 0u16;
+    for page in 0..pages {
         if lacks_page(block, pages, page, named, writes) {
-            lacking = with_member(page, lacking);
+            lacking = lacking.with_member(page);
         }
-        page += 1;
     }
     lacking
 }
@@ -100,10 +96,7 @@ pub fn counters_full(block: &[u8], pages: usize) -> bool
     requires { IsBlock pages block.now }
     ensures { result ≡ counters_full last_since (board_of pages block.now) }
 {
-    if read_since(block) == LAST_SINCE {
-        return true;
-    }
-    read_number(block) == LAST_NUMBER
+    read_since(block) == LAST_SINCE || read_number(block) == LAST_NUMBER
 }
 
 // ---- writing
@@ -120,35 +113,43 @@ fn read_access(block: &mut [u8], pages: usize)
     write_since(block, since + 1);
 }
 
+// The byte that a write leaves, and where.
+#[derive(Clone, Copy)]
+pub struct CellWrite {
+    pub page: usize,
+    pub offset: usize,
+    pub value: u8,
+}
+
 // A write counts as a read does; its byte besides.
-fn write_access(block: &mut [u8], pages: usize, page: usize, offset: usize, value: u8)
+fn write_access(block: &mut [u8], pages: usize, write: CellWrite)
     requires { IsBlock pages block.old × ((board_of pages block.old).working.number < last_number) × ((board_of pages block.old).working.since < last_since)
-        × (page < pages) × (offset < page_size) }
-    ensures { block.new ≡ encode_board (on_working (accessed (Write page offset value)) (board_of pages block.old)) }
+        × (write.page < pages) × (write.offset < page_size) }
+    ensures { block.new ≡ encode_board (on_working (accessed (Write write.page write.offset write.value)) (board_of pages block.old)) }
 {
     read_access(block, pages);
     put(
         block,
-        FRAMES_AT + page * FRAME_SIZE + FRAME_BYTES_AT + offset,
-        value,
+        FRAMES_AT + write.page * FRAME_SIZE + FRAME_BYTES_AT + write.offset,
+        write.value,
     );
 }
 
-// Either of the two, by its flag; a read has no use for page, offset and value.
-pub fn perform(block: &mut [u8], pages: usize, writes: bool, page: usize, offset: usize, value: u8)
+// A write, or a read where nothing is written.
+pub fn perform(block: &mut [u8], pages: usize, write: Option<CellWrite>)
     requires { IsBlock pages block.old × ((board_of pages block.old).working.number < last_number) × ((board_of pages block.old).working.since < last_since)
-        × (writes ≡ true → (page < pages) × (offset < page_size)) }
-    ensures { (a : Access) → cells_written a ≡ wrote_byte writes page offset value
+        × IfSome write (λ w. (w.page < pages) × (w.offset < page_size)) }
+    ensures { (a : Access) → cells_written a ≡ wrote_byte write
         → block.new ≡ encode_board (on_working (accessed a) (board_of pages block.old)) }
 {
-    if writes {
-        write_access(block, pages, page, offset, value);
-        return;
+    match write {
+        Some(write) => write_access(block, pages, write),
+        None => read_access(block, pages),
     }
-    read_access(block, pages);
 }
 
 // Right none and zero bytes.
+#[tactic(auto, unfolding(model::specs::Definitions::Bank::empty_frame, model::specs::Definitions::Parts::zeros))]
 pub fn empty_frame() -> Frame
     ensures { result ≡ empty_frame }
 {

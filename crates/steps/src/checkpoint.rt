@@ -1,4 +1,6 @@
 // The steps of a checkpoint on a board's block: a frame or the head to the spare area, the selector, and what follows them.
+#![tactic(auto, using(crate::specs::BlockLaws::block_length))]
+
 ghost use Rattle.std.specs.Prelude.{◌≡◌, ◌<◌};
 ghost use Rattle.model.specs.Definitions.Bank.{on_working};
 ghost use Rattle.model.specs.Definitions.Codec.{encode_board};

@@ -1,4 +1,6 @@
 // A board's fuse on its block: set, and lowered by one store.
+#![tactic(auto, using(crate::specs::BlockLaws::block_length))]
+
 ghost use Rattle.std.specs.Prelude.{◌≡◌, eqb};
 ghost use Rattle.model.specs.Definitions.Codec.{encode_board};
 ghost use Rattle.model.specs.Definitions.Steps.{with_fuse, burnt};
@@ -21,14 +23,15 @@ pub fn burn(block: &mut [u8], pages: usize) -> bool
     ensures { (result ≡ eqb (burnt (board_of pages block.old)).fuse 0)
         × (block.new ≡ encode_board (burnt (board_of pages block.old))) }
 {
-    let fuse = read_fuse(block);
-    if fuse == NO_FUSE {
-        return false;
+    match read_fuse(block) {
+        NO_FUSE => false,
+        0 | 1 => {
+            write_fuse(block, 0);
+            true
+        }
+        fuse => {
+            write_fuse(block, fuse - 1);
+            false
+        }
     }
-    if 1 < fuse {
-        write_fuse(block, fuse - 1);
-        return false;
-    }
-    write_fuse(block, 0);
-    true
 }

@@ -1,4 +1,6 @@
 // A power loss: the board's bits out of the directory, its block emptied but for its stable areas.
+#![tactic(auto, using(crate::specs::BlockLaws::block_length))]
+
 ghost use Rattle.std.specs.Prelude.{◌≡◌, map, ◌+◌, ◌*◌, ◌≤◌, ◌<◌, length};
 ghost use Rattle.model.specs.Definitions.Parts.{part, splice};
 ghost use Rattle.model.specs.Definitions.Layout.{most_boards, head_size, entry_size};
@@ -8,7 +10,7 @@ ghost use Rattle.model.specs.Clauses.{IsBank};
 ghost use Rattle.steps.specs.Blocks.{IsBlock, board_of};
 
 use fields::bytes::clear_at;
-use fields::copies::without_holder;
+use fields::sets::Set;
 use format::block::{write_fuse, write_state};
 use format::directory::{read_copies, read_owner, write_entry};
 use format::layout::{NO_FUSE, NUMBER_AT, area_at, block_at, block_size};
@@ -32,7 +34,7 @@ fn forget_page(bank: &mut [u8], page: usize, board: usize)
 {
     let owner = read_owner(bank, page);
     let copies = read_copies(bank, page);
-    write_entry(bank, page, owner, without_holder(board, copies));
+    write_entry(bank, page, owner, copies.without_member(board));
 }
 
 // "its copy-set bits 0"
@@ -44,10 +46,8 @@ pub fn forget(bank: &mut [u8], pages: usize, board: usize)
           (decode bank.old).boards;
     }) }
 {
-    let mut page = 0;
-    while page < pages {
+    for page in 0..pages {
         forget_page(bank, page, board);
-        page += 1;
     }
 }
 

@@ -1,4 +1,6 @@
 // Records of a board on its block: counted, noted in the volatile log, appended to the selected area; and the end of a flush.
+#![tactic(auto, using(crate::specs::BlockLaws::block_length))]
+
 ghost use Rattle.std.specs.Prelude.{◌≡◌, ℕ, ◌+◌, ◌≤◌, ◌<◌, length, leb};
 ghost use Rattle.model.specs.Definitions.Layout.{slot_count, frames_at};
 ghost use Rattle.model.specs.Definitions.Bank.{on_working};
@@ -23,14 +25,14 @@ pub fn volatile_count(block: &[u8]) -> usize
     requires { frames_at ≤ length block.now }
     ensures { (pages : ℕ) → result ≡ volatile_count (board_of pages block.now) }
 {
-    read_volatile_count(block) as usize
+    usize::from(read_volatile_count(block))
 }
 
 fn stored_count(block: &[u8], pages: usize) -> usize
     requires { IsBlock pages block.now }
     ensures { result ≡ stored_count (board_of pages block.now) }
 {
-    selected::read_stored_count(block, pages) as usize
+    usize::from(selected::read_stored_count(block, pages))
 }
 
 // "stored plus volatile at most 32": whether so many records more would fit.
@@ -39,10 +41,7 @@ pub fn room(block: &[u8], pages: usize, need: usize) -> bool
     ensures { result ≡ leb (stored_count (board_of pages block.now) + volatile_count (board_of pages block.now) + need) slot_count }
 {
     let used = stored_count(block, pages) + volatile_count(block);
-    if SLOT_COUNT < used {
-        return false;
-    }
-    need <= SLOT_COUNT - used
+    used <= SLOT_COUNT && need <= SLOT_COUNT - used
 }
 
 // ---- one record more
@@ -60,7 +59,7 @@ pub fn record(block: &mut [u8], pages: usize, kind: Kind, peer: u8, bytes: [u8; 
         peer,
         bytes,
     };
-    write_volatile(block, pages, at as usize, r);
+    write_volatile(block, pages, usize::from(at), r);
     write_volatile_count(block, at + 1);
     write_since(block, 0);
 }
@@ -71,7 +70,7 @@ pub fn append_stored(block: &mut [u8], pages: usize, r: Record)
     ensures { block.new ≡ encode_board (with_stored r (board_of pages block.old)) }
 {
     let at = selected::read_stored_count(block, pages);
-    selected::write_stored(block, pages, at as usize, r);
+    selected::write_stored(block, pages, usize::from(at), r);
     selected::write_stored_count(block, pages, at + 1);
 }
 

@@ -1,3 +1,4 @@
+pub mod Clauses
 pub mod RunLaws
 pub mod RunFields
 pub mod Lifted

@@ -1,8 +1,9 @@
 -- One store on a block: what a run that has its power yet comes to when its next step is done to the block and `spend` follows. Assumes nothing.
-use Rattle.std.specs.Prelude.{◌≡◌, ℕ, ◌+◌, ◌≤◌, Bool, true, false, List}
+use Rattle.std.specs.Prelude.{◌≡◌, ℕ, ◌+◌, ◌≤◌, Bool, true, false, List, Result, IsErrAnd}
 use Rattle.std.proofs.Math.Path.{refl, ap}
 use Rattle.std.proofs.Common.{sym, ◌∙◌}
 use Rattle.std.proofs.Math.Dec.{eqb}
+use Rattle.std.proofs.lemmas.Result.{err_from_is_err_and}
 use Rattle.model.specs.Definitions.Layout.{most_pages}
 use Rattle.model.specs.Definitions.Bank.{Board}
 use Rattle.model.specs.Definitions.Codec.{encode_board}
@@ -11,11 +12,18 @@ use Rattle.model.specs.Definitions.Steps.{burnt}
 use Rattle.model.specs.Definitions.BoardRuns.{BoardRun, spent, step_on, store_on}
 use Rattle.steps.specs.Blocks.{IsBlock, board_of}
 use Rattle.steps.specs.BlockLaws.{board_written, block_written}
+use Rattle.stores.specs.declared.spend.PowerLost.{PowerLost}
+use Rattle.stores.specs.Clauses.{stores_made, is_lost}
 use Rattle.stores.specs.RunFields.{spent_fields}
 
 -- what is left of a run: the block, how many stores, whether power was lost
 abbrev pub Ran : BoardRun → List ℕ → ℕ → Bool → Type 0
 Ran r l n t = (l ≡ encode_board r.board) × (n ≡ r.stores) × (t ≡ r.lost)
+
+-- the error of a run that lost its power, passed on by `?`
+pub passed_on : (q : BoardRun) {l : List ℕ} {n : ℕ} (r : Result ℕ PowerLost) (e : PowerLost) → IsErrAnd r (λ x. x ≡ e) → e.stores ≡ n → Ran q l n true
+    → Ran q l (stores_made r) (is_lost r)
+passed_on q r e h m w = let p = err_from_is_err_and r h in rw (p.1, p.2, m) w
 
 -- a run of n stores that has its power yet
 abbrev pub going : Board → ℕ → BoardRun

@@ -5,65 +5,39 @@ ghost use Rattle.model.specs.Definitions.Codec.{encode_board};
 ghost use Rattle.model.specs.Definitions.Steps.{stored_frame};
 ghost use Rattle.model.specs.Definitions.BoardRuns.{start_on, store_all_on, checkpoint_on};
 ghost use Rattle.steps.specs.Blocks.{IsBlock, board_of};
+ghost use Rattle.stores.specs.Clauses.{stores_made, is_lost};
 
-use crate::spend::{Stored, spend};
+use crate::spend::{PowerLost, spend};
 use steps::checkpoint::{rest, store_frame, store_head, store_selector};
 
 // The frames, "in page order".
-fn store_frames(block: &mut [u8], pages: usize) -> Stored
+fn store_frames(block: &mut [u8], pages: usize) -> Result<u32, PowerLost>
     requires { IsBlock pages block.old }
     ensures run { (block.new ≡ encode_board (store_all_on (tabulate pages stored_frame) (start_on (board_of pages block.old))).board)
-        × (result.stores ≡ (store_all_on (tabulate pages stored_frame) (start_on (board_of pages block.old))).stores)
-        × (result.lost ≡ (store_all_on (tabulate pages stored_frame) (start_on (board_of pages block.old))).lost) }
-    ensures few { result.stores ≤ pages }
+        × (stores_made result ≡ (store_all_on (tabulate pages stored_frame) (start_on (board_of pages block.old))).stores)
+        × (is_lost result ≡ (store_all_on (tabulate pages stored_frame) (start_on (board_of pages block.old))).lost) }
+    ensures few { stores_made result ≤ pages }
 {
-    let mut page = 0;
-    while page < pages {
+    for page in 0..pages {
         store_frame(block, pages, page);
-        page += 1;
-        if spend(block, pages) {
-            return Stored {
-                stores: page as u32,
-                lost: true,
-            };
-        }
+        spend(block, pages, page as u32 + 1)?;
     }
-    Stored {
-        stores: pages as u32,
-        lost: false,
-    }
+    Ok(pages as u32)
 }
 
 // The frames, then the head, the selector, and what follows them; each only while there is power.
-pub fn checkpoint(block: &mut [u8], pages: usize) -> Stored
+pub fn checkpoint(block: &mut [u8], pages: usize) -> Result<u32, PowerLost>
     requires { IsBlock pages block.old }
     ensures run { (block.new ≡ encode_board (checkpoint_on pages (board_of pages block.old)).board)
-        × (result.stores ≡ (checkpoint_on pages (board_of pages block.old)).stores)
-        × (result.lost ≡ (checkpoint_on pages (board_of pages block.old)).lost) }
-    ensures few { result.stores ≤ pages + 2 }
+        × (stores_made result ≡ (checkpoint_on pages (board_of pages block.old)).stores)
+        × (is_lost result ≡ (checkpoint_on pages (board_of pages block.old)).lost) }
+    ensures few { stores_made result ≤ pages + 2 }
 {
-    let frames = store_frames(block, pages);
-    if frames.lost {
-        return frames;
-    }
-    let stores = frames.stores;
+    let stores = store_frames(block, pages)?;
     store_head(block, pages);
-    if spend(block, pages) {
-        return Stored {
-            stores: stores + 1,
-            lost: true,
-        };
-    }
+    spend(block, pages, stores + 1)?;
     store_selector(block, pages);
-    if spend(block, pages) {
-        return Stored {
-            stores: stores + 2,
-            lost: true,
-        };
-    }
+    spend(block, pages, stores + 2)?;
     rest(block, pages);
-    Stored {
-        stores: stores + 2,
-        lost: false,
-    }
+    Ok(stores + 2)
 }

@@ -7,7 +7,7 @@ use Prim.Native.Nat.{ℕ, zero, suc, ◌+◌, ◌-◌, ◌*◌, ◌≤◌, ◌<�
 use native.Mathlib.Omega.{arith}
 use Rattle.std.proofs.Math.Bool.{Bool, and_assoc, and_comm, and-true, and-false}
 use Rattle.std.proofs.Math.Dec.{ltb}
-use borrow.Author.Tests.{lt-ltb, leb-true, eqb-true}
+use borrow.Author.Tests.{lt-ltb, ne_eqb, leb-true, eqb-true}
 use Rattle.types.specs.declared.State.{State}
 use Rattle.types.specs.declared.State.TheVariants.{Up, Down, Replaying}
 use Rattle.model.specs.Definitions.Layout.{most_boards, most_pages, byte_values, head_mark0, head_mark1, head_mark0_at, head_mark1_at, head_size, boards_at, pages_at}
@@ -15,7 +15,8 @@ use Rattle.model.specs.Definitions.Layout.{right_at, frame_bytes_at, frame_size,
 use Rattle.model.specs.Definitions.Layout.{block_size_in, slot_count, no_fuse, fuse_size, number_size, fuse_at, number_at, since_at, place_at_in, volatile_count_at_in}
 use Rattle.model.specs.Definitions.Layout.{bank_size_in, Form}
 use Rattle.model.specs.Definitions.Parts.{part, byte_at, every, every_from, every_below, member}
-use Rattle.model.specs.Definitions.Codec.{right_byte, decode_entry, decode_frame, state_byte, state_of, selector_byte}
+use Rattle.types.specs.Bytes.{right_byte, state_byte, state_of}
+use Rattle.model.specs.Definitions.Codec.{decode_entry, decode_frame, selector_byte}
 use Rattle.model.specs.Definitions.Check.{is_zero, frame_valid, frames_valid, page_agrees, head_valid, directory_valid, counts_valid, all_frames_valid, fields_valid}
 use Rattle.model.specs.Definitions.Check.{selected_count, is_blank, state_valid, board_valid, page_agrees_at, pages_agree, block_fits, slot_valid, slot_peer_valid}
 use Rattle.model.specs.Definitions.Check.{records_pass, directory_of}
@@ -96,6 +97,17 @@ third_state (suc (suc n)) p q = refl
 
 pub state_else : {n m k j : ℕ} → n ≡ m → n ≢ k → k ≡ state_byte Up → n ≢ j → j ≡ state_byte Down → state_of m ≡ Replaying
 state_else {n} p q r u v = rw (← p) (third_state n (λ e. q (e ∙ sym r)) (λ e. u (e ∙ sym v)))
+
+-- whether a state's byte is that of an up board
+pub up_byte : (n : ℕ) → state_of n ≡ Up → eqb n (state_byte Up) ≡ true
+unfolding state_of state_byte
+up_byte zero e = refl
+up_byte (suc zero) e = cc
+up_byte (suc (suc n)) e = cc
+
+pub other_byte : (n : ℕ) → state_of n ≢ Up → eqb n (state_byte Up) ≡ false
+unfolding state_of state_byte
+other_byte n e = ne_eqb n (state_byte Up) (λ z. e (ap state_of z))
 
 -- part of a run of zero bytes
 zero_middle : (l : List ℕ) (a b m r : ℕ) → is_zero (part l a (b + (m + r))) ≡ true → is_zero (part l (a + b) m) ≡ true

@@ -1,6 +1,6 @@
 -- Words of this crate's contracts: the test of Definitions/Check in the pieces that the code makes of it. Search and Order prove that they are the whole.
 -- Assumes nothing.
-use Rattle.std.specs.Prelude.{◌≡◌, ℕ, ◌+◌, ◌*◌, Bool, true, false, ◌&&◌, not, List, eqb, leb}
+use Rattle.std.specs.Prelude.{◌≡◌, ℕ, ◌+◌, ◌*◌, Bool, true, ◌&&◌, not, List, eqb, leb}
 use Rattle.std.specs.Int.Bits.{bit_or}
 use Rattle.words.specs.LittleEndian.{number_of}
 use Rattle.types.specs.declared.State.{State}
@@ -8,9 +8,12 @@ use Rattle.types.specs.declared.State.TheVariants.{Up, Down, Replaying}
 use Rattle.model.specs.Definitions.Parts.{part, byte_at, every_below, member}
 use Rattle.model.specs.Definitions.Layout.{slot_count, no_fuse, fuse_size, number_size, entry_size, frame_size, area_frames_at, area_slots_at, state_at, selector_at}
 use Rattle.model.specs.Definitions.Layout.{fuse_at, number_at, since_at, Form, slot_size_in, place_at_in, volatile_count_at_in, frames_at_in, slots_at_in, area_at_in}
-use Rattle.model.specs.Definitions.Codec.{decode_entry, decode_frame, state_byte, state_of, selector_byte}
+use Rattle.types.specs.Bytes.{state_byte, state_of}
+use Rattle.model.specs.Definitions.Codec.{decode_entry, decode_frame, selector_byte}
 use Rattle.model.specs.Definitions.Check.{is_zero, frame_valid, frames_valid, page_agrees, area_count, counts_valid, selected_count, state_valid, pages_agree}
 use Rattle.model.specs.Definitions.Check.{slot_valid, slot_peer_valid}
+use Rattle.validity.specs.declared.bank.Log.{Log}
+use Rattle.validity.specs.declared.bank.Log.TheVariants.{First, Second, Volatile}
 
 -- a word: two numbers side by side
 abbrev pub word_size : ℕ
@@ -38,6 +41,11 @@ volatile_log = 2
 
 abbrev pub logs : ℕ
 logs = volatile_log + 1
+
+abbrev pub log_number : Log → ℕ
+log_number First = 0
+log_number Second = 1
+log_number Volatile = volatile_log
 
 module _ (form : Form) where
   -- the frames of both areas
@@ -98,16 +106,20 @@ module _ (form : Form) where
   down_frames_valid pages l = every_below pages (λ p. own_page_zero l p && stored_page_valid pages l p)
 
   -- how many records a log holds, where its slots stand, and whether the record of an index, and all of them, pass a test
-  unfoldable pub log_count : ℕ → List ℕ → ℕ → ℕ
-  log_count pages l log = elim (eqb log volatile_log) [ true ↦ byte_at l (volatile_count_at_in form) | false ↦ area_count form pages log l ]
+  unfoldable pub log_count : ℕ → List ℕ → Log → ℕ
+  log_count pages l First = area_count form pages 0 l
+  log_count pages l Second = area_count form pages 1 l
+  log_count pages l Volatile = byte_at l (volatile_count_at_in form)
 
-  unfoldable pub log_slots_at : ℕ → ℕ → ℕ
-  log_slots_at pages log = elim (eqb log volatile_log) [ true ↦ slots_at_in form pages | false ↦ area_at_in form pages log + area_slots_at pages ]
+  unfoldable pub log_slots_at : ℕ → Log → ℕ
+  log_slots_at pages First = area_at_in form pages 0 + area_slots_at pages
+  log_slots_at pages Second = area_at_in form pages 1 + area_slots_at pages
+  log_slots_at pages Volatile = slots_at_in form pages
 
-  unfoldable pub record_passes_in : (List ℕ → Bool) → ℕ → List ℕ → ℕ → ℕ → Bool
+  unfoldable pub record_passes_in : (List ℕ → Bool) → ℕ → List ℕ → Log → ℕ → Bool
   record_passes_in test pages l log i = test (part l (log_slots_at pages log + i * slot_size_in form) (slot_size_in form))
 
-  unfoldable pub log_passes : (List ℕ → Bool) → ℕ → List ℕ → ℕ → Bool
+  unfoldable pub log_passes : (List ℕ → Bool) → ℕ → List ℕ → Log → Bool
   log_passes test pages l log = every_below (log_count pages l log) (record_passes_in test pages l log)
 
   -- the test of a record of board b: its slot, and whom it names

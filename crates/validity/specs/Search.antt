@@ -1,13 +1,14 @@
 -- Laws of a test of every index, as a loop makes it: index by index, ending at the first that fails; and of the search through a block's logs,
 -- log by log, each as far as its count. Assumes nothing.
 use Rattle.std.specs.Prelude.{◌≡◌, ◌≢◌, true, false, ◌&&◌, not, List, ltb, take, drop}
+use Rattle.std.specs.List.{list_all, range_with_len}
 use Rattle.std.proofs.Math.Path.{refl, sym, ap, fun_ext}
 use Rattle.std.proofs.Common.{◌∙◌}
 use Prim.Native.Nat.{ℕ, zero, suc, ◌+◌, ◌*◌, ◌≤◌, ◌<◌, ◌-◌}
 use Rattle.std.proofs.Math.Nat.{zero-add, add-zero}
 use native.Mathlib.Omega.{arith}
 use Rattle.std.proofs.Math.Bool.{Bool, and_assoc, and-true, and-false}
-use borrow.Author.Tests.{ltb-true, lt-ltb, leb-true, ne_eqb}
+use borrow.Author.Tests.{ltb-true, lt-ltb, leb-true}
 use Rattle.model.specs.Definitions.Layout.{slot_count, area_slots_at, Form, slot_size_in, slots_size_in, volatile_count_at_in, slots_at_in, area_at_in, block_size_in}
 use Rattle.model.specs.Definitions.Parts.{part, byte_at, every_from, every_below}
 use Rattle.model.specs.Definitions.Check.{area_count, counts_valid, record_passes, stored_passes, slots_pass, records_pass, block_of_in}
@@ -15,7 +16,9 @@ use Rattle.model.specs.Definitions.Layout.{blocks_at}
 use Rattle.model.proofs.Laws.Logic.{cases, clash, by_bool, by_eq, and_left, and_right}
 use Rattle.model.proofs.Laws.Lists.{every_below_at, every_below_all}
 use Rattle.model.proofs.Laws.CodecBack.{area_inside}
-use Rattle.validity.specs.Pieces.{volatile_log, logs, log_count, log_slots_at, record_passes_in, log_passes}
+use Rattle.validity.specs.declared.bank.Log.{Log}
+use Rattle.validity.specs.declared.bank.Log.TheVariants.{First, Second, Volatile}
+use Rattle.validity.specs.Pieces.{log_number, log_count, log_slots_at, record_passes_in, log_passes}
 use Rattle.fields.proofs.Lent.{lent_part}
 
 -- what a caller learns of a test that a function made, where it goes on if the test passed and returns if it failed
@@ -62,6 +65,17 @@ module _ (f : ℕ → Bool) where
   unfolding every_below
   below_more n = rw zero-add at (from_more 0 n)
 
+-- a test of a range's numbers, as the library makes it
+module _ (f : ℕ → Bool) where
+  from_range : (a n : ℕ) → list_all f (range_with_len a n) ≡ every_from a n f
+  unfolding every_from
+  from_range a zero = refl
+  from_range a (suc n) = let e : a + 1 ≡ suc a = omega arith in rw e (ap (λ (b : Bool). f a && b) (from_range (suc a) n))
+
+  pub below_range : (n : ℕ) → list_all f (range_with_len 0 n) ≡ every_below n f
+  unfolding every_below
+  below_range n = from_range 0 n
+
 -- two tests of every index are one test of both
 and_swap : (a b c d : Bool) → ((a && b) && (c && d)) ≡ ((a && c) && (b && d))
 and_swap true true c d = refl
@@ -97,21 +111,24 @@ lent_block form s pages board a size p q = lent_part s a size ∙ rw (p, q)
 
 module _ (form : Form) (pages : ℕ) (l : List ℕ) where
   -- a log that is not the volatile one
-  pub area_count_lem : (log : ℕ) → log ≢ volatile_log → log_count form pages l log ≡ area_count form pages log l
+  pub area_count_lem : (log : Log) → log ≢ Volatile → log_count form pages l log ≡ area_count form pages (log_number log) l
   unfolding log_count
-  area_count_lem log n = rw (ne_eqb log volatile_log n, log_count)
+  area_count_lem First n = refl
+  area_count_lem Second n = refl
+  area_count_lem Volatile n = absurd (n refl)
 
-  pub area_at : (log : ℕ) → log ≢ volatile_log → log_slots_at form pages log ≡ area_at_in form pages log + area_slots_at pages
+  pub area_at : (log : Log) → log ≢ Volatile → log_slots_at form pages log ≡ area_at_in form pages (log_number log) + area_slots_at pages
   unfolding log_slots_at
-  area_at log n = rw (ne_eqb log volatile_log n, log_slots_at)
+  area_at First n = refl
+  area_at Second n = refl
+  area_at Volatile n = absurd (n refl)
 
   -- a log's slots lie inside the block, and its count is at most 32
-  pub log_inside : (log : ℕ) → log < logs → log_slots_at form pages log + slots_size_in form ≤ block_size_in form pages
+  pub log_inside : (log : Log) → log_slots_at form pages log + slots_size_in form ≤ block_size_in form pages
   unfolding log_slots_at
-  log_inside log h =
-      by_eq log volatile_log
-      (λ e. rw e (omega arith))
-      (λ n. omega (arith, area_at log n, area_inside form pages log (omega arith)))
+  log_inside First = omega (arith, area_inside form pages 0 (omega arith))
+  log_inside Second = omega (arith, area_inside form pages 1 (omega arith))
+  log_inside Volatile = omega arith
 
   module _ (counts : counts_valid form pages l ≡ true) where
     pub few_volatile : byte_at l (volatile_count_at_in form) ≤ slot_count
@@ -124,12 +141,11 @@ module _ (form : Form) (pages : ℕ) (l : List ℕ) where
     few_stored (suc zero) h = leb-true (area_count form pages 1 l) slot_count (search (and_left, and_right))
     few_stored (suc (suc area)) h = absurd (omega arith)
 
-    pub log_few : (log : ℕ) → log < logs → log_count form pages l log ≤ slot_count
+    pub log_few : (log : Log) → log_count form pages l log ≤ slot_count
     unfolding log_count
-    log_few log h =
-        by_eq log volatile_log
-        (λ e. rw e few_volatile)
-        (λ n. omega (arith, area_count_lem log n, few_stored log (omega arith)))
+    log_few First = few_stored 0 (omega arith)
+    log_few Second = few_stored 1 (omega arith)
+    log_few Volatile = few_volatile
 
 module _ (form : Form) (test : List ℕ → Bool) (pages : ℕ) (l : List ℕ) where
   -- the records of a log are those below its count; of a slot past it nothing is asked here
@@ -154,21 +170,17 @@ module _ (form : Form) (test : List ℕ → Bool) (pages : ℕ) (l : List ℕ) w
       (λ u. u ∙ sym t))
 
   -- a log whose records were all passed
-  pub log_ended : (log index : ℕ) {count : ℕ} → count ≡ log_count form pages l log → index ≤ count → count ≤ index
+  pub log_ended : (log : Log) (index : ℕ) {count : ℕ} → count ≡ log_count form pages l log → index ≤ count → count ≤ index
       → every_below index (record_passes_in form test pages l log) ≡ true → log_passes form test pages l log ≡ true
   unfolding log_passes
   log_ended log index e h k p = let d : index ≡ log_count form pages l log = omega arith in rw d at p
 
-  -- log by log as index by index
-  three_logs : every_below logs (log_passes form test pages l) ≡ (log_passes form test pages l 0 && (log_passes form test pages l 1 && log_passes form test pages l 2))
-  unfolding every_below every_from
-  three_logs = rw (and-true (log_passes form test pages l 2))
-
-  pub logs_valid : counts_valid form pages l ≡ true → every_below logs (log_passes form test pages l) ≡ records_pass form test pages l
+  -- log by log as slot by slot
+  pub logs_valid : counts_valid form pages l ≡ true
+      → (log_passes form test pages l First && (log_passes form test pages l Second && log_passes form test pages l Volatile)) ≡ records_pass form test pages l
   unfolding records_pass slots_pass stored_passes log_passes log_count log_slots_at record_passes_in
   logs_valid h =
-      three_logs
-      ∙ and_last (log_passes form test pages l 0) (log_passes form test pages l 1) (log_passes form test pages l 2)
+      and_last (log_passes form test pages l First) (log_passes form test pages l Second) (log_passes form test pages l Volatile)
       ∙ rw (
         ← records_below (slots_at_in form pages) (byte_at l (volatile_count_at_in form)) (few_volatile form pages l h),
         ← records_below (area_at_in form pages 0 + area_slots_at pages) (area_count form pages 0 l) (few_stored form pages l h 0 (omega arith)),
@@ -177,6 +189,13 @@ module _ (form : Form) (test : List ℕ → Bool) (pages : ℕ) (l : List ℕ) w
       )
       (sym (below_both (record_passes form test (slots_at_in form pages) (byte_at l (volatile_count_at_in form)) l)
       (λ i. stored_passes form test pages 0 l i && stored_passes form test pages 1 l i) slot_count))
+
+  -- one of the three that failed
+  pub log_failed : (log : Log) → log_passes form test pages l log ≡ false
+      → (log_passes form test pages l First && (log_passes form test pages l Second && log_passes form test pages l Volatile)) ≡ false
+  log_failed First h = rw h
+  log_failed Second h = rw (h, and-false)
+  log_failed Volatile h = rw (h, and-false, and-false)
 
 -- two tests of every record are one test of both
 module _ (form : Form) (f g : List ℕ → Bool) where

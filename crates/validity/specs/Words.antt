@@ -6,13 +6,15 @@ use Rattle.std.proofs.Math.Nat.{zero-max, div-eq_of_lt}
 use Rattle.std.specs.Int.Bits.{bit_or, or_step, or_zero_l, or_add_and}
 use Rattle.std.proofs.lemmas.Nat.{and_le_r}
 use Rattle.std.proofs.Math.Bool.{and-true, and-false, or-false}
+use Rattle.std.specs.Int.{w64, from_le_bytes}
 use Rattle.words.specs.LittleEndian.{number_of}
 use Rattle.types.specs.declared.Right.{Right}
 use Rattle.types.specs.declared.Right.TheVariants.{None, Own}
 use Rattle.model.specs.Definitions.Layout.{byte_values, number_size, page_size, entry_size, copies_at, right_at, frame_bytes_at, frame_size, mark0_at}
 use Rattle.model.specs.Definitions.Layout.{mark1_at, slot_page_at, letter_g, letter_s, letter_h, letter_d, letter_r, Form, slot_bytes_at_in}
 use Rattle.model.specs.Definitions.Parts.{part, byte_at, every, every_from, every_below, member}
-use Rattle.model.specs.Definitions.Codec.{right_byte, right_of, decode_entry}
+use Rattle.types.specs.Bytes.{right_byte, right_of}
+use Rattle.model.specs.Definitions.Codec.{decode_entry}
 use Rattle.model.specs.Definitions.Check.{is_zero, frame_valid, got_mark, bare_mark, mark_fits, peer_allowed, slot_valid, same_right}
 use Rattle.model.proofs.Laws.Logic.{clash, by_bool, by_eq, and_left, and_right}
 use Rattle.model.proofs.Laws.Parts.{length_part, part_all, part_join, part_part, byte_rest, byte_at_part}
@@ -115,6 +117,20 @@ word_halves l h =
     ap (λ (k : List ℕ). number_of k + 4294967296 * number_of (part l 4 4)) (four_bytes l 0 (omega arith))
     ∙ four_first (byte_at l 0) (byte_at l 1) (byte_at l 2) (byte_at l 3) (part l 4 4)
     ∙ ap number_of (ap (λ (k : List ℕ). k ++ part l 4 4) (sym (four_bytes l 0 (omega arith))) ∙ e)
+
+-- eight as the library sums them
+pub word_number : (bs : List ℕ) → length bs ≡ word_size → from_le_bytes w64 bs ≡ number_of bs
+unfolding number_of
+word_number (a ∷ b ∷ c ∷ d ∷ e ∷ f ∷ g ∷ h ∷ []) k = omega arith
+word_number (a ∷ b ∷ c ∷ d ∷ e ∷ f ∷ g ∷ h ∷ i ∷ is) k = absurd (omega arith)
+word_number (a ∷ b ∷ c ∷ d ∷ e ∷ f ∷ g ∷ []) k = absurd (omega arith)
+word_number (a ∷ b ∷ c ∷ d ∷ e ∷ f ∷ []) k = absurd (omega arith)
+word_number (a ∷ b ∷ c ∷ d ∷ e ∷ []) k = absurd (omega arith)
+word_number (a ∷ b ∷ c ∷ d ∷ []) k = absurd (omega arith)
+word_number (a ∷ b ∷ c ∷ []) k = absurd (omega arith)
+word_number (a ∷ b ∷ []) k = absurd (omega arith)
+word_number (a ∷ []) k = absurd (omega arith)
+word_number [] k = absurd (omega arith)
 
 -- ---- a mark
 
@@ -231,6 +247,12 @@ below_power n set e =
 
 pub past_power : (n set : ℕ) → (set / 2 ^ n ≡ 0 → ⊥) → 2 ^ n ≤ set
 past_power n set e = by_bool (ltb set (2 ^ n)) (λ t. absurd (e (div-eq_of_lt (ltb-true set (2 ^ n) t)))) (λ t. ltb-false set (2 ^ n) t)
+
+pub no_bit_past : (n set : ℕ) → eqb (set / 2 ^ n) 0 ≡ ltb set (2 ^ n)
+no_bit_past n set =
+    by_eq (set / 2 ^ n) 0
+    (λ e. rw e (sym (lt-ltb set (2 ^ n) (below_power n set e))))
+    (λ e. ne_eqb (set / 2 ^ n) 0 e ∙ sym (not_below (2 ^ n) set (past_power n set e)))
 
 -- ---- a frame by its right
 

@@ -4,7 +4,8 @@ ghost use Rattle.std.specs.Prelude.{◌≡◌, ◌+◌, ◌*◌, ◌≤◌, ◌<
 ghost use Rattle.model.specs.Definitions.Parts.{byte_at};
 ghost use Rattle.model.specs.Definitions.Layout.{most_boards, most_pages, byte_values, entry_size, frame_size, area_frames_at, state_at, since_size, form_of};
 ghost use Rattle.model.specs.Definitions.Layout.{volatile_count_at_in, area_at_in};
-ghost use Rattle.model.specs.Definitions.Codec.{decode_entry, right_byte, state_of};
+ghost use Rattle.types.specs.Bytes.{state_of};
+ghost use Rattle.model.specs.Definitions.Codec.{decode_entry};
 ghost use Rattle.model.specs.Definitions.WellFormed.{right_in};
 ghost use Rattle.model.specs.Definitions.Check.{area_count, counts_valid, selected_count, block_fits};
 ghost use Rattle.validity.specs.Sizes.{BlockSized};
@@ -14,11 +15,9 @@ ghost use Rattle.validity.specs.Pieces.{down_frames_valid, frames_fit};
 use crate::parts::{
     frame_pair_valid, frame_pairs_valid, frame_valid, frames_valid, zero_frame, zero_run,
 };
-use fields::bytes::{get, wide};
-use fields::copies::holds;
-use fields::frame::right_byte;
+use fields::sets::Set;
 use fields::widths::{FRAME_SIZE, RIGHT_AT, SLOT_COUNT};
-use format::block::{read_fuse, read_number, state_byte};
+use format::block::{read_fuse, read_number};
 use format::layout::{
     AREA_COUNT_AT, AREA_FRAMES_AT, COPIES_AT, ENTRY_SIZE, NO_FUSE, OWNER_AT, SELECTOR_AT, SINCE_AT,
     STATE_AT, area_at_in, frames_at_in, place_at_in, volatile_count_at_in,
@@ -35,7 +34,7 @@ pub fn volatile_count(block: &[u8], since: usize, pages: usize) -> usize
     requires { BlockSized since pages block.now }
     ensures { (result ≡ byte_at block.now (volatile_count_at_in (form_of since))) × (result < byte_values) }
 {
-    wide(get(block, volatile_count_at_in(since)))
+    usize::from(block[volatile_count_at_in(since)])
 }
 
 // How many records an area of a block holds.
@@ -43,7 +42,7 @@ pub fn area_count(block: &[u8], since: usize, pages: usize, area: usize) -> usiz
     requires { BlockSized since pages block.now × (area < 2) }
     ensures { (result ≡ area_count (form_of since) pages area block.now) × (result < byte_values) }
 {
-    wide(get(block, area_at_in(since, pages, area) + AREA_COUNT_AT))
+    usize::from(block[area_at_in(since, pages, area) + AREA_COUNT_AT])
 }
 
 // "stored at most 32 in either", and as many volatile records.
@@ -51,13 +50,9 @@ fn counts_valid(block: &[u8], since: usize, pages: usize) -> bool
     requires { BlockSized since pages block.now }
     ensures { result ≡ counts_valid (form_of since) pages block.now }
 {
-    if SLOT_COUNT < volatile_count(block, since, pages) {
-        return false;
-    }
-    if SLOT_COUNT < area_count(block, since, pages, 0) {
-        return false;
-    }
-    area_count(block, since, pages, 1) <= SLOT_COUNT
+    volatile_count(block, since, pages) <= SLOT_COUNT
+        && area_count(block, since, pages, 0) <= SLOT_COUNT
+        && area_count(block, since, pages, 1) <= SLOT_COUNT
 }
 
 // State and selector in range, and the counts.
@@ -65,13 +60,9 @@ fn fixed_fields_valid(block: &[u8], since: usize, pages: usize) -> bool
     requires { BlockSized since pages block.now }
     ensures { result ≡ fixed_fields_valid (form_of since) pages block.now }
 {
-    if state_byte(State::Replaying) < get(block, STATE_AT) {
-        return false;
-    }
-    if SECOND_AREA < get(block, SELECTOR_AT) {
-        return false;
-    }
-    counts_valid(block, since, pages)
+    block[STATE_AT] <= u8::from(State::Replaying)
+        && block[SELECTOR_AT] <= SECOND_AREA
+        && counts_valid(block, since, pages)
 }
 
 // ---- what a board says of itself
@@ -81,10 +72,11 @@ fn selected_count(block: &[u8], since: usize, pages: usize) -> usize
     requires { BlockSized since pages block.now }
     ensures { (result ≡ selected_count (form_of since) pages block.now) × (result < byte_values) }
 {
-    if get(block, SELECTOR_AT) == SECOND_AREA {
-        return area_count(block, since, pages, 1);
+    if block[SELECTOR_AT] == SECOND_AREA {
+        area_count(block, since, pages, 1)
+    } else {
+        area_count(block, since, pages, 0)
     }
-    area_count(block, since, pages, 0)
 }
 
 // "a dark board has access number, since, volatile count and frames zero and no fuse": but for the frames
@@ -92,16 +84,10 @@ fn blank_fields(block: &[u8], since: usize, pages: usize) -> bool
     requires { BlockSized since pages block.now }
     ensures { result ≡ blank_fields (form_of since) block.now }
 {
-    if read_number(block) != 0 {
-        return false;
-    }
-    if !zero_run(block, SINCE_AT, since) {
-        return false;
-    }
-    if volatile_count(block, since, pages) != 0 {
-        return false;
-    }
-    read_fuse(block) == NO_FUSE
+    read_number(block) == 0
+        && zero_run(block, SINCE_AT, since)
+        && volatile_count(block, since, pages) == 0
+        && read_fuse(block) == NO_FUSE
 }
 
 // What a board's state asks of its replay place, its volatile log and, of a down board, the rest but its frames.
@@ -109,21 +95,14 @@ fn state_fields_valid(block: &[u8], since: usize, pages: usize) -> bool
     requires { BlockSized since pages block.now }
     ensures { result ≡ state_fields_valid (form_of since) (state_of (byte_at block.now state_at)) pages block.now }
 {
-    let place = wide(get(block, place_at_in(since)));
-    let state = get(block, STATE_AT);
-    if state == state_byte(State::Up) {
-        return place == 0;
-    }
-    if state == state_byte(State::Down) {
-        if place != 0 {
-            return false;
+    let place = usize::from(block[place_at_in(since)]);
+    match State::from(block[STATE_AT]) {
+        State::Up => place == 0,
+        State::Down => place == 0 && blank_fields(block, since, pages),
+        State::Replaying => {
+            place < selected_count(block, since, pages) && volatile_count(block, since, pages) == 0
         }
-        return blank_fields(block, since, pages);
     }
-    if selected_count(block, since, pages) <= place {
-        return false;
-    }
-    volatile_count(block, since, pages) == 0
 }
 
 // "fuse not 0", "stored plus volatile at most 32 for the selected area", and what the state asks.
@@ -131,13 +110,9 @@ fn board_fields_valid(block: &[u8], since: usize, pages: usize) -> bool
     requires { BlockSized since pages block.now }
     ensures { result ≡ board_fields_valid (form_of since) pages block.now }
 {
-    if read_fuse(block) == 0 {
-        return false;
-    }
-    if SLOT_COUNT < selected_count(block, since, pages) + volatile_count(block, since, pages) {
-        return false;
-    }
-    state_fields_valid(block, since, pages)
+    read_fuse(block) != 0
+        && selected_count(block, since, pages) + volatile_count(block, since, pages) <= SLOT_COUNT
+        && state_fields_valid(block, since, pages)
 }
 
 // ---- frames, and what a board and the directory say of each other
@@ -150,18 +125,18 @@ fn area_frames_at(since: usize, pages: usize, area: usize) -> usize
     area_at_in(since, pages, area) + AREA_FRAMES_AT
 }
 
-// The right that a directory entry gives a board, as its byte.
-fn right_given(entry: &[u8], board: u8) -> u8
+// The right that a directory entry gives a board.
+fn right_given(entry: &[u8], board: u8) -> Right
     requires { (length entry.now ≡ entry_size) × (board < most_boards) }
-    ensures { result ≡ right_byte (right_in (decode_entry entry.now) board) }
+    ensures { result ≡ right_in (decode_entry entry.now) board }
 {
     if entry[OWNER_AT] == board {
-        return right_byte(Right::Own);
+        Right::Own
+    } else if entry[COPIES_AT].has(usize::from(board)) {
+        Right::Copy
+    } else {
+        Right::None
     }
-    if holds(wide(board), entry[COPIES_AT]) {
-        return right_byte(Right::Copy);
-    }
-    right_byte(Right::None)
 }
 
 // A frame of an up board is valid, and its right the directory's.
@@ -169,10 +144,7 @@ fn frame_agrees(entry: &[u8], frame: &[u8], board: u8) -> bool
     requires { (length entry.now ≡ entry_size) × (length frame.now ≡ frame_size) × (board < most_boards) }
     ensures { result ≡ frame_agrees entry.now frame.now board }
 {
-    if frame[RIGHT_AT] != right_given(entry, board) {
-        return false;
-    }
-    frame_valid(frame)
+    frame[RIGHT_AT] == u8::from(right_given(entry, board)) && frame_valid(frame)
 }
 
 // The frames of an up board and of its areas, a page of all three a turn.
@@ -183,23 +155,15 @@ fn frames_agree(directory: &[u8], block: &[u8], since: usize, pages: usize, boar
     let working = frames_at_in(since);
     let first = area_frames_at(since, pages, 0);
     let second = area_frames_at(since, pages, 1);
-    let mut page = 0;
-    while page < pages {
+    (0..pages).all(|page| {
         let a = page * ENTRY_SIZE;
         let b = working + page * FRAME_SIZE;
-        if !frame_agrees(
+        frame_agrees(
             &directory[a..a + ENTRY_SIZE],
             &block[b..b + FRAME_SIZE],
             board as u8,
-        ) {
-            return false;
-        }
-        if !frame_pair_valid(block, first + page * FRAME_SIZE, second + page * FRAME_SIZE) {
-            return false;
-        }
-        page += 1;
-    }
-    true
+        ) && frame_pair_valid(block, first + page * FRAME_SIZE, second + page * FRAME_SIZE)
+    })
 }
 
 // The frames of both areas.
@@ -223,20 +187,15 @@ fn down_frames_valid(block: &[u8], since: usize, pages: usize) -> bool
     let working = frames_at_in(since);
     let first = area_frames_at(since, pages, 0);
     let second = area_frames_at(since, pages, 1);
-    let mut page = 0;
-    while page < pages {
-        if !zero_frame(block, working + page * FRAME_SIZE) {
-            return false;
-        }
-        if !frame_pair_valid(block, first + page * FRAME_SIZE, second + page * FRAME_SIZE) {
-            return false;
-        }
-        page += 1;
-    }
-    true
+    (0..pages).all(|page| {
+        zero_frame(block, working + page * FRAME_SIZE)
+            && frame_pair_valid(block, first + page * FRAME_SIZE, second + page * FRAME_SIZE)
+    })
 }
 
-// All frames, and what board and directory say of each other. A board not up is looked for in one set, that of all who hold a copy.
+// All frames, and what board and directory say of each other. A board not up is looked for in one set, that of all who hold a copy. In a function of its
+// own its loops need no register of the search's.
+#[inline(never)]
 fn frames_fit(
     directory: &[u8],
     block: &[u8],
@@ -249,20 +208,15 @@ fn frames_fit(
         × Holders pages directory.now holders }
     ensures { result ≡ frames_fit (form_of since) (state_of (byte_at block.now state_at)) pages directory.now block.now board }
 {
-    let state = get(block, STATE_AT);
-    if state == state_byte(State::Up) {
-        return frames_agree(directory, block, since, pages, board);
+    match State::from(block[STATE_AT]) {
+        State::Up => frames_agree(directory, block, since, pages, board),
+        State::Down => !holders.has(board) && down_frames_valid(block, since, pages),
+        State::Replaying => {
+            !holders.has(board)
+                && stored_frames_valid(block, since, pages)
+                && frames_valid(block, pages, frames_at_in(since))
+        }
     }
-    if holds(board, holders) {
-        return false;
-    }
-    if state == state_byte(State::Down) {
-        return down_frames_valid(block, since, pages);
-    }
-    if !stored_frames_valid(block, since, pages) {
-        return false;
-    }
-    frames_valid(block, pages, frames_at_in(since))
 }
 
 // All of a block but its records.
@@ -278,11 +232,7 @@ pub fn block_fits(
         × Holders pages directory.now holders }
     ensures { result ≡ block_fits (form_of since) pages directory.now block.now board }
 {
-    if !fixed_fields_valid(block, since, pages) {
-        return false;
-    }
-    if !board_fields_valid(block, since, pages) {
-        return false;
-    }
-    frames_fit(directory, block, since, pages, board, holders)
+    fixed_fields_valid(block, since, pages)
+        && board_fields_valid(block, since, pages)
+        && frames_fit(directory, block, since, pages, board, holders)
 }

@@ -6,7 +6,6 @@ ghost use Rattle.validity.specs.Sizes.{BlockCounted};
 
 use crate::block::{area_count, volatile_count};
 use crate::parts::zero_run;
-use fields::bytes::wide;
 use fields::widths::{SINCE_SIZE, SLOT_SIZE, SLOTS_SIZE};
 use format::layout::{BOARDS_AT, PAGES_AT, area_at, area_slots_at, block_at, block_size, slots_at};
 
@@ -38,13 +37,9 @@ fn block_clean(block: &[u8], pages: usize) -> bool
     ensures { result ≡ block_clean today pages block.now }
 {
     let count = volatile_count(block, SINCE_SIZE, pages);
-    if !rest_zero(block, slots_at(pages), count) {
-        return false;
-    }
-    if !area_rest_zero(block, pages, 0) {
-        return false;
-    }
-    area_rest_zero(block, pages, 1)
+    rest_zero(block, slots_at(pages), count)
+        && area_rest_zero(block, pages, 0)
+        && area_rest_zero(block, pages, 1)
 }
 
 // Every board's block, of a bank that passed all other tests: so its length is that of its head, and no count is above 32.
@@ -52,16 +47,14 @@ pub fn slots_clean(bank: &[u8]) -> bool
     requires { formed_in today true bank.now ≡ true }
     ensures { result ≡ slots_clean today bank.now }
 {
-    let boards = wide(bank[BOARDS_AT]);
-    let pages = wide(bank[PAGES_AT]);
+    let boards = usize::from(bank[BOARDS_AT]);
+    let pages = usize::from(bank[PAGES_AT]);
     let size = block_size(pages);
-    let mut board = 0;
-    while board < boards {
+    for board in 0..boards {
         let a = block_at(pages, board);
         if !block_clean(&bank[a..a + size], pages) {
             return false;
         }
-        board += 1;
     }
     true
 }

@@ -1,10 +1,6 @@
 -- Document 01, "Line runner": "Lines: N n p; R b p o; W b p o v; C b (checkpoint); K b (cut); F b k; S b (restart). One space, .., at most 64 bytes."
 -- What a line's bytes, without the byte 10 that ends it, ask for. Assumes nothing.
-use Rattle.std.specs.Prelude.{ℕ, true, false, List, [], ◌∷◌, length, eqb, ltb}
-use Rattle.lines.specs.declared.number.Number.{Number}
-use Rattle.lines.specs.declared.number.Number.TheVariants as number_is
-use Rattle.lines.specs.declared.request.Numbers.{Numbers}
-use Rattle.lines.specs.declared.request.Numbers.TheVariants.{None, One, Two, Three, Four, Wrong}
+use Rattle.std.specs.Prelude.{ℕ, true, false, Option, Some, None, List, [], ◌∷◌, length, eqb, ltb}
 use Rattle.lines.specs.declared.request.Request.{Request}
 use Rattle.lines.specs.declared.request.Request.TheVariants.{Make, Read, Write, Checkpoint, Fuse, Restart, Unreadable}
 use Rattle.lines.specs.Definitions.Numbers.{number}
@@ -52,19 +48,20 @@ words (c ∷ l) = elim (eqb c space) [ true ↦ [] ∷ words l | false ↦ longe
 -- ---- the numbers behind the letter
 
 -- one number more; a line with more than four is none of the seven
-unfoldable pub and_one : Numbers → ℕ → Numbers
-and_one None a = One a
-and_one (One b) a = Two b a
-and_one (Two b c) a = Three b c a
-and_one (Three b c d) a = Four b c d a
-and_one (Four b c d e) a = Wrong
-and_one Wrong a = Wrong
+unfoldable pub and_one : Option (List ℕ) → ℕ → Option (List ℕ)
+and_one (Some []) a = Some (a ∷ [])
+and_one (Some (b ∷ [])) a = Some (b ∷ a ∷ [])
+and_one (Some (b ∷ c ∷ [])) a = Some (b ∷ c ∷ a ∷ [])
+and_one (Some (b ∷ c ∷ d ∷ [])) a = Some (b ∷ c ∷ d ∷ a ∷ [])
+and_one (Some (b ∷ c ∷ d ∷ e ∷ l)) a = None
+and_one None a = None
 
-unfoldable pub more : Numbers → Number → Numbers
-more f (number_is.Value a) = and_one f a
-more f number_is.Wrong = Wrong
+unfoldable pub more : Option (List ℕ) → Option ℕ → Option (List ℕ)
+more f (Some a) = and_one f a
+more f None = None
 
-unfoldable pub numbers_from : Numbers → List (List ℕ) → Numbers
+-- the numbers of the words, behind those of f; none where a word is no number, or where there are more than four
+unfoldable pub numbers_from : Option (List ℕ) → List (List ℕ) → Option (List ℕ)
 numbers_from f [] = f
 numbers_from f (w ∷ ws) = numbers_from (more f (number w)) ws
 
@@ -91,19 +88,20 @@ unfoldable pub with_four : ℕ → ℕ → ℕ → ℕ → ℕ → Request
 with_four c b p o v = elim (eqb c letter_w) [ true ↦ Write b p o v | false ↦ Unreadable ]
 
 -- the line with letter c and these numbers
-unfoldable pub request_of : ℕ → Numbers → Request
+unfoldable pub request_of : ℕ → Option (List ℕ) → Request
+request_of c (Some []) = Unreadable
+request_of c (Some (b ∷ [])) = with_one c b
+request_of c (Some (b ∷ k ∷ [])) = with_two c b k
+request_of c (Some (b ∷ p ∷ o ∷ [])) = with_three c b p o
+request_of c (Some (b ∷ p ∷ o ∷ v ∷ [])) = with_four c b p o v
+request_of c (Some (b ∷ p ∷ o ∷ v ∷ x ∷ l)) = Unreadable
 request_of c None = Unreadable
-request_of c (One b) = with_one c b
-request_of c (Two b k) = with_two c b k
-request_of c (Three b p o) = with_three c b p o
-request_of c (Four b p o v) = with_four c b p o v
-request_of c Wrong = Unreadable
 
 -- the first word is the letter alone
 unfoldable pub request_in : List (List ℕ) → Request
 request_in [] = Unreadable
 request_in ([] ∷ ws) = Unreadable
-request_in ((c ∷ []) ∷ ws) = request_of c (numbers_from None ws)
+request_in ((c ∷ []) ∷ ws) = request_of c (numbers_from (Some []) ws)
 request_in ((c ∷ d ∷ w) ∷ ws) = Unreadable
 
 unfoldable pub request : List ℕ → Request

@@ -1,8 +1,6 @@
 -- Document 01, "Line runner": "Numbers are decimal", "no leading zeros, numbers to 4,294,967,295". A number's bytes, and the number that bytes are.
 -- Assumes nothing.
-use Rattle.std.specs.Prelude.{ℕ, zero, suc, ◌+◌, ◌-◌, ◌*◌, ◌/◌, ◌%◌, Bool, true, false, ◌&&◌, ◌||◌, List, [], ◌∷◌, ◌++◌, length, get_or, eqb, ltb, leb}
-use Rattle.lines.specs.declared.number.Number.{Number}
-use Rattle.lines.specs.declared.number.Number.TheVariants.{Value, Wrong}
+use Rattle.std.specs.Prelude.{ℕ, zero, suc, ◌+◌, ◌-◌, ◌*◌, ◌/◌, ◌%◌, Bool, true, false, ◌&&◌, ◌||◌, Option, Some, None, List, [], ◌∷◌, ◌++◌, length, get_or, eqb, ltb, leb}
 use Rattle.model.specs.Definitions.Parts.{every}
 
 -- the digits "0" to "9" are the bytes 48 to 57
@@ -42,10 +40,10 @@ value_from v (c ∷ w) = value_from (10 * v + (c - digit_zero)) w
 unfoldable pub leading_zero : List ℕ → Bool
 leading_zero w = eqb (get_or w 0 0) digit_zero && ltb 1 (length w)
 
--- digits behind those that gave v, up to the largest number
-unfoldable pub digits_from : ℕ → List ℕ → Number
-digits_from v w = elim (every is_digit w && leb (value_from v w) largest_number) [ true ↦ Value (value_from v w) | false ↦ Wrong ]
+-- digits behind those that gave v, up to the largest number; none where a byte is no digit, or the number is larger
+unfoldable pub digits_from : ℕ → List ℕ → Option ℕ
+digits_from v w = elim (every is_digit w && leb (value_from v w) largest_number) [ true ↦ Some (value_from v w) | false ↦ None ]
 
--- the number that a word is
-unfoldable pub number : List ℕ → Number
-number w = elim (eqb (length w) 0 || leading_zero w) [ true ↦ Wrong | false ↦ digits_from 0 w ]
+-- the number that a word is, if it is one
+unfoldable pub number : List ℕ → Option ℕ
+number w = elim (eqb (length w) 0 || leading_zero w) [ true ↦ None | false ↦ digits_from 0 w ]

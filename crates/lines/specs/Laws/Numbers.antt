@@ -1,8 +1,9 @@
 -- Reading a number digit by digit, and printing one. Assumes nothing.
-use Rattle.std.specs.Prelude.{◌≡◌, ℕ, zero, suc, ◌+◌, ◌-◌, ◌*◌, ◌/◌, ◌%◌, ◌≤◌, ◌<◌, true, false, List, [], ◌∷◌, ◌++◌, length, drop, get_or, eqb, ltb, leb}
-use Rattle.std.proofs.Common.{arith, add-one, length-append, drop_of_length-le, drop-cons, eq-eqb, ne_eqb, lt-ltb, le-ltb, ltb-true, ltb-false, le-leb, leb-true}
+use Rattle.std.specs.Prelude.{◌≡◌, ℕ, zero, suc, ◌+◌, ◌-◌, ◌*◌, ◌/◌, ◌%◌, ◌^◌, ◌≤◌, ◌<◌, true, false, Some, None, List, [], ◌∷◌, ◌++◌, length, drop, get_or, eqb, ltb, leb}
+use Rattle.std.proofs.Common.{sym, ◌∙◌, arith, add-one, length-append, drop_of_length-le, drop-cons, eq-eqb, ne_eqb, lt-ltb, le-ltb, ltb-true, ltb-false, le-leb, leb-true}
 use Rattle.std.proofs.lemmas.Bool.{lt-leb}
-use Rattle.lines.specs.declared.number.Number.TheVariants.{Value, Wrong}
+use Rattle.std.specs.Fmt as std
+use Rattle.std.proofs.lemmas.Fmt.{decimal_by_steps}
 use Rattle.model.specs.Definitions.Parts.{every}
 use Rattle.lines.specs.Definitions.Numbers.{largest_number}
 use Rattle.model.proofs.Laws.Logic.{by_bool, and_left}
@@ -18,11 +19,11 @@ value_grows v [] = omega arith
 value_grows v (c ∷ w) =
     let h : 10 * v + (c - digit_zero) ≤ value_from (10 * v + (c - digit_zero)) w = value_grows (10 * v + (c - digit_zero)) w in omega arith
 
-pub digits_end : (v : ℕ) → v ≤ largest_number → digits_from v [] ≡ Value v
+pub digits_end : (v : ℕ) → v ≤ largest_number → digits_from v [] ≡ Some v
 unfolding digits_from every value_from
 digits_end v h = cc (le-leb v largest_number h)
 
-pub digits_other : (v c : ℕ) (w : List ℕ) → is_digit c ≡ false → digits_from v (c ∷ w) ≡ Wrong
+pub digits_other : (v c : ℕ) (w : List ℕ) → is_digit c ≡ false → digits_from v (c ∷ w) ≡ None
 unfolding digits_from every
 digits_other v c w e = cc e
 
@@ -30,7 +31,7 @@ pub digits_next : (v c : ℕ) (w : List ℕ) → is_digit c ≡ true → digits_
 unfolding digits_from every value_from
 digits_next v c w e = cc e
 
-pub digits_over : (v : ℕ) (w : List ℕ) → largest_number < v → digits_from v w ≡ Wrong
+pub digits_over : (v : ℕ) (w : List ℕ) → largest_number < v → digits_from v w ≡ None
 unfolding digits_from
 digits_over v w h =
     let k : leb (value_from v w) largest_number ≡ false = lt-leb (value_from v w) largest_number (omega (arith, value_grows v w)) in
@@ -41,15 +42,18 @@ unfolding is_digit
 digit_least c t = leb-true digit_zero c (and_left (leb digit_zero c) _ t)
 
 -- the same at a place of a word
-pub digits_end_at : (v : ℕ) (l : List ℕ) (i : ℕ) → v ≤ largest_number → length l ≤ i → digits_from v (drop i l) ≡ Value v
+pub digits_end_at : (v : ℕ) (l : List ℕ) (i : ℕ) → v ≤ largest_number → length l ≤ i → digits_from v (drop i l) ≡ Some v
 digits_end_at v l i h k = rw (drop_of_length-le l k) (digits_end v h)
 
 module _ (v : ℕ) (l : List ℕ) (i : ℕ) (h : i < length l) where
-  pub digits_other_at : is_digit (get_or l i 0) ≡ false → digits_from v (drop i l) ≡ Wrong
+  pub digits_other_at : is_digit (get_or l i 0) ≡ false → digits_from v (drop i l) ≡ None
   digits_other_at e = rw (drop-cons l i 0 h) (digits_other v (get_or l i 0) (drop (suc i) l) e)
 
   pub digits_next_at : is_digit (get_or l i 0) ≡ true → digits_from v (drop i l) ≡ digits_from (10 * v + (get_or l i 0 - digit_zero)) (drop (i + 1) l)
   digits_next_at e = rw (drop-cons l i 0 h, add-one i) (digits_next v (get_or l i 0) (drop (suc i) l) e)
+
+  pub digits_over_at : is_digit (get_or l i 0) ≡ true → largest_number < 10 * v + (get_or l i 0 - digit_zero) → digits_from v (drop i l) ≡ None
+  digits_over_at e k = digits_next_at e ∙ digits_over _ _ k
 
 -- ---- a number, by the tests of the code
 
@@ -61,11 +65,11 @@ pub leading_long : (w : List ℕ) → 1 < length w → leading_zero w ≡ eqb (g
 unfolding leading_zero
 leading_long w h = by_bool (eqb (get_or w 0 0) digit_zero) (λ t. cc (t, lt-ltb 1 (length w) h)) (λ t. cc t)
 
-pub number_empty : (w : List ℕ) → length w ≡ 0 → number w ≡ Wrong
+pub number_empty : (w : List ℕ) → length w ≡ 0 → number w ≡ None
 unfolding number
 number_empty w h = cc (eq-eqb (length w) 0 h)
 
-pub number_leading : (w : List ℕ) → (length w ≡ 0 → ⊥) → leading_zero w ≡ true → number w ≡ Wrong
+pub number_leading : (w : List ℕ) → (length w ≡ 0 → ⊥) → leading_zero w ≡ true → number w ≡ None
 unfolding number
 number_leading w h e = cc (ne_eqb (length w) 0 h, e)
 
@@ -115,3 +119,8 @@ decimal_short (suc k) n h =
 pub decimal_fits : (n : ℕ) → n ≤ largest_number → length (decimal n) ≤ most_digits
 unfolding tens
 decimal_fits n h = decimal_short 9 n (omega arith)
+
+-- std's digits of a number are these
+pub std_decimal : (n : ℕ) → n < 2 ^ 64 → std.decimal n ≡ decimal n
+std_decimal n h =
+    decimal_by_steps (λ n ds. ds ≡ decimal n) (λ n h. sym (decimal_one n h)) (λ n ds h e. rw e (sym (decimal_more n h))) n h

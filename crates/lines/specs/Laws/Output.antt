@@ -1,6 +1,7 @@
 -- Bytes put into a buffer one behind the other, and how many a line has. Assumes nothing.
-use Rattle.std.specs.Prelude.{◌≡◌, refl, ℕ, ◌+◌, ◌/◌, ◌%◌, ◌≤◌, ◌<◌, List, [], ◌∷◌, ◌++◌, length, take, drop, set}
-use Rattle.std.proofs.Common.{sym, ap, ◌∙◌, arith, length-append, take_at}
+use Rattle.std.specs.Prelude.{◌≡◌, refl, ℕ, ◌+◌, ◌-◌, ◌/◌, ◌%◌, ◌≤◌, ◌<◌, List, [], ◌∷◌, ◌++◌, length, take, drop, set}
+use Rattle.std.proofs.Common.{sym, ap, ◌∙◌, arith, length-append, drop-drop, take_at}
+use borrow.Rule.Slice.PartMut.{put_mid}
 use Rattle.model.specs.Definitions.Parts.{splice}
 use Rattle.model.proofs.Laws.Parts.{splice_next, splice_one, length_splice}
 use Rattle.lines.specs.Definitions.Numbers.{largest_number, digit_zero, decimal}
@@ -40,6 +41,13 @@ module _ {l v m : List ℕ} {n : ℕ} (p : Put l 0 v m n) where
 
 pub put_as : {l : List ℕ} {a : ℕ} {v w k : List ℕ} {b : ℕ} → v ≡ w → Put l a w k b → Put l a v k b
 put_as e p = rw e p
+
+-- bytes copied into a part of the buffer
+pub put_copied : (l : List ℕ) (a : ℕ) (v d part : List ℕ) → d ≡ v → part ≡ d → Put l a v (put_mid a (a + length d - a) l part) (a + length d)
+unfolding splice
+put_copied l a v d part e f =
+    let k : a + length v - a ≡ length v = omega arith in
+    record { bytes = rw (f, e, k) (ap (λ (x : List ℕ). take a l ++ (v ++ x)) (drop-drop (length v) a l)); end = ap (λ (x : List ℕ). a + length x) e }
 
 -- ---- a number's digits
 

@@ -2,15 +2,12 @@
 -- in today's. Each reader takes exactly its part. Readers are total; bytes that no writer makes are told apart by WellFormed. Assumes nothing.
 use Rattle.std.specs.Prelude.{ℕ, zero, suc, ◌*◌, ◌-◌, Bool, true, false, List, [], ◌∷◌, ◌++◌, length, drop, eqb}
 use Rattle.words.specs.LittleEndian.{bytes_of, number_of}
-use Rattle.types.specs.declared.Right.{Right}
-use Rattle.types.specs.declared.Right.TheVariants.{None, Copy, Own}
+unfoldable pub use Rattle.types.specs.Bytes.{right_byte, right_of, state_byte, state_of}
 use Rattle.types.specs.declared.Frame.{Frame}
 use Rattle.types.specs.declared.CopyOrOwn.TheVariants.{GotCopy, GotOwn}
 use Rattle.types.specs.declared.Kind.{Kind}
 use Rattle.types.specs.declared.Kind.TheVariants.{Got, Shown, Dropped}
 use Rattle.types.specs.declared.Record.{Record}
-use Rattle.types.specs.declared.State.{State}
-use Rattle.types.specs.declared.State.TheVariants.{Up, Down, Replaying}
 use Rattle.model.specs.Definitions.Parts.{part, byte_at, zeros, encode_all, decode_all}
 use Rattle.model.specs.Definitions.Layout.{page_size, entry_size, frame_size, slot_size_in, slots_size_in, owner_at, copies_at, right_at, frame_bytes_at, mark0_at}
 use Rattle.model.specs.Definitions.Layout.{mark1_at, slot_page_at, slot_peer_at, slot_bytes_at_in, letter_g, letter_c, letter_o, letter_s, letter_h, letter_d}
@@ -28,17 +25,7 @@ encode_entry e = e.owner ∷ e.copies ∷ []
 unfoldable pub decode_entry : List ℕ → Entry
 decode_entry l = record { owner = byte_at l owner_at; copies = byte_at l copies_at }
 
--- ---- "A frame is a right (0 none, 1 copy, 2 own) and 16 page bytes"
-
-unfoldable pub right_byte : Right → ℕ
-right_byte None = 0
-right_byte Copy = 1
-right_byte Own = 2
-
-unfoldable pub right_of : ℕ → Right
-right_of zero = None
-right_of (suc zero) = Copy
-right_of (suc (suc n)) = Own
+-- ---- "A frame is a right (0 none, 1 copy, 2 own) and 16 page bytes"; right_byte and right_of stand with the type
 
 unfoldable pub encode_frame : Frame → List ℕ
 encode_frame f = right_byte f.right ∷ f.bytes
@@ -76,17 +63,7 @@ kind_of m0 m1 p =
 unfoldable pub decode_frames : ℕ → List ℕ → List Frame
 decode_frames pages l = decode_all decode_frame frame_size pages l
 
--- ---- "state (0 up, 1 dark, 2 replaying), selector (0 or 1)"
-
-unfoldable pub state_byte : State → ℕ
-state_byte Up = 0
-state_byte Down = 1
-state_byte Replaying = 2
-
-unfoldable pub state_of : ℕ → State
-state_of zero = Up
-state_of (suc zero) = Down
-state_of (suc (suc n)) = Replaying
+-- ---- "state (0 up, 1 dark, 2 replaying), selector (0 or 1)"; state_byte and state_of stand with the type
 
 unfoldable pub selector_byte : Bool → ℕ
 selector_byte false = 0

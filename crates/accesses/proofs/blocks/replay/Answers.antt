@@ -1,10 +1,7 @@
 -- `accesses::blocks::replay` meets its contract: the gots that are due, the bytes, the access, and whether a record is left. Assumes nothing.
 use mathlib.Core.Path.{◌≡◌, sym, ap, ◌∙◌}
-use Prim.Native.Nat.{◌<◌}
-use native.Mathlib.Omega.{arith}
 use mathlib.Core.Bool.{false}
 use mathlib.Core.List.{map}
-use Rattle.model.specs.Definitions.Layout.{byte_values}
 use Rattle.model.specs.Definitions.Bank.{Board}
 use Rattle.model.specs.Definitions.Codec.{encode_board}
 use Rattle.model.specs.Definitions.WellFormed.{FieldsOk}
@@ -23,9 +20,6 @@ use Rattle.accesses.proofs.blocks.replay.Goals as goal
 taken_ok : (c : Start) → FieldsOk c.args.pages (took_due (board_of c.args.pages c.args.block.now))
 taken_ok c = took_due_fields (board_of c.args.pages c.args.block.now) c.requires.0.fields
 
-small : (c : Start) → c.args.ask.value < byte_values
-small c = omega arith
-
 -- the bytes after the gots, and the board that they stand for
 took_board : (c : After-take_due) → board_of c.args.pages c.take_due.new.block ≡ (took_due (board_of c.args.pages c.args.block.now))
 took_board c = board_written (took_due (board_of c.args.pages c.args.block.now)) c.requires.0.few (took_due_fields (board_of c.args.pages c.args.block.now) c.requires.0.fields) c.take_due.ensures
@@ -40,7 +34,7 @@ left c = sym (c.replay_over.ensures ∙ ap replay_over (board_written (took_due 
 -- the access repeated, and the bytes after it
 again_ok : (c : Else-replay_over) (a : Access) → Stands c.args.pages a c.args.ask → Repeats a (board_of c.args.pages c.args.block.now)
     → FieldsOk c.args.pages (replayed a (took_due (board_of c.args.pages c.args.block.now)))
-again_ok c a s h = repeated_fields c.requires.0.fields a h c.args.ask s (omega arith) (sym (c.replay_over.ensures ∙ ap replay_over (board_written (took_due (board_of c.args.pages c.args.block.now)) c.requires.0.few (took_due_fields (board_of c.args.pages c.args.block.now) c.requires.0.fields) c.take_due.ensures)) ∙ c.if-replay_over.false)
+again_ok c a s h = repeated_fields c.requires.0.fields a h c.args.ask s c.requires.1.small (sym (c.replay_over.ensures ∙ ap replay_over (board_written (took_due (board_of c.args.pages c.args.block.now)) c.requires.0.few (took_due_fields (board_of c.args.pages c.args.block.now) c.requires.0.fields) c.take_due.ensures)) ∙ c.if-replay_over.false)
 
 did : (c : After-replay_access) (a : Access) → Stands c.args.pages a c.args.ask
     → c.replay_access.new.block ≡ encode_board (replayed a (took_due (board_of c.args.pages c.args.block.now)))
@@ -73,7 +67,7 @@ replay_access-requires c =
       rw e (taken_number c.requires.0.fields a h),
       rw e (taken_since c.requires.0.fields a h),
       c.requires.1.byte,
-      rw e (taken_writable c.requires.0.fields a h c.args.ask c.requires.2.1 (small (goal.at.replay_access-requires c).Start) (left (goal.at.replay_access-requires c).Else-replay_over)),
+      rw e (taken_writable c.requires.0.fields a h c.args.ask c.requires.2.1 c.requires.1.small (left (goal.at.replay_access-requires c).Else-replay_over)),
     )
 
 pub replay_over-requires-2 : goal.replay_over-requires-2

@@ -4,7 +4,6 @@ use Rattle.steps.specs.BankBlocks.{LentBlock, lent_in, lent_block, lent_board}
 use Rattle.model.specs.Definitions.Steps.{lacks_page}
 use Rattle.model.specs.Definitions.Codec.{decode}
 use Rattle.model.specs.Definitions.Bank.{Board}
-use native.Mathlib.Omega.{arith}
 use mathlib.Core.Path.{ap, ◌∙◌}
 use Rattle.accesses.proofs.live.board_lacks.Goals.{After-block_size-size}
 use Rattle.accesses.proofs.live.board_lacks.Goals as goal
@@ -14,9 +13,6 @@ lent : (c : After-block_size-size)
     → LentBlock (decode c.args.bank.now) c.args.bank.now c.args.pages
     c.args.ask.board c.block_at-a.result c.block_size-size.result
 lent c = lent_of c.requires _ _ c.block_at-a.ensures c.block_size-size.ensures
-
-pub overflow_add-a : goal.overflow_add-a
-overflow_add-a c = omega (arith, lent_in (lent c))
 
 pub slice_bounds-lacking_pages-end : goal.slice_bounds-lacking_pages-end
 slice_bounds-lacking_pages-end c = lent_in (lent c)
@@ -30,5 +26,5 @@ returns c =
     record {
       stands = s;
       lacks = λ p.
-          c.lacking_pages.ensures a s.takes p ∙ ap (λ (x : Board). lacks_page a x.working.frames p) (lent_board (lent (goal.at.returns c).After-block_size-size));
+          c.lacking_pages.ensures a (rw c.is_some.ensures s.takes) p ∙ ap (λ (x : Board). lacks_page a x.working.frames p) (lent_board (lent (goal.at.returns c).After-block_size-size));
     }

@@ -1,13 +1,6 @@
 -- `accesses::live::giver_missing` meets its contract. Assumes nothing.
-use mathlib.Core.Path.{sym, ◌∙◌}
 use Rattle.copies.specs.Directory.{of_owner}
 use Rattle.accesses.proofs.live.giver_missing.Goals as goal
 
 pub nobody_gives-requires : goal.nobody_gives-requires
 nobody_gives-requires c = let pre = c.requires in (of_owner pre.0 pre.1 _ pre.2, pre.2)
-
-pub returns-then-has : goal.returns-then-has
-returns-then-has c = rw (sym c.has.ensures ∙ c.if-has.true) c.nobody_gives.ensures
-
-pub returns : goal.returns
-returns c = rw (sym c.has.ensures ∙ c.if-has.false)

@@ -1,43 +1,31 @@
 -- `accesses::live::live_verdict` meets its contract: code 6, then code 7. Assumes nothing.
-use mathlib.Core.Path.{subst, ◌∙◌}
+use mathlib.Core.Path.{subst, ap, ◌∙◌, refl}
 use Prim.Native.Nat.{ℕ}
-use native.Mathlib.Omega.{arith}
-use borrow.Author.Tests.{not-true}
 use Rattle.model.specs.Definitions.Codec.{decode}
 use Rattle.copies.specs.Directory.{entry_at_lem, owner_told}
+use Rattle.std.specs.Prelude.{not}
 use Rattle.accesses.specs.Asks.{Lacking}
-use Rattle.accesses.specs.Results.{refusal}
-use Rattle.accesses.proofs.Prepared.{refuses_owner, refuses_short, refuses_none, passes_idle}
+use Rattle.accesses.proofs.Prepared.{none_told, refuses_owner, refuses_short, refuses_none, passes_idle}
 use Rattle.accesses.proofs.live.live_verdict.Goals as goal
 
-pub returns-then-not-writes : goal.returns-then-not-writes
-unfolding refusal
-returns-then-not-writes c =
+pub returns-then-is_none : goal.returns-then-is_none
+returns-then-is_none c =
     λ a l.
     passes_idle (subst (λ (n : ℕ). Lacking c.args.pages a c.args.ask n (decode c.args.bank.now)) c.if-lacking-eq0.true l)
-    c.requires.0.bank.count c.requires.0.formed (not-true c.args.ask.writes c.if-not-writes.true-raw)
+    c.requires.0.bank.count c.requires.0.formed (none_told _ (c.is_none.ensures ∙ ap not c.if-is_none.true))
 
 pub read_owner-requires : goal.read_owner-requires
-read_owner-requires c = entry_at_lem c.requires.0.bank _ c.if-missing-pages.true
+read_owner-requires c = entry_at_lem c.requires.0.bank _ c.in-Some.ensures.within
 
-pub returns-then-missing-pages : goal.returns-then-missing-pages
-unfolding refusal
-returns-then-missing-pages c =
-    let inside = c.if-missing-pages.true in
+pub returns-in-Some : goal.returns-in-Some
+returns-in-Some c =
     λ a l.
-    refuses_owner l c.requires.0.bank.count _ c.missing_page-missing.ensures.found _
-    (c.read_owner.ensures ∙ owner_told c.requires.0.bank _ inside) inside
+    refuses_owner l c.requires.0.bank.count (rw c.is_some.ensures at c.in-Some.ensures.found) _ _ refl
+    (c.read_owner.ensures ∙ owner_told c.requires.0.bank _ c.in-Some.ensures.within)
 
-pub returns-then-short-boards : goal.returns-then-short-boards
-unfolding refusal
-returns-then-short-boards c =
-    λ a l.
-    refuses_short l c.requires.0.bank.count _ c.missing_page-missing.ensures.found (omega arith) _ _ c.if-short-boards.true
-    (c.short_board-short.ensures.found a l)
+pub returns-in-Some-short_board : goal.returns-in-Some-short_board
+returns-in-Some-short_board c =
+    λ a l. refuses_short l c.requires.0.bank.count (rw c.is_some.ensures at c.in_default.ensures.found) refl _ (c.in-Some-short_board.ensures.found a l)
 
-pub returns : goal.returns
-unfolding refusal
-returns c =
-    λ a l.
-    refuses_none l c.requires.0.bank.count _ c.missing_page-missing.ensures.found (omega arith) _ _ (omega arith)
-    (c.short_board-short.ensures.found a l)
+pub returns-in-None : goal.returns-in-None
+returns-in-None c = λ a l. refuses_none l c.requires.0.bank.count (rw c.is_some.ensures at c.in_default.ensures.found) refl (c.in-None.ensures.found a l)

@@ -5,19 +5,19 @@ use Rattle.accesses.specs.Needs.{found_at, found_none, search_on, search_begins}
 use Rattle.accesses.proofs.live.missing_page.Goals as goal
 
 pub loop-page-init : goal.loop-page-init
-loop-page-init c = (omega arith, search_begins _ _)
+loop-page-init c = search_begins _ _
 
-pub returns-then-giver_missing : goal.returns-then-giver_missing
-returns-then-giver_missing c =
+pub returns-then-giver_missing-clause-found : goal.returns-then-giver_missing-clause-found
+returns-then-giver_missing-clause-found c =
     let loop = c.loop-page in
-    record { found = found_at c.args.pages loop.page _ loop.invariant.1 (omega arith) (sym c.giver_missing.ensures ∙ c.if-giver_missing.true); within = omega arith }
+    found_at c.args.pages loop.page _ loop.invariant (omega arith) (sym c.giver_missing.ensures ∙ c.if-giver_missing.true)
 
 pub loop-page-preserved : goal.loop-page-preserved
 loop-page-preserved c =
     let loop = c.loop-page in
-    (omega arith, search_on c.args.pages loop.page _ loop.invariant.1 (omega arith) (sym c.giver_missing.ensures ∙ c.if-giver_missing.false))
+    search_on c.args.pages loop.page _ loop.invariant (omega arith) (sym c.giver_missing.ensures ∙ c.if-giver_missing.false)
 
-pub returns : goal.returns
-returns c =
+pub returns-clause-found : goal.returns-clause-found
+returns-clause-found c =
     let loop = c.loop-page in
-    record { found = found_none c.args.pages loop.page _ loop.invariant.1 (omega arith); within = omega arith }
+    found_none c.args.pages loop.page _ loop.invariant (omega arith)

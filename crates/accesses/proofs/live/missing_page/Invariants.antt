@@ -1,6 +1,6 @@
 -- `accesses::live::missing_page` meets its contract: the loop's invariant says that no lower page is found. Assumes nothing.
 use mathlib.Core.Path.{◌≡◌}
-use Prim.Native.Nat.{ℕ, ◌-◌, ◌≤◌}
+use Prim.Native.Nat.{ℕ, ◌-◌}
 use mathlib.Core.Bool.{Bool, ◌&&◌}
 use mathlib.Core.List.{List}
 use Rattle.model.specs.Definitions.Parts.{first_from, first_below, member}
@@ -15,7 +15,4 @@ missing bank lacking writes p = member p lacking && nobody_gives (got writes) (d
 
 abbrev pub invariant-loop-page : goal.invariant-loop-page
 invariant-loop-page l =
-    (l.page ≤ l.pages) × (first_below l.pages (missing l.bank l.lacking l.writes) ≡ first_from l.page (l.pages - l.page) (missing l.bank l.lacking l.writes))
-
-abbrev pub decreases-loop-page : goal.decreases-loop-page
-decreases-loop-page l = l.pages - l.page
+    first_below l.pages (missing l.bank l.lacking l.writes) ≡ first_from l.page (l.pages - l.page) (missing l.bank l.lacking l.writes)

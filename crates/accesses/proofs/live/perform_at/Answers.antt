@@ -5,7 +5,6 @@ use Rattle.accesses.specs.Asks.{performed_fields}
 use Rattle.model.specs.Definitions.Steps.{cells_asked, cell_byte, accessed, access}
 use Rattle.model.specs.Definitions.Codec.{decode}
 use Rattle.model.specs.Definitions.Bank.{Board, on_working}
-use native.Mathlib.Omega.{arith}
 use mathlib.Core.Path.{ap, ◌∙◌}
 use mathlib.Core.List.{map}
 use Rattle.accesses.proofs.live.perform_at.Goals.{After-block_size-size}
@@ -17,9 +16,6 @@ lent : (c : After-block_size-size)
     c.args.pages c.args.ask.board c.block_at-a.result
     c.block_size-size.result
 lent c = lent_of c.requires.0 _ _ c.block_at-a.ensures c.block_size-size.ensures
-
-pub overflow_add-a : goal.overflow_add-a
-overflow_add-a c = omega (arith, lent_in (lent c))
 
 pub slice_bounds-perform_cells-end : goal.slice_bounds-perform_cells-end
 slice_bounds-perform_cells-end c = lent_in (lent c)
@@ -40,5 +36,5 @@ returns c =
       read = did.ensures.read ∙ ap (λ (x : Board). map (cell_byte x.working.frames) (cells_asked c.args.cells.now)) (lent_board block);
       did = λ a s ready.
           lent_holds c.requires.0 block (on_working (accessed a)) did.new.block
-          (performed_fields a q s (omega arith) (lent_fields block) ready.right ready.number ready.since) did.auto.block (did.ensures.did a s);
+          (performed_fields a q s c.requires.1.small (lent_fields block) ready.right ready.number ready.since) did.auto.block (did.ensures.did a s);
     }

@@ -4,39 +4,28 @@ use native.Mathlib.Omega.{arith}
 use Rattle.accesses.specs.Needs.{sum_begins, sum_on, sum_ends, need_written, need_zero, need_of}
 use Rattle.accesses.proofs.need.need.Goals as goal
 
-pub page_need-requires : goal.page_need-requires
-page_need-requires c = let pre = c.requires in (pre.0, pre.1, pre.2 c.if-ask.true)
+pub returns-in-Some-clause-need : goal.returns-in-Some-clause-need
+returns-in-Some-clause-need c =
+    let page = rw c.in-Some.is at c.requires.2 in
+    λ a l.
+    c.page_need.ensures.need a l
+    ∙ (need_written l c.args.board c.in-Some.w c.in-Some.is page ∙ need_of _ _ a _ _ c.requires.0.count)
 
-pub returns-then-ask : goal.returns-then-ask
-returns-then-ask c =
-    let written = c.if-ask.true in
-    record {
-      need = λ a l.
-          c.page_need.ensures.need a l
-          ∙ (need_written l c.args.board written (c.requires.2 written) ∙ need_of _ _ a _ _ c.requires.0.count);
-      few = omega (arith, c.page_need.ensures.few, c.requires.2 written);
-    }
-
-pub returns-then-lacking-eq0 : goal.returns-then-lacking-eq0
-returns-then-lacking-eq0 c =
-    record { need = λ a l. need_zero l c.args.board c.if-ask.false c.if-lacking-eq0.true ∙ need_of _ _ a _ _ c.requires.0.count; few = omega arith }
+pub returns-then-lacking-eq0-clause-need : goal.returns-then-lacking-eq0-clause-need
+returns-then-lacking-eq0-clause-need c =
+    λ a l. need_zero l c.args.board c.in_default.is c.if-lacking-eq0.true ∙ need_of _ _ a _ _ c.requires.0.count
 
 pub loop-page-init : goal.loop-page-init
-loop-page-init c = (omega arith, omega arith, λ a l. sum_begins _ _)
-
-pub overflow_add-need : goal.overflow_add-need
-overflow_add-need c =
-    omega (arith, c.page_need-need.ensures.few, c.requires.0.count, c.requires.0.bank.sizes.pages)
+loop-page-init c = (omega arith, λ a l. sum_begins _ _)
 
 pub loop-page-preserved : goal.loop-page-preserved
 loop-page-preserved c =
     let loop = c.loop-page in (
-      omega arith,
       omega (arith, c.page_need-need.ensures.few),
-      λ a l. sum_on _ _ loop.need loop.page _ (omega arith) (c.page_need-need.ensures.need a l) (loop.invariant.2 a l),
+      λ a l. sum_on _ _ loop.need loop.page _ (omega arith) (c.page_need-need.ensures.need a l) (loop.invariant.1 a l),
     )
 
-pub returns : goal.returns
-returns c =
+pub returns-clause-need : goal.returns-clause-need
+returns-clause-need c =
     let loop = c.loop-page in
-    record { need = λ a l. sum_ends _ _ loop.need loop.page (omega arith) (loop.invariant.2 a l) ∙ need_of _ _ a _ _ c.requires.0.count; few = omega arith }
+    λ a l. sum_ends _ _ loop.need loop.page (omega arith) (loop.invariant.1 a l) ∙ need_of _ _ a _ _ c.requires.0.count

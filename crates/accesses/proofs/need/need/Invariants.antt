@@ -10,9 +10,6 @@ use Rattle.accesses.proofs.need.need.Given as goal
 
 abbrev pub invariant-loop-page : goal.invariant-loop-page
 invariant-loop-page l =
-    (l.page ≤ l.pages) × (l.need ≤ 2 * l.page)
+    (l.need ≤ 2 * l.page)
     × ((a : Access) → Lacking l.pages a l.ask l.lacking (decode l.bank)
     → l.need + sum_from l.page (l.pages - l.page) (page_need l.ask.board a (decode l.bank) l.board) ≡ sum_below l.pages (page_need l.ask.board a (decode l.bank) l.board))
-
-abbrev pub decreases-loop-page : goal.decreases-loop-page
-decreases-loop-page l = l.pages - l.page

@@ -1,6 +1,6 @@
 -- `accesses::need::short_board` meets its contract: the loop's invariant says that no lower board is short. Assumes nothing.
 use mathlib.Core.Path.{◌≡◌}
-use Prim.Native.Nat.{◌-◌, ◌≤◌}
+use Prim.Native.Nat.{◌-◌}
 use Rattle.model.specs.Definitions.Parts.{first_from, first_below}
 use Rattle.model.specs.Definitions.Codec.{decode}
 use Rattle.model.specs.Definitions.Steps.{Access}
@@ -10,9 +10,5 @@ use Rattle.accesses.proofs.need.short_board.Given as goal
 
 abbrev pub invariant-loop-board : goal.invariant-loop-board
 invariant-loop-board l =
-    (l.board ≤ l.boards)
-    × ((a : Access) → Lacking l.pages a l.ask l.lacking (decode l.bank)
-    → first_below l.boards (short l.ask.board a (decode l.bank)) ≡ first_from l.board (l.boards - l.board) (short l.ask.board a (decode l.bank)))
-
-abbrev pub decreases-loop-board : goal.decreases-loop-board
-decreases-loop-board l = l.boards - l.board
+    (a : Access) → Lacking l.pages a l.ask l.lacking (decode l.bank)
+    → first_below l.boards (short l.ask.board a (decode l.bank)) ≡ first_from l.board (l.boards - l.board) (short l.ask.board a (decode l.bank))

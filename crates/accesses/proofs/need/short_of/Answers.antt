@@ -1,10 +1,9 @@
 -- `accesses::need::short_of` meets its contract: the counts are read in the board's block, which is lent. Assumes nothing.
-use Rattle.accesses.specs.Needs.{room_short, room_kept}
+use Rattle.accesses.specs.Needs.{room_short}
 use Rattle.copies.specs.Banks.{lent_of}
 use Rattle.steps.specs.BankBlocks.{LentBlock, lent_in, lent_block, lent_board}
 use Rattle.model.specs.Definitions.Codec.{decode}
 use Rattle.model.specs.Definitions.Bank.{board_at}
-use native.Mathlib.Omega.{arith}
 use Rattle.accesses.proofs.need.short_of.Goals.{After-block_size-size}
 use Rattle.accesses.proofs.need.short_of.Goals as goal
 
@@ -13,12 +12,6 @@ lent : (c : After-block_size-size)
     → LentBlock (decode c.args.bank.now) c.args.bank.now
     c.args.pages c.args.board c.block_at-a.result c.block_size-size.result
 lent c = lent_of c.requires.0 _ _ c.block_at-a.ensures c.block_size-size.ensures
-
-pub returns-then-need-eq0 : goal.returns-then-need-eq0
-returns-then-need-eq0 c = room_kept (board_at (decode c.args.bank.now) c.args.board) _ c.if-need-eq0.true c.requires.1
-
-pub overflow_add-a : goal.overflow_add-a
-overflow_add-a c = omega (arith, lent_in (lent c))
 
 pub slice_bounds-room-end : goal.slice_bounds-room-end
 slice_bounds-room-end c = lent_in (lent c)

@@ -3,10 +3,10 @@ use Rattle.accesses.specs.Results.{ended_as}
 use mathlib.Core.Path.{refl}
 use Rattle.accesses.proofs.outcome.ended.Goals as goal
 
-pub returns-then-stored : goal.returns-then-stored
+pub returns-in-Ok : goal.returns-in-Ok
 unfolding ended_as
-returns-then-stored c = (cc, refl)
+returns-in-Ok c = rw c.in-Ok.is (refl, refl)
 
-pub returns : goal.returns
+pub returns-in-Err : goal.returns-in-Err
 unfolding ended_as
-returns c = (cc, refl)
+returns-in-Err c = rw c.in-Err.is (refl, refl)

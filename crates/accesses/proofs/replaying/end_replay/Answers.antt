@@ -2,7 +2,7 @@
 -- nothing.
 use Rattle.accesses.specs.Ends.{end_replay_told}
 use Rattle.copies.specs.Banks.{lent_of}
-use Rattle.exchange.specs.LentRuns.{run_of, run_going, run_lost}
+use Rattle.exchange.specs.LentRuns.{lost_told, run_of, run_going, run_lost}
 use Rattle.exchange.specs.Progress.{running}
 use Rattle.stores.specs.Lifted.{lifted}
 use Rattle.stores.specs.RunFields.{checkpoint_on_fields}
@@ -15,7 +15,7 @@ use Rattle.model.specs.Definitions.Parts.{member}
 use Rattle.model.specs.Definitions.BoardRuns.{BoardRun, checkpoint_on}
 use Rattle.model.proofs.Laws.BoardFields.{settled_fields}
 use native.Mathlib.Omega.{arith}
-use mathlib.Core.Path.{◌≡◌}
+use mathlib.Core.Path.{◌≡◌, sym, ◌∙◌}
 use Prim.Native.Nat.{ℕ}
 use Rattle.accesses.proofs.replaying.end_replay.Goals.{After-block_size-size}
 use Rattle.accesses.proofs.replaying.end_replay.Goals as goal
@@ -45,9 +45,6 @@ is_run c n =
     end_replay_told c.args.board n (decode c.args.bank.now) c.requires.0.board c.args.pages c.owned_pages-owned.result
     c.requires.0.count (lent_fields (lent c)).working.frames.count c.owned_pages-owned.ensures
 
-pub overflow_add-a : goal.overflow_add-a
-overflow_add-a c = omega (arith, lent_in (lent c))
-
 pub slice_bounds-end_replay-end : goal.slice_bounds-end_replay-end
 slice_bounds-end_replay-end c = lent_in (lent c)
 
@@ -60,24 +57,18 @@ forget-requires c =
     let bank = run_of c.requires.0 (lent (goal.at.forget-requires c).After-block_size-size) (run c.args.pages c.owned_pages-owned.result) (fields (goal.at.forget-requires c).After-block_size-size) ran.new.block ran.auto.block ran.ensures.run.0 in
     (bank.bank, bank.count, omega (arith, bank.board, bank.bank.sizes.boards))
 
-pub returns-then-stored : goal.returns-then-stored
-returns-then-stored c =
+pub returns-then-is_err-clause-run : goal.returns-then-is_err-clause-run
+returns-then-is_err-clause-run c =
     let ran = c.end_replay-stored in
-    record {
-      run = λ n.
-          rw (is_run (goal.at.returns-then-stored c).After-block_size-size n)
-          (run_lost c.requires.0 (lent (goal.at.returns-then-stored c).After-block_size-size) (run c.args.pages c.owned_pages-owned.result) (fields (goal.at.returns-then-stored c).After-block_size-size) ran.new.block ran.auto.block ran.ensures.run.0 _ _ ran.ensures.run.1
-          ran.ensures.run.2 c.if-stored.true _ c.forget.ensures n);
-      few = ran.ensures.few;
-    }
+    λ n.
+    rw (is_run (goal.at.returns-then-is_err-clause-run c).After-block_size-size n)
+    (run_lost c.requires.0 (lent (goal.at.returns-then-is_err-clause-run c).After-block_size-size) (run c.args.pages c.owned_pages-owned.result) (fields (goal.at.returns-then-is_err-clause-run c).After-block_size-size) ran.new.block ran.auto.block ran.ensures.run.0 _ _ ran.ensures.run.1
+    ran.ensures.run.2 (lost_told _ ∙ (sym c.is_err.ensures.value ∙ c.if-is_err.true)) _ c.forget.ensures n)
 
-pub returns-else-stored : goal.returns-else-stored
-returns-else-stored c =
+pub returns-else-is_err-clause-run : goal.returns-else-is_err-clause-run
+returns-else-is_err-clause-run c =
     let ran = c.end_replay-stored in
-    record {
-      run = λ n.
-          rw (is_run (goal.at.returns-else-stored c).After-block_size-size n)
-          (run_going c.requires.0 (lent (goal.at.returns-else-stored c).After-block_size-size) (run c.args.pages c.owned_pages-owned.result) (fields (goal.at.returns-else-stored c).After-block_size-size) ran.new.block ran.auto.block ran.ensures.run.0 _ _ ran.ensures.run.1
-          ran.ensures.run.2 c.if-stored.false n);
-      few = ran.ensures.few;
-    }
+    λ n.
+    rw (is_run (goal.at.returns-else-is_err-clause-run c).After-block_size-size n)
+    (run_going c.requires.0 (lent (goal.at.returns-else-is_err-clause-run c).After-block_size-size) (run c.args.pages c.owned_pages-owned.result) (fields (goal.at.returns-else-is_err-clause-run c).After-block_size-size) ran.new.block ran.auto.block ran.ensures.run.0 _ _ ran.ensures.run.1
+    ran.ensures.run.2 (lost_told _ ∙ (sym c.is_err.ensures.value ∙ c.if-is_err.false)) n)

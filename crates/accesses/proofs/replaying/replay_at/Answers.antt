@@ -1,6 +1,5 @@
 -- `accesses::replaying::replay_at` meets its contract: the access is repeated on the board's block, which is lent. Assumes nothing.
 use mathlib.Core.Path.{ap, ◌∙◌}
-use native.Mathlib.Omega.{arith}
 use Rattle.model.specs.Definitions.Codec.{decode}
 use Rattle.steps.specs.BankBlocks.{LentBlock, lent_in, lent_fields, lent_block, lent_board}
 use Rattle.copies.specs.Banks.{lent_of, lent_holds}
@@ -14,9 +13,6 @@ lent : (c : After-block_size-size)
     c.args.pages c.args.ask.board c.block_at-a.result
     c.block_size-size.result
 lent c = lent_of c.requires.0 _ _ c.block_at-a.ensures c.block_size-size.ensures
-
-pub overflow_add-a : goal.overflow_add-a
-overflow_add-a c = omega (arith, lent_in (lent c))
 
 pub slice_bounds-replay-end : goal.slice_bounds-replay-end
 slice_bounds-replay-end c = lent_in (lent c)
@@ -38,6 +34,6 @@ returns c =
           let told = did.ensures.did a s (rw e h) in (
             told.0 ∙ ap (replayed_to a) e,
             lent_holds c.requires.0 block (replayed_board a) did.new.block
-                (replayed_fields (lent_fields block) a h c.args.ask s (omega arith)) did.auto.block told.1,
+                (replayed_fields (lent_fields block) a h c.args.ask s c.requires.1.small) did.auto.block told.1,
           );
     }

@@ -12,6 +12,9 @@ pub returns : goal.returns
 unfolding packed code who value
 returns c =
     let o = c.args.o in
-    let row = c.numbers_of-numbers in
+    let row = c.numbers_of-code in
     let small : who o.answer < byte_values = omega (arith, ap (λ (n : AnswerNumbers). n.who) row.ensures) in
-    record { number = rw row.ensures; back = rw row.ensures (packed_back o small (omega arith)) }
+    record {
+      number = rw (c.from.ensures, c.from-2.ensures, c.from-3.ensures, c.from-4.ensures, row.ensures);
+      back = rw (c.from.ensures, c.from-2.ensures, c.from-3.ensures, c.from-4.ensures, row.ensures) (packed_back o small (omega arith));
+    }

@@ -1,6 +1,5 @@
 -- `checks::admission::admit` meets its contract: the block is lent. Assumes nothing.
 use mathlib.Core.Path.{ap, ◌∙◌}
-use native.Mathlib.Omega.{arith}
 use Rattle.model.specs.Definitions.Codec.{decode}
 use Rattle.steps.specs.BankBlocks.{LentBlock, lent_in, lent_block, lent_board}
 use Rattle.copies.specs.Banks.{lent_of}
@@ -14,9 +13,6 @@ lent : (c : goal.After-block_size-size)
     c.args.board c.block_at-a.result c.block_size-size.result
 lent c = lent_of c.requires _ _ c.block_at-a.ensures c.block_size-size.ensures
 
-pub overflow_add-a : goal.overflow_add-a
-overflow_add-a c = omega (arith, lent_in (lent c))
-
 pub slice_bounds-admit_block-end : goal.slice_bounds-admit_block-end
 slice_bounds-admit_block-end c = lent_in (lent c)
 
@@ -26,5 +22,5 @@ admit_block-requires c = lent_block (lent (goal.at.admit_block-requires c).After
 pub returns : goal.returns
 returns c =
     let q = c.args in
-    λ a t. c.admit_block.ensures a t ∙ ap (admission_of q.replaying a)
+    λ a t. c.admit_block.ensures a t ∙ ap (admission_of q.board q.replaying a)
     (lent_board (lent (goal.at.returns c).After-block_size-size))

@@ -1,12 +1,18 @@
 -- `comparison::naming::of_kind` meets its contract: each arm is a case of the definition. Assumes nothing.
-use Rattle.comparison.specs.Naming.{wanted_got, wanted_shown, wanted_dropped}
+use native.Mathlib.Omega.{arith}
+use Rattle.std.proofs.lemmas.Grind.{common_steps}
+use Rattle.model.specs.Definitions.WellFormed.{is_got}
+use Rattle.model.specs.Definitions.Logs.{is_shown}
 use Rattle.comparison.proofs.naming.of_kind.Goals as goal
 
 pub returns-in-Got : goal.returns-in-Got
-returns-in-Got c = rw c.in-Got.is (wanted_got c.args.shown _ _)
+unfolding is_got is_shown
+returns-in-Got c = let h = c.eq.ensures in grind (arith, common_steps)
 
 pub returns-in-Shown : goal.returns-in-Shown
-returns-in-Shown c = rw c.in-Shown.is (wanted_shown _ _)
+unfolding is_got is_shown
+returns-in-Shown c = let h = c.eq-in-Shown.ensures in grind (arith, common_steps)
 
 pub returns-in-Dropped : goal.returns-in-Dropped
-returns-in-Dropped c = rw c.in-Dropped.is (wanted_dropped c.args.shown _)
+unfolding is_got is_shown
+returns-in-Dropped c = grind (arith, common_steps)

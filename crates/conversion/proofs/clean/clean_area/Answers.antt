@@ -1,9 +1,9 @@
 -- `conversion::clean::clean_area` meets its contract: an area's count and slots stand in it, inside the block. Assumes nothing.
 use mathlib.Core.Path.{◌∙◌}
 use Prim.Native.Nat.{◌+◌, ◌≤◌}
-use native.Mathlib.Omega.{arith}
 use lib.ListN.{length}
 use Rattle.model.specs.Definitions.Layout.{today, slots_size}
+use Rattle.model.specs.Definitions.Parts.{byte_at}
 use Rattle.model.specs.Definitions.Check.{area_count, area_log_at}
 use Rattle.conversion.specs.Cleaning.{log_in}
 use Rattle.conversion.proofs.clean.clean_area.Goals as goal
@@ -15,29 +15,19 @@ inside : (c : goal.After-area_at-a)
 inside c =
     log_in c.args.pages c.args.area c.args.block.now c.requires.1 c.requires.2
 
-pub overflow_add-a : goal.overflow_add-a
-overflow_add-a c = omega (arith, inside c)
-
-pub get-requires : goal.get-requires
-get-requires c = omega (arith, inside c)
-
-pub overflow_add-a-2 : goal.overflow_add-a-2
-overflow_add-a-2 c = omega (arith, inside (goal.at.overflow_add-a-2 c).After-area_at-a)
-
 pub clean_log-requires : goal.clean_log-requires
-unfolding area_count
+unfolding area_count byte_at
 clean_log-requires c = (
   rw (c.area_at-a.ensures, c.area_slots_at.ensures) (inside (goal.at.clean_log-requires c).After-area_at-a),
-  rw (c.wide-count.ensures.0, c.get.ensures, c.area_at-a.ensures) c.requires.3,
+  rw (c.from-count.ensures, c.area_at-a.ensures) c.requires.3,
 )
 
 pub returns : goal.returns
-unfolding area_count
+unfolding area_count byte_at
 returns c =
     c.clean_log.ensures
     ∙ rw (
       c.area_slots_at.ensures,
-      c.wide-count.ensures.0,
-      c.get.ensures,
+      c.from-count.ensures,
       c.area_at-a.ensures,
     )

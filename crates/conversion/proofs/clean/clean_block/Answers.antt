@@ -15,9 +15,6 @@ twice : (c : goal.After-clean_area-2)
     c.args.block.now
 twice c = c.clean_area-2.ensures ∙ rw c.clean_area.ensures
 
-pub clean_area-requires : goal.clean_area-requires
-clean_area-requires c = let o = c.requires in (o.few, lit< tt, o.size, o.stored 1 (lit< tt))
-
 pub clean_area-requires-2 : goal.clean_area-requires-2
 clean_area-requires-2 c =
     let o = c.requires in
@@ -29,7 +26,7 @@ clean_log-requires c =
     let e = twice (goal.at.clean_log-requires c).After-clean_area-2 in
     let n : length c.clean_area-2.new.block ≡ block_size c.args.pages = ap length e ∙ twice_length c.requires in (
       omega (arith, c.slots_at.ensures),
-      rw (c.wide-count.ensures.0, c.read_volatile_count.ensures, e) (twice_few c.requires),
+      rw (c.from-count.ensures, c.read_volatile_count.ensures, e) (twice_few c.requires),
     )
 
 pub returns : goal.returns
@@ -37,7 +34,7 @@ returns c =
     c.clean_log.ensures
     ∙ rw (
       c.slots_at.ensures,
-      c.wide-count.ensures.0,
+      c.from-count.ensures,
       c.read_volatile_count.ensures,
       twice (goal.at.returns c).After-clean_area-2,
     )

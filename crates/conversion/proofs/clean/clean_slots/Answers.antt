@@ -1,10 +1,10 @@
 -- `conversion::clean::clean_slots` meets its contract. The invariant: the first blocks are clean. Assumes nothing.
-use mathlib.Core.Path.{◌≡◌, sym, ap, ◌∙◌}
+use mathlib.Core.Path.{◌≡◌, ap, ◌∙◌}
 use native.Mathlib.Omega.{arith}
-use Rattle.model.specs.Definitions.Layout.{today, blocks_at, block_size}
+use Rattle.model.specs.Definitions.Layout.{today, block_size}
 use Rattle.model.specs.Definitions.Older.{cleaned_block}
 use Rattle.conversion.specs.Formed.{few_pages, few_boards, size}
-use Rattle.conversion.specs.Rewritten.{written_none, written_length, turn_kept, turn_in, turn_unwritten, turn_written}
+use Rattle.conversion.specs.Rewritten.{written_none, turn_kept, turn_in, turn_unwritten, turn_written}
 use Rattle.conversion.specs.Cleaning.{DueBlock, blocks_wide, due_lent, bank_cleaned}
 use Rattle.conversion.proofs.clean.clean_slots.Goals as goal
 use Rattle.conversion.proofs.clean.clean_slots.Goals.{After-block_at-a}
@@ -19,7 +19,7 @@ due c =
       source = size c.requires;
       wide = blocks_wide c.requires;
       whole = size c.requires;
-      bytes = c.loop-board.invariant.1;
+      bytes = c.loop-board.invariant;
       next = c.loop-board-test.true;
       read = c.block_at-a.ensures;
       narrow = c.block_size-size.ensures;
@@ -33,7 +33,7 @@ block_size-size-requires c = few_pages c.requires
 pub loop-board-init : goal.loop-board-init
 loop-board-init c =
     let pages = c.args.pages in
-    (omega arith, written_none (λ l. l) (cleaned_block today pages) (block_size pages) (block_size pages) _ _ _)
+    written_none (λ l. l) (cleaned_block today pages) (block_size pages) (block_size pages) _ _ _
 
 pub block_at-a-requires : goal.block_at-a-requires
 block_at-a-requires c = (few_pages c.requires, omega (arith, few_boards c.requires))
@@ -47,26 +47,14 @@ slice_bounds-clean_block-end c = turn_in (due c)
 pub clean_block-requires : goal.clean_block-requires
 clean_block-requires c = due_lent c.requires (due (goal.at.clean_block-requires c).After-block_at-a)
 
-pub overflow_add-board : goal.overflow_add-board
-overflow_add-board c = omega (arith, few_boards c.requires)
-
 pub loop-board-preserved : goal.loop-board-preserved
 loop-board-preserved c =
     let went = c.clean_block in
     let next = due (goal.at.loop-board-preserved c).After-block_at-a in
-    (omega arith, turn_written next went.new.block went.auto.block (went.ensures ∙ ap (cleaned_block today _) (turn_unwritten next)))
-
-pub shape_of-bank : goal.shape_of-bank
-shape_of-bank c =
-    let pages = c.args.pages in
-    let n = size c.requires in
-    rw c.loop-board.invariant.1
-    (written_length (λ l. l) (cleaned_block today pages) (block_size pages) (block_size pages) _ c.args.bank.now (blocks_at pages) _
-    c.args.boards (blocks_wide c.requires) c.loop-board.invariant.0 n
-    ∙ sym n)
+    turn_written next went.new.block went.auto.block (went.ensures ∙ ap (cleaned_block today _) (turn_unwritten next))
 
 pub returns : goal.returns
 returns c =
     let loop = c.loop-board in
     let e : loop.board ≡ c.args.boards = omega arith in
-    loop.invariant.1 ∙ rw e (bank_cleaned c.requires)
+    loop.invariant ∙ rw e (bank_cleaned c.requires)

@@ -5,8 +5,8 @@ use Rattle.model.specs.Definitions.Codec.{decode}
 use Rattle.copies.specs.Drops.{Dropping}
 use Rattle.copies.proofs.copies.drop_all.Given as goal
 
-abbrev pub invariant-loop-left : goal.invariant-loop-left
-invariant-loop-left l = (length l.bank ≡ length l.initial.bank) × Dropping l.bank (decode l.initial.bank) l.losers l.left l.writer l.page
+abbrev pub invariant-loop-holder : goal.invariant-loop-holder
+invariant-loop-holder l = (length l.bank ≡ length l.initial.bank) × Dropping l.bank (decode l.initial.bank) l.losers l.left l.writer l.page
 
-abbrev pub decreases-loop-left : goal.decreases-loop-left
-decreases-loop-left l = l.left
+abbrev pub decreases-loop-holder : goal.decreases-loop-holder
+decreases-loop-holder l = l.left

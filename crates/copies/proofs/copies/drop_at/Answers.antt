@@ -14,9 +14,6 @@ lent : (c : After-block_size-size)
     c.args.board c.block_at-a.result c.block_size-size.result
 lent c = lent_of c.requires.0 _ _ c.block_at-a.ensures c.block_size-size.ensures
 
-pub overflow_add-a : goal.overflow_add-a
-overflow_add-a c = omega (arith, lent_in (lent c))
-
 pub slice_bounds-drop_right-end : goal.slice_bounds-drop_right-end
 slice_bounds-drop_right-end c = lent_in (lent c)
 

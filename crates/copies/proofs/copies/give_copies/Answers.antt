@@ -10,9 +10,6 @@ use Rattle.copies.proofs.copies.give_copies.Goals as goal
 pub loop-page-init : goal.loop-page-init
 loop-page-init c = (refl, giving_first _ c.requires.0 c.requires.1)
 
-pub has-requires : goal.has-requires
-has-requires c = let in_bank = c.loop-page.invariant.1.bank in omega (arith, in_bank.count, in_bank.bank.sizes.pages)
-
 pub giver-giver-requires : goal.giver-giver-requires
 giver-giver-requires c =
     let giving = c.loop-page.invariant.1 in
@@ -40,9 +37,6 @@ loop-page-preserved c =
           (w.give_copy.auto.bank ∙ loop.invariant.0, giving_on loop.invariant.1 inside among _ w.giver-giver.ensures w.give_copy.ensures)
       | else-has w ↦ rw w.bank-is (loop.invariant.0, giving_skip loop.invariant.1 inside (sym c.has.ensures ∙ w.if-has.false))
     ]
-
-pub shape_of-bank : goal.shape_of-bank
-shape_of-bank c = c.loop-page.invariant.0
 
 pub returns : goal.returns
 returns c = giving_last c.loop-page.invariant.1 (omega arith)

@@ -1,6 +1,5 @@
 -- `copies::copies::give_copies` meets its contract. The loop's invariant: what is left of the copies gives all of them. Assumes nothing.
 use mathlib.Core.Path.{◌≡◌}
-use Prim.Native.Nat.{◌-◌}
 use lib.ListN.{length}
 use Rattle.model.specs.Definitions.Codec.{decode}
 use Rattle.copies.specs.Copies.{Giving}
@@ -8,6 +7,3 @@ use Rattle.copies.proofs.copies.give_copies.Given as goal
 
 abbrev pub invariant-loop-page : goal.invariant-loop-page
 invariant-loop-page l = (length l.bank ≡ length l.initial.bank) × Giving l.pages l.lacking l.board (decode l.initial.bank) l.bank l.page
-
-abbrev pub decreases-loop-page : goal.decreases-loop-page
-decreases-loop-page l = l.pages - l.page

@@ -28,4 +28,4 @@ returns c =
     c.page_frame-frame.ensures.0
     c.copy_to.ensures
     c.read_owner-owner.ensures c.read_copies-copies.ensures
-    c.with_holder.ensures c.write_entry.ensures
+    c.with_member.ensures c.write_entry.ensures

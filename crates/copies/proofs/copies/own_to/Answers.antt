@@ -1,5 +1,4 @@
 -- `copies::copies::own_to` meets its contract: a page taken over in the board's block, which is lent. Assumes nothing.
-use native.Mathlib.Omega.{arith}
 use Rattle.model.specs.Definitions.Codec.{decode}
 use Rattle.model.proofs.Laws.Boards.{took_own}
 use Rattle.model.proofs.Laws.BoardFields.{took_own_fields}
@@ -13,9 +12,6 @@ lent : (c : After-block_size-size)
     → LentBlock (decode c.args.bank.now) c.args.bank.now c.args.pages
     c.args.board c.block_at-a.result c.block_size-size.result
 lent c = lent_of c.requires.0 _ _ c.block_at-a.ensures c.block_size-size.ensures
-
-pub overflow_add-a : goal.overflow_add-a
-overflow_add-a c = omega (arith, lent_in (lent c))
 
 pub slice_bounds-take_own-end : goal.slice_bounds-take_own-end
 slice_bounds-take_own-end c = lent_in (lent c)

@@ -1,6 +1,5 @@
 -- `copies::copies::page_frame` meets its contract: the frame is read in the board's block, which is lent. Assumes nothing.
 use mathlib.Core.Path.{◌∙◌}
-use native.Mathlib.Omega.{arith}
 use Rattle.model.specs.Definitions.Codec.{decode}
 use Rattle.model.proofs.Laws.BankSteps.{frame_of_ok}
 use Rattle.steps.specs.BankBlocks.{LentBlock, lent_in}
@@ -13,9 +12,6 @@ lent : (c : After-block_size-size)
     → LentBlock (decode c.args.bank.now) c.args.bank.now c.args.pages
     c.args.board c.block_at-a.result c.block_size-size.result
 lent c = lent_of c.requires.0 _ _ c.block_at-a.ensures c.block_size-size.ensures
-
-pub overflow_add-a : goal.overflow_add-a
-overflow_add-a c = omega (arith, lent_in (lent c))
 
 pub slice_bounds-read_page_frame-end : goal.slice_bounds-read_page_frame-end
 slice_bounds-read_page_frame-end c = lent_in (lent c)

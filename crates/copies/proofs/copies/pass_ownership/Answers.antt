@@ -19,7 +19,7 @@ drop_all-requires c =
     let pre = c.requires in
     let bank = of_holds pre.0 in
     let copies = c.read_copies-copies.ensures in
-    let losers = c.with_holder-losers.ensures ∙ ap (with_member args.owner) c.without_holder.ensures in (
+    let losers = c.with_member-losers.ensures ∙ ap (with_member args.owner) c.without_member.ensures in (
       record { bank = pre.0.bank; count = pre.0.count; board = omega (arith, pre.1) },
       losers_below args.owner args.board args.page _ _ (omega (arith, pre.0.count)) bank pre.2 copies losers pre.4 pre.1,
       pre.3,
@@ -46,9 +46,9 @@ write_entry-requires c =
 pub returns : goal.returns
 returns c =
     let args = c.args in
-    let losers = c.with_holder-losers.ensures
+    let losers = c.with_member-losers.ensures
     ∙ ap (with_member args.owner)
-    c.without_holder.ensures in
+    c.without_member.ensures in
     page_passed args.owner args.board args.page _ _ (omega (arith, c.requires.0.count)) (of_holds c.requires.0) c.requires.2
     c.read_copies-copies.ensures losers
     _ c.page_frame-passed.ensures.0 c.drop_all.ensures

@@ -1,8 +1,7 @@
 -- `copies::state::board_state` meets its contract. Assumes nothing.
 use Rattle.copies.specs.Banks.{lent_of}
-use Rattle.steps.specs.BankBlocks.{LentBlock, lent_in, lent_length, lent_state}
+use Rattle.steps.specs.BankBlocks.{LentBlock, lent_in, lent_state}
 use Rattle.model.specs.Definitions.Codec.{decode}
-use native.Mathlib.Omega.{arith}
 use mathlib.Core.Path.{◌∙◌}
 use Rattle.copies.proofs.state.board_state.Goals.{After-block_size-size}
 use Rattle.copies.proofs.state.board_state.Goals as goal
@@ -13,14 +12,8 @@ lent : (c : After-block_size-size)
     c.args.board c.block_at-a.result c.block_size-size.result
 lent c = lent_of c.requires _ _ c.block_at-a.ensures c.block_size-size.ensures
 
-pub overflow_add-a : goal.overflow_add-a
-overflow_add-a c = omega (arith, lent_in (lent c))
-
 pub slice_bounds-read_state-end : goal.slice_bounds-read_state-end
 slice_bounds-read_state-end c = lent_in (lent c)
-
-pub read_state-requires : goal.read_state-requires
-read_state-requires c = lent_length (lent (goal.at.read_state-requires c).After-block_size-size)
 
 pub returns : goal.returns
 returns c = c.read_state.ensures ∙ lent_state (lent (goal.at.returns c).After-block_size-size)

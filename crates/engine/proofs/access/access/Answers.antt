@@ -1,41 +1,42 @@
 -- `engine::access::access` meets its contract: each return is one way through the call. Assumes nothing.
-use mathlib.Core.Path.{◌≡◌, refl, ◌∙◌}
+use mathlib.Core.Path.{◌≡◌, refl, sym, ap, ◌∙◌}
 use mathlib.Core.Bool.{true}
-use Prim.Native.Nat.{◌<◌}
 use native.Mathlib.Omega.{arith}
-use Rattle.model.specs.Definitions.Calls.{Accessing}
+use Rattle.std.proofs.lemmas.Result.{err_from_is_err_and}
+use Rattle.model.specs.Definitions.Codec.{decode}
+use Rattle.model.specs.Definitions.Calls.{Accessing, access_in_range}
 use Rattle.model.specs.Laws.Codes.Statement.{board_named}
 use Rattle.validity.specs.Search.{failed, passed}
 use Rattle.checks.specs.Findings.{OnBoard, board_says}
-use Rattle.checks.specs.Admission.{numbers_fit, value_fits}
-use Rattle.engine.specs.Replies.{replied_few, refused_replied, found_replied}
-use Rattle.engine.specs.Admissions.{read_or_write, range_refused, flag_write, flag_read, page_fits, offset_fits, numbers}
+use Rattle.checks.specs.Admission.{numbers_fit}
+use Rattle.engine.specs.Replies.{refused_replied, found_replied}
+use Rattle.engine.specs.Admissions.{read_or_write, range_refused, page_fits, offset_fits, numbers}
 use Rattle.engine.specs.Cells.{few_pages}
-use Rattle.engine.proofs.access.access.Goals.{Else-not-numbers_fit, In-Board}
+use Rattle.engine.proofs.access.access.Goals.{After-numbers_fit, Else-not-numbers_fit, In_ok-state}
 use Rattle.engine.proofs.access.access.Goals as goal
 
 -- the board that was found, with its state
-found : (c : In-Board)
-    → OnBoard c.args.board c.args.bank.now c.in-Board.state
-found c = board_says _ _ c.enter.ensures c.in-Board.is
+found : (c : In_ok-state) → OnBoard c.args.board c.args.bank.now c.in_ok-state.state
+found c = board_says _ _ c.enter.ensures c.in_ok-state.was
+
+-- what the test of the numbers says
+range : (c : After-numbers_fit)
+    → access_in_range c.args.board (read_or_write c.args.value c.args.page c.args.offset) (decode c.args.bank.now) ≡ c.numbers_fit.result
+range c =
+    let n = c.args in
+    numbers n.value n.page n.offset 0 (found (goal.at.After-numbers_fit c).In_ok-state) (λ none. omega arith) c.page_count-pages.ensures
+    ∙ ap (numbers_fit c.page_count-pages.result n.page n.offset) (sym c.unwrap_or.ensures)
+    ∙ sym c.numbers_fit.ensures
 
 -- the numbers are in range, and so fit in bytes
-fits : (c : Else-not-numbers_fit)
-    → numbers_fit c.page_count-pages.result c.args.page
-    c.args.offset
-    c.args.value ≡ true
+fits : (c : Else-not-numbers_fit) → numbers_fit c.page_count-pages.result c.args.page c.args.offset c.unwrap_or.result ≡ true
 fits c = passed c.numbers_fit.ensures c.if-not-numbers_fit.false-raw
 
-small_page : (c : Else-not-numbers_fit) → c.args.page < 256
-small_page c =
-    let n = c.args in
-    let p = c.page_count-pages in
-    omega (arith, page_fits n.page n.offset n.value _ (fits c), few_pages (found c.before.before.before) p.ensures)
-
-small_offset : (c : Else-not-numbers_fit) → c.args.offset < 256
-small_offset c =
-    let n = c.args in
-    omega (arith, offset_fits n.page n.offset n.value _ (fits c))
+pub returns-in_err-state : goal.returns-in_err-state
+unfolding board_named
+returns-in_err-state c =
+    let p = err_from_is_err_and c.from_residual.result c.from_residual.ensures.1 in
+    rw (p.1, p.2) (found_replied (Accessing _ (read_or_write _ _ _)) _ refl c.enter.ensures c.in_err-state.was refl).0
 
 pub page_count-pages-requires : goal.page_count-pages-requires
 page_count-pages-requires c = (found c).whole
@@ -43,64 +44,37 @@ page_count-pages-requires c = (found c).whole
 pub returns-then-not-numbers_fit : goal.returns-then-not-numbers_fit
 returns-then-not-numbers_fit c =
     let n = c.args in
-    let on = found (goal.at.returns-then-not-numbers_fit c).In-Board in
-    let both = refused_replied
-    (range_refused on (read_or_write n.writes n.page n.offset n.value)
-    (numbers n.page n.offset n.value n.writes on c.requires c.page_count-pages.ensures
-    ∙ failed c.numbers_fit.ensures c.if-not-numbers_fit.true-raw))
-    c.refuse.ensures in
-    record { reply = both.0; few = both.1 }
+    let before = (goal.at.returns-then-not-numbers_fit c).After-numbers_fit in
+    (refused_replied
+    (range_refused (found (goal.at.returns-then-not-numbers_fit c).In_ok-state) (read_or_write n.value n.page n.offset)
+    (range before ∙ failed refl c.if-not-numbers_fit.true-raw)) refl).0
 
-pub overflow_cast-page : goal.overflow_cast-page
-overflow_cast-page c = omega (arith, small_page (goal.at.overflow_cast-page c).Else-not-numbers_fit)
-
-pub overflow_cast-offset : goal.overflow_cast-offset
-overflow_cast-offset c = omega (arith, small_offset (goal.at.overflow_cast-offset c).Else-not-numbers_fit)
-
-pub overflow_cast-value : goal.overflow_cast-value
-overflow_cast-value c =
+pub overflow_cast-p : goal.overflow_cast-p
+overflow_cast-p c =
     let n = c.args in
-    omega (arith, value_fits _ n.page n.offset n.value (fits (goal.at.overflow_cast-value c).Else-not-numbers_fit))
+    omega (
+      arith,
+      page_fits n.page n.offset _ _ (fits (goal.at.overflow_cast-p c).Else-not-numbers_fit),
+      few_pages (found (goal.at.overflow_cast-p c).In_ok-state) c.page_count-pages.ensures,
+    )
+
+pub overflow_cast-o : goal.overflow_cast-o
+overflow_cast-o c = let n = c.args in omega (arith, offset_fits n.page n.offset _ _ (fits (goal.at.overflow_cast-o c).Else-not-numbers_fit))
+
+-- what is in range is the access that the value says
+asked : (c : Else-not-numbers_fit) → access_in_range c.args.board (read_or_write c.args.value c.args.page c.args.offset) (decode c.args.bank.now) ≡ true
+asked c = range (goal.at.Else-not-numbers_fit c).After-numbers_fit ∙ passed refl c.if-not-numbers_fit.false-raw
 
 pub write_cell-requires : goal.write_cell-requires
-write_cell-requires c =
-    let n = c.args in
-    let on = found (goal.at.write_cell-requires c).In-Board in
-    let counted = c.page_count-pages.ensures in
-    let range = numbers n.page n.offset n.value n.writes on c.requires counted ∙ fits (goal.at.write_cell-requires c).Else-not-numbers_fit in
-    (on, counted, rw (flag_write n.page n.offset n.value n.writes c.if-writes.true) at range)
-
-pub returns-then-writes : goal.returns-then-writes
-returns-then-writes c =
-    let n = c.args in
-    let both = replied_few (Accessing n.board (read_or_write n.writes n.page n.offset n.value)) _
-    (rw (flag_write n.page n.offset n.value n.writes c.if-writes.true) c.write_cell.ensures) in
-    record { reply = both.0; few = both.1 }
-
-pub overflow_cast-page-in-Board : goal.overflow_cast-page-in-Board
-overflow_cast-page-in-Board c = omega (arith, small_page (goal.at.overflow_cast-page-in-Board c).Else-not-numbers_fit)
-
-pub overflow_cast-offset-in-Board : goal.overflow_cast-offset-in-Board
-overflow_cast-offset-in-Board c = omega (arith, small_offset (goal.at.overflow_cast-offset-in-Board c).Else-not-numbers_fit)
+write_cell-requires c = (
+  found (goal.at.write_cell-requires c).In_ok-state,
+  c.page_count-pages.ensures,
+  rw c.in-Some.is at (asked (goal.at.write_cell-requires c).Else-not-numbers_fit),
+)
 
 pub read_cell-requires : goal.read_cell-requires
-read_cell-requires c =
-    let n = c.args in
-    let on = found (goal.at.read_cell-requires c).In-Board in
-    let counted = c.page_count-pages.ensures in
-    let range = numbers n.page n.offset n.value n.writes on c.requires counted ∙ fits (goal.at.read_cell-requires c).Else-not-numbers_fit in
-    (on, counted, rw (flag_read n.page n.offset n.value n.writes c.if-writes.false) at range)
-
-pub returns-else-writes : goal.returns-else-writes
-returns-else-writes c =
-    let n = c.args in
-    let both = replied_few (Accessing n.board (read_or_write n.writes n.page n.offset n.value)) _
-    (rw (flag_read n.page n.offset n.value n.writes c.if-writes.false) c.read_cell.ensures) in
-    record { reply = both.0; few = both.1 }
-
-pub returns-in-Refused : goal.returns-in-Refused
-unfolding board_named
-returns-in-Refused c =
-    let both = found_replied (Accessing _ (read_or_write _ _ _ _)) _ refl c.enter.ensures
-    c.in-Refused.is c.refuse_entry.ensures in
-    record { reply = both.0; few = both.1 }
+read_cell-requires c = (
+  found (goal.at.read_cell-requires c).In_ok-state,
+  c.page_count-pages.ensures,
+  rw c.in-None.is at (asked (goal.at.read_cell-requires c).Else-not-numbers_fit),
+)

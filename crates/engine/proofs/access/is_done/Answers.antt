@@ -7,4 +7,4 @@ use Rattle.engine.proofs.access.is_done.Goals as goal
 
 pub returns : goal.returns
 unfolding code
-returns c = ap (λ (n : AnswerNumbers). eqb n.code 0) c.numbers_of-numbers.ensures
+returns c = ap (λ (n : AnswerNumbers). eqb n.code 0) c.numbers_of.ensures

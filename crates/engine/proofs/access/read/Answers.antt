@@ -1,8 +1,10 @@
--- `engine::access::read` meets its contract: the access by its flag. Assumes nothing.
-use Rattle.engine.specs.Admissions.{read_or_write}
+-- `engine::access::read` meets its contract. Assumes nothing.
+use Rattle.model.specs.Definitions.Steps.{Read}
+use Rattle.model.specs.Definitions.Calls.{Accessing}
+use Rattle.engine.specs.Replies.{answered_replied}
 use Rattle.engine.proofs.access.read.Goals as goal
 
 pub returns : goal.returns
-unfolding read_or_write
 returns c =
-    record { reply = c.access.ensures.reply; few = c.access.ensures.few }
+    let both = answered_replied (Accessing _ (Read _ _)) _ c.access.result c.answered.ensures c.access.ensures in
+    record { reply = both.0; few = both.1 }

@@ -7,8 +7,8 @@ use Rattle.engine.proofs.access.with_value.Goals as goal
 pub returns-then-is_done : goal.returns-then-is_done
 returns-then-is_done c =
     let n = c.args in
-    ap (λ (x : Answer). record { answer = x; stores = n.outcome.stores })
-    (when_done n.outcome.answer _ _ (sym c.is_done.ensures ∙ c.if-is_done.true))
+    rw c.from.ensures (ap (λ (x : Answer). record { answer = x; stores = n.outcome.stores })
+    (when_done n.outcome.answer _ _ (sym c.is_done.ensures ∙ c.if-is_done.true)))
 
 pub returns : goal.returns
 returns c =

@@ -1,13 +1,10 @@
--- `engine::access::write` meets its contract: the access by its flag. Assumes nothing.
-use mathlib.Core.Path.{refl}
-use Rattle.model.proofs.Laws.Logic.{clash}
-use Rattle.engine.specs.Admissions.{read_or_write}
+-- `engine::access::write` meets its contract. Assumes nothing.
+use Rattle.model.specs.Definitions.Steps.{Write}
+use Rattle.model.specs.Definitions.Calls.{Accessing}
+use Rattle.engine.specs.Replies.{answered_replied}
 use Rattle.engine.proofs.access.write.Goals as goal
 
-pub access-requires : goal.access-requires
-access-requires c = λ e. clash refl e
-
 pub returns : goal.returns
-unfolding read_or_write
 returns c =
-    record { reply = c.access.ensures.reply; few = c.access.ensures.few }
+    let both = answered_replied (Accessing _ (Write _ _ _)) _ c.access.result c.answered.ensures c.access.ensures in
+    record { reply = both.0; few = both.1 }

@@ -11,7 +11,8 @@ named_pages-requires c =
 pub access_board-requires : goal.access_board-requires
 access_board-requires c =
     let n = c.args in
-    let members = c.named_pages.ensures in (
+    let members = c.named_pages.ensures in
+    rw (c.from.ensures, c.from-2.ensures) (
       asks_of c.requires.0 c.requires.1 _ refl,
       write_range n.board _ _ n.value _ c.requires.2 c.requires.1 _,
       sym c.requires.0.state,
@@ -25,5 +26,5 @@ returns c =
     let members = c.named_pages.ensures in
     plain_replied c.requires.0
     (c.access_board.ensures (Write n.page n.offset n.value)
-    (write_asked n.board _ _ _ _ c.requires.2 c.requires.1 _ members))
+    (rw (c.from.ensures, c.from-2.ensures) (write_asked n.board _ _ _ _ c.requires.2 c.requires.1 _ members)))
     (λ fs. refl)

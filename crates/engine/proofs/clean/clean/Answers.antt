@@ -1,7 +1,8 @@
 -- `engine::clean::clean` meets its contract: each return is one way through the call. Assumes nothing.
-use mathlib.Core.Path.{◌≡◌, ◌∙◌}
+use mathlib.Core.Path.{◌≡◌}
 use native.Mathlib.Omega.{arith}
 use mathlib.Core.Bool.{true}
+use Rattle.model.specs.Definitions.Parts.{byte_at}
 use Rattle.model.specs.Definitions.Layout.{today}
 use Rattle.model.specs.Definitions.Older.{stale_well_formed}
 use Rattle.model.proofs.Laws.Clean.{cleaned, clean_refuses}
@@ -17,22 +18,19 @@ formed c = passed c.formed_in.ensures c.if-not-formed_in.false-raw
 
 pub returns-then-not-formed_in : goal.returns-then-not-formed_in
 returns-then-not-formed_in c =
-    let both = refused_replied (clean_refuses _ (failed c.formed_in.ensures c.if-not-formed_in.true-raw)) c.refuse.ensures in
+    let both = refused_replied (clean_refuses _ (failed c.formed_in.ensures c.if-not-formed_in.true-raw)) c.from.ensures in
     record { reply = both.0; few = both.1 }
 
-pub get-requires : goal.get-requires
-get-requires c = omega (arith, head_inside today true _ (formed c))
+pub bounds-bank-2 : goal.bounds-bank-2
+bounds-bank-2 c = omega (arith, head_inside today true _ (formed (goal.at.bounds-bank-2 c).Else-not-formed_in))
 
-pub get-requires-2 : goal.get-requires-2
-get-requires-2 c = omega (arith, head_inside today true _ (formed (goal.at.get-requires-2 c).Else-not-formed_in))
+pub bounds-bank-3 : goal.bounds-bank-3
+bounds-bank-3 c = omega (arith, head_inside today true _ (formed (goal.at.bounds-bank-3 c).Else-not-formed_in))
 
 pub clean_slots-requires : goal.clean_slots-requires
+unfolding byte_at
 clean_slots-requires c =
-    record {
-      formed = formed (goal.at.clean_slots-requires c).Else-not-formed_in;
-      boards = c.wide-boards.ensures.0 ∙ c.get.ensures;
-      pages = c.wide-pages.ensures.0 ∙ c.get-2.ensures;
-    }
+    record { formed = formed (goal.at.clean_slots-requires c).Else-not-formed_in; boards = c.from-boards.ensures; pages = c.from-pages.ensures }
 
 pub returns : goal.returns
 returns c =

@@ -17,7 +17,7 @@ formed c = passed c.formed_in.ensures c.if-not-formed_in.false-raw
 
 pub returns-then-not-formed_in : goal.returns-then-not-formed_in
 returns-then-not-formed_in c =
-    let both = refused_replied (adopt_malformed _ (failed c.formed_in.ensures c.if-not-formed_in.true-raw)) c.refuse.ensures in
+    let both = refused_replied (adopt_malformed _ (failed c.formed_in.ensures c.if-not-formed_in.true-raw)) c.from.ensures in
     record { reply = both.0; few = both.1 }
 
 pub no_records-requires : goal.no_records-requires
@@ -25,7 +25,7 @@ no_records-requires c = (search rules, formed_head today _ (formed c))
 
 pub returns-then-not-no_records : goal.returns-then-not-no_records
 returns-then-not-no_records c =
-    let both = refused_replied (adopt_records _ (formed (goal.at.returns-then-not-no_records c).Else-not-formed_in) (failed c.no_records.ensures c.if-not-no_records.true-raw)) c.refuse-then-not-no_records.ensures in
+    let both = refused_replied (adopt_records _ (formed (goal.at.returns-then-not-no_records c).Else-not-formed_in) (failed c.no_records.ensures c.if-not-no_records.true-raw)) c.from-then-not-no_records.ensures in
     record { reply = both.0; few = both.1 }
 
 pub returns : goal.returns

@@ -1,19 +1,18 @@
 -- `exchange::fetch::show_all` meets its contract. The loop's invariant: what is left of the givers' part makes the whole run. Assumes nothing.
-use mathlib.Core.Path.{refl, sym, ◌∙◌}
+use mathlib.Core.Path.{refl, sym, ap, ◌∙◌}
 use Prim.Native.Nat.{◌<◌}
 use native.Mathlib.Omega.{arith}
+use Rattle.std.proofs.Common.{rules}
+use Rattle.std.proofs.lemmas.Result.{err_from_is_err_and}
 use Rattle.copies.specs.Directory.{of_board, of_owner}
-use Rattle.exchange.specs.Progress.{lost_by, loss_of}
+use Rattle.exchange.specs.Progress.{loss_of, after_told}
 use Rattle.steps.specs.Asked.{got}
 use Rattle.exchange.specs.ReadFetches.{showing_first, showing_skip, show_giver, show_can, showing_lost, showing_on, showing_last}
-use Rattle.exchange.proofs.fetch.show_all.Goals.{then-has+else-shown, else-has}
+use Rattle.exchange.proofs.fetch.show_all.Goals.{then-has+in_ok-stores, else-has}
 use Rattle.exchange.proofs.fetch.show_all.Goals as goal
 
 pub loop-page-init : goal.loop-page-init
 loop-page-init c = (refl, showing_first _ c.requires.0 c.requires.1 c.requires.2)
-
-pub has-requires : goal.has-requires
-has-requires c = let in_bank = c.loop-page.invariant.1.bank in omega (arith, in_bank.count, in_bank.bank.sizes.pages)
 
 pub giver-giver-requires : goal.giver-giver-requires
 giver-giver-requires c =
@@ -21,61 +20,45 @@ giver-giver-requires c =
     let inside : c.loop-page.page < c.args.pages = omega arith in
     (of_owner showing.bank showing.formed _ inside, inside)
 
-pub show-shown-requires : goal.show-shown-requires
+pub show-requires : goal.show-requires
 unfolding got
-show-shown-requires c =
+show-requires c =
     let showing = c.loop-page.invariant.1 in
-    let inside : c.loop-page.page < c.args.pages
-    = omega arith in
+    let inside : c.loop-page.page < c.args.pages = omega arith in
     let among = sym c.has.ensures ∙ c.if-has.true in
     let from = c.giver-giver.ensures in
     (of_board showing.bank _ (show_giver showing inside among _ from), showing.formed, showing.bank.board, inside, show_can showing inside among _ from)
 
-pub overflow_add-stores : goal.overflow_add-stores
-overflow_add-stores c =
-    let showing = c.loop-page.invariant.1 in
-    omega (arith, showing.few, c.show-shown.ensures.few, showing.bank.count, showing.bank.bank.sizes.pages)
-
-pub overflow_cast-result : goal.overflow_cast-result
+pub returns-in_err-stores-clause-run : goal.returns-in_err-stores-clause-run
 unfolding got
-overflow_cast-result c =
-    let showing = c.loop-page.invariant.1 in
-    let among = sym c.has.ensures ∙ c.if-has.true in
-    omega (arith, show_giver showing (omega arith) among _ c.giver-giver.ensures, showing.bank.bank.sizes.boards)
-
-pub shape_of-bank-then-shown : goal.shape_of-bank-then-shown
-shape_of-bank-then-shown c =
-    c.show-shown.auto.bank ∙ c.loop-page.invariant.0
-
-pub returns-then-shown : goal.returns-then-shown
-unfolding lost_by loss_of got
-returns-then-shown c =
+returns-in_err-stores-clause-run c =
     let loop = c.loop-page in
     let inside : loop.page < c.args.pages = omega arith in
     let among = sym c.has.ensures ∙ c.if-has.true in
-    record { run = showing_lost loop.invariant.1 inside among _ c.giver-giver.ensures _ (λ n. rw c.if-shown.true at (c.show-shown.ensures.run n)) _ refl; few = omega (arith, loop.invariant.1.few, c.show-shown.ensures.few) }
+    let p = err_from_is_err_and c.from_residual.result c.from_residual.ensures.1 in
+    let told = after_told loop.stores c.show.result c.map_err.result c.map_err.ensures.cases (λ e d q. search rules) in
+    let lost = told.1 ∙ ap loss_of c.in_err-stores.was in
+    λ n.
+    let came = showing_lost loop.invariant.1 inside among _ c.giver-giver.ensures _ c.show.ensures.run _ lost n in
+    rw (p.1, p.2) (rw (told.0, lost, c.in_err-stores.was) at came)
 
 pub loop-page-preserved : goal.loop-page-preserved
-unfolding lost_by got
+unfolding got
 loop-page-preserved c =
     let loop = c.loop-page in
     let inside : loop.page < c.args.pages = omega arith in
     elim c.if-has.branch [
-      | then-has+else-shown w ↦
+      | then-has+in_ok-stores w ↦
           let among = sym c.has.ensures ∙ w.if-has.true in
+          let told = after_told loop.stores w.show.result w.map_err.result w.map_err.ensures.cases (λ e d q. search rules) in
           rw (w.bank-is, w.stores-is) (
-            w.show-shown.auto.bank ∙ loop.invariant.0,
-            showing_on loop.invariant.1 inside among _ w.giver-giver.ensures _
-                (λ n. rw w.if-shown.false at (w.show-shown.ensures.run n)) refl w.show-shown.ensures.few,
+            w.show.auto.bank ∙ loop.invariant.0,
+            rw (told.0, w.in_ok-stores.was) at
+                (showing_on loop.invariant.1 inside among _ w.giver-giver.ensures _ w.show.ensures.run (told.1 ∙ ap loss_of w.in_ok-stores.was) w.show.ensures.few),
           )
       | else-has w ↦
           rw (w.bank-is, w.stores-is) (loop.invariant.0, showing_skip loop.invariant.1 inside (sym c.has.ensures ∙ w.if-has.false))
     ]
 
-pub shape_of-bank : goal.shape_of-bank
-shape_of-bank c = c.loop-page.invariant.0
-
-pub returns : goal.returns
-unfolding loss_of
-returns c = let showing = c.loop-page.invariant.1 in
-    record { run = showing_last showing (omega arith); few = omega (arith, showing.few, showing.within) }
+pub returns-clause-run : goal.returns-clause-run
+returns-clause-run c = showing_last c.loop-page.invariant.1 (omega arith)

@@ -1,6 +1,5 @@
 -- `exchange::fetch::show_all` meets its contract. The loop's invariant: what is left of the givers' part makes the whole run. Assumes nothing.
 use mathlib.Core.Path.{◌≡◌}
-use Prim.Native.Nat.{◌-◌}
 use lib.ListN.{length}
 use Rattle.model.specs.Definitions.Codec.{decode}
 use Rattle.exchange.specs.ReadFetches.{Showing}
@@ -8,6 +7,3 @@ use Rattle.exchange.proofs.fetch.show_all.Given as goal
 
 abbrev pub invariant-loop-page : goal.invariant-loop-page
 invariant-loop-page l = (length l.bank ≡ length l.initial.bank) × Showing l.pages l.lacking l.board (decode l.initial.bank) l.bank l.stores l.page
-
-abbrev pub decreases-loop-page : goal.decreases-loop-page
-decreases-loop-page l = l.pages - l.page

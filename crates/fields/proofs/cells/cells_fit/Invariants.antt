@@ -1,11 +1,13 @@
--- `fields::cells::cells_fit` meets its contract. The invariant: the cells so far pass, so the others decide. Assumes nothing.
-use Prim.Native.Nat.{◌-◌, ◌≤◌}
+-- The cells so far pass, so the rest decide.
+use Rattle.std.proofs.Common.{◌≡◌}
 use Rattle.model.specs.Definitions.Calls.{cell_in_range}
 use Rattle.fields.specs.Cells.{PassedTo}
 use Rattle.fields.proofs.cells.cells_fit.Given as goal
 
-abbrev pub invariant-loop-i : goal.invariant-loop-i
-invariant-loop-i l = (l.i ≤ l.count) × PassedTo (cell_in_range l.pages) l.cells l.i
-
-abbrev pub decreases-loop-i : goal.decreases-loop-i
-decreases-loop-i l = l.count - l.i
+abbrev pub invariant-loop-cell : goal.invariant-loop-cell
+invariant-loop-cell l = record {
+  can_next : goal.iterator-loop-cell.can_next l.cell-iterator;
+  is_finite : goal.iterator-loop-cell.is_finite l.cell-iterator;
+  pairs : l.cell-iterator.size ≡ 2;
+  passed : PassedTo (cell_in_range l.pages) l.cells l.cell-iterator.rest.now;
+}

@@ -1,10 +1,12 @@
--- `fields::cells::named_pages` meets its contract. The invariant: the pages so far are in the set, the others are to come. Assumes nothing.
-use Prim.Native.Nat.{◌-◌, ◌≤◌}
+-- The pages of the cells so far are in the set, those of the rest are to come.
+use Rattle.std.proofs.Common.{◌≡◌}
 use Rattle.fields.specs.Cells.{NamedTo}
 use Rattle.fields.proofs.cells.named_pages.Given as goal
 
-abbrev pub invariant-loop-i : goal.invariant-loop-i
-invariant-loop-i l = (l.i ≤ l.count) × NamedTo l.pages l.cells l.i l.named
-
-abbrev pub decreases-loop-i : goal.decreases-loop-i
-decreases-loop-i l = l.count - l.i
+abbrev pub invariant-loop-cell : goal.invariant-loop-cell
+invariant-loop-cell l = record {
+  can_next : goal.iterator-loop-cell.can_next l.cell-iterator;
+  is_finite : goal.iterator-loop-cell.is_finite l.cell-iterator;
+  pairs : l.cell-iterator.size ≡ 2;
+  named : NamedTo l.pages l.cells l.cell-iterator.rest.now l.named;
+}

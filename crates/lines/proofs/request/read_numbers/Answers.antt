@@ -1,43 +1,54 @@
--- `lines::request::read_numbers` meets its contract. The loop's invariant: the words from `at` on give, behind the numbers so far, what all give.
+-- `lines::request::read_numbers` meets its contract. The loop's invariant: the words that are left give, behind the numbers so far, what all give.
 -- Assumes nothing.
-use mathlib.Core.Path.{◌≡◌, refl, sym, ◌∙◌}
-use Prim.Native.Nat.{◌+◌, ◌≤◌, ◌-◌}
-use native.Mathlib.Omega.{arith}
-use lib.ListN.{length, drop}
-use Rattle.lines.specs.Laws.Lines.{tail_part, word_ends, numbers_next_at, numbers_end_at}
-use Rattle.lines.specs.Clauses.{word_length}
+use Rattle.std.proofs.Common.{◌≡◌, ◌+◌, ◌<◌, ◌++◌, ◌∷◌, [], Some, length, drop, eqb, sym, ◌∙◌, rules, tests, arith}
+use Rattle.std.proofs.lemmas.Grind.{common_steps}
+use Rattle.std.proofs.lemmas.List.{length_push}
+use Rattle.std.proofs.lemmas.Iterator.Splits.{YieldsList-from_slice_split}
+use Rattle.std.proofs.lemmas.Iterator.Consumers.{YieldsList-turn, YieldsList-end}
+use Rattle.lines.specs.Definitions.Lines.{space, words, numbers_from, more}
+use Rattle.lines.specs.Definitions.Numbers.{number}
+use Rattle.lines.specs.Laws.Lines.{numbers_none, numbers_turn, numbers_end, more_room, no_more_room}
 use Rattle.lines.proofs.request.read_numbers.Goals as goal
+use Rattle.lines.proofs.request.read_numbers.Goals.{In-Some}
 
--- the word found, and where it ends
-found : (c : goal.After-word_length) → c.word_length.result ≡ word_length (drop (c.loop-at.at + 1) c.args.rest.now)
-found c = c.word_length.ensures ∙ rw tail_part
+-- the word of this turn
+turn : (c : In-Some) → numbers_from (Some []) (words c.args.rest.now)
+    ≡ numbers_from (more (Some c.loop-word.numbers.items) (number c.in-Some.word.now)) (drop (length c.loop-word.yielded + 1) (words c.args.rest.now))
+turn c =
+    c.loop-word.invariant.3
+    ∙ numbers_turn _ c.args.rest.now _ c.in-Some.word.now
+    (YieldsList-turn (YieldsList-from_slice_split _ (λ x. eqb x space) c.args.rest.now (cc) (cc) (cc) (λ x b q k. search (rules, tests)))
+    c.loop-word.yielded _ c.loop-word.yielded_by _ _ c.in-Some.word c.in-Some.is c.next.ensures.steps)
 
-within : (c : goal.After-word_length) → c.loop-at.at + 1 + c.word_length.result ≤ length c.args.rest.now
-within c = word_ends c.args.rest.now c.loop-at.at _ (omega arith) (found c)
+pub returns-in_err-read_number : goal.returns-in_err-read_number
+unfolding more
+returns-in_err-read_number c =
+    rw c.from_residual.ensures
+    (sym (turn (goal.at.returns-in_err-read_number c).In-Some ∙ rw (← c.read_number.ensures, c.in_err-read_number.was) (numbers_none _)))
 
-pub loop-at-init : goal.loop-at-init
-loop-at-init c = (omega arith, refl)
+pub returns-in_err-ok : goal.returns-in_err-ok
+unfolding more
+returns-in_err-ok c =
+    let full : length c.loop-word.numbers.items ≡ 4 = grind (arith, common_steps) in
+    rw c.from_residual-in_err-ok.ensures
+    (sym (turn (goal.at.returns-in_err-ok c).In-Some
+    ∙ rw (← c.read_number.ensures, c.in_ok-read_number.was, no_more_room _ c.in_ok-read_number.field-0 full) (numbers_none _)))
 
-pub overflow_add-e : goal.overflow_add-e
-overflow_add-e c = omega (arith, within c)
-
-pub slice_bounds-read_number-end : goal.slice_bounds-read_number-end
-slice_bounds-read_number-end c = within c
-
-pub loop-at-preserved : goal.loop-at-preserved
-loop-at-preserved c =
-    let l = c.args.rest.now in
-    let at = c.loop-at.at in
-    let n = c.word_length.result in
-    let word : n ≡ word_length (drop (at + 1) l) = c.word_length.ensures ∙ rw tail_part in
-    let ends : at + 1 + n ≤ length l = word_ends l at n (omega arith) word in
-    let e : at + 1 + n - (at + 1) ≡ n = omega arith in (
-      ends,
-      c.loop-at.invariant.1
-          ∙ numbers_next_at c.loop-at.numbers l at n (omega arith) word
-          ∙ rw (c.add_number-numbers.ensures, c.read_number.ensures, e),
+pub loop-word-preserved : goal.loop-word-preserved
+unfolding more
+loop-word-preserved c =
+    let n = length_push c.loop-word.yielded c.in-Some.word in
+    let room : length c.loop-word.numbers.items < 4 = grind (arith, common_steps) in
+    let e : c.try_push.new.self.items ≡ c.loop-word.numbers.items ++ (c.in_ok-read_number.field-0 ∷ []) = grind (arith, common_steps) in (
+      search rules,
+      search rules,
+      search rules,
+      turn (goal.at.loop-word-preserved c).In-Some
+          ∙ rw (← c.read_number.ensures, c.in_ok-read_number.was, n, more_room _ c.in_ok-read_number.field-0 room, ← e),
     )
 
 pub returns : goal.returns
 returns c =
-    sym (c.loop-at.invariant.1 ∙ numbers_end_at c.loop-at.numbers c.args.rest.now c.loop-at.at (omega arith))
+    let t = YieldsList-end (YieldsList-from_slice_split _ (λ x. eqb x space) c.args.rest.now (cc) (cc) (cc) (λ x b q k. search (rules, tests)))
+    c.loop-word.yielded _ c.loop-word.yielded_by _ _ c.in-None.is c.next.ensures.steps in
+    sym (c.loop-word.invariant.3 ∙ numbers_end _ c.args.rest.now _ t.1)

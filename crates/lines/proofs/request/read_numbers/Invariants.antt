@@ -1,15 +1,12 @@
--- `lines::request::read_numbers` meets its contract. The loop's invariant: the words from `at` on give, behind the numbers so far, what all give.
+-- `lines::request::read_numbers` meets its contract. The loop's invariant: the words that are left give, behind the numbers so far, what all give.
 -- Assumes nothing.
-use mathlib.Core.Path.{◌≡◌}
-use Prim.Native.Nat.{◌≤◌, ◌-◌}
-use lib.ListN.{length, drop}
-use Rattle.lines.specs.declared.request.Numbers.TheVariants.{None}
-use Rattle.lines.specs.Definitions.Lines.{numbers_from}
-use Rattle.lines.specs.Clauses.{words_behind}
+use Rattle.std.proofs.Common.{◌≡◌, ◌≤◌, [], Some, length, drop}
+use Rattle.lines.specs.Definitions.Lines.{words, numbers_from}
 use Rattle.lines.proofs.request.read_numbers.Given as goal
 
-abbrev pub invariant-loop-at : goal.invariant-loop-at
-invariant-loop-at l = (l.at ≤ length l.rest) × (numbers_from None (words_behind l.rest) ≡ numbers_from l.numbers (words_behind (drop l.at l.rest)))
-
-abbrev pub decreases-loop-at : goal.decreases-loop-at
-decreases-loop-at l = length l.rest - l.at
+abbrev pub invariant-loop-word : goal.invariant-loop-word
+invariant-loop-word l =
+    (goal.iterator-loop-word).can_next l.word-iterator
+    × (goal.iterator-loop-word).is_finite l.word-iterator
+    × (length l.numbers.items ≤ 4)
+    × (numbers_from (Some []) (words l.rest) ≡ numbers_from (Some l.numbers.items) (drop (length l.yielded) (words l.rest)))

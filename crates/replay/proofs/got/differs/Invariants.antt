@@ -1,5 +1,5 @@
 -- `replay::got::differs` meets its contract. The invariant: for each access that flag and set stand for, the walk stands at the place. Assumes nothing.
-use Prim.Native.Nat.{◌-◌, ◌^◌, ◌<◌}
+use Prim.Native.Nat.{◌^◌, ◌<◌}
 use Rattle.model.specs.Definitions.Layout.{most_pages}
 use Rattle.model.specs.Definitions.Steps.{Access}
 use Rattle.steps.specs.Asked.{Takes}
@@ -10,7 +10,3 @@ use Rattle.replay.proofs.got.differs.Given as goal
 abbrev pub invariant-loop-place : goal.invariant-loop-place
 invariant-loop-place l =
     (l.lacking < 2 ^ most_pages) × ((a : Access) → Takes l.pages a l.writes l.named → Walk l.pages a (board_of l.pages l.block) l.lacking l.place l.since l.lowest)
-
-abbrev pub decreases-loop-place : goal.decreases-loop-place
-decreases-loop-place l =
-    l.stored - l.place

@@ -1,17 +1,11 @@
 -- `replay::got::take_due` meets its contract. The invariant: what is left to take gives what the whole gives. Assumes nothing.
-use mathlib.Core.Path.{refl, sym, ap, ◌∙◌}
+use mathlib.Core.Path.{sym, ap, ◌∙◌}
 use Rattle.model.specs.Definitions.Codec.{encode_board}
 use Rattle.model.specs.Definitions.Replay.{took_due}
-use Rattle.steps.specs.BlockLaws.{block_length, board_written, block_written}
+use Rattle.steps.specs.BlockLaws.{board_written, block_written}
 use Rattle.steps.specs.Blocks.{board_of}
 use Rattle.replay.specs.Got.{took_end, took_more}
 use Rattle.replay.proofs.got.take_due.Goals as goal
-
-pub loop-init : goal.loop-init
-loop-init c = (c.requires, refl)
-
-pub take_got-requires : goal.take_got-requires
-take_got-requires c = c.loop.invariant.0
 
 pub loop-smaller : goal.loop-smaller
 loop-smaller c =
@@ -30,11 +24,6 @@ loop-preserved c =
       ap took_due (board_written _ b.few u.fields e) ∙ sym u.same
           ∙ c.loop.invariant.1,
     )
-
-pub shape_of-block : goal.shape_of-block
-shape_of-block c =
-    c.take_got.auto.block ∙ block_length c.loop.invariant.0
-    ∙ sym (block_length c.requires)
 
 pub returns : goal.returns
 returns c =

@@ -1,8 +1,6 @@
 -- `replay::restart::load_frames` meets its contract. The invariant: the first pages have the frames of the selected area. Assumes nothing.
-use mathlib.Core.Path.{sym, ◌∙◌}
 use native.Mathlib.Omega.{arith}
 use Rattle.model.specs.Definitions.Bank.{on_working}
-use Rattle.steps.specs.BlockLaws.{block_length}
 use Rattle.replay.specs.Replaced.{replaced_none, replaced_block, replaced_board, replaced_more, replaced_last}
 use Rattle.replay.proofs.restart.load_frames.Goals as goal
 
@@ -24,11 +22,6 @@ loop-page-preserved c =
       replaced_more b _ b.fields.selected.frames _ _ loop.invariant.1 _ _ c.loop-page-test.true
           c.load_frame.ensures (rw same),
     )
-
-pub shape_of-block : goal.shape_of-block
-shape_of-block c =
-    let b = c.requires in
-    block_length (replaced_block b _ b.fields.selected.frames _ _ c.loop-page.invariant.1 c.loop-page.invariant.0) ∙ sym (block_length b)
 
 pub returns : goal.returns
 returns c =

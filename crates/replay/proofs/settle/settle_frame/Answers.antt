@@ -1,15 +1,7 @@
 -- `replay::settle::settle_frame` meets its contract. Assumes nothing.
 use mathlib.Core.Path.{◌∙◌}
-use native.Mathlib.Omega.{arith}
-use Rattle.steps.specs.BlockLaws.{block_length}
 use Rattle.replay.specs.Settle.{frame_settled}
 use Rattle.replay.proofs.settle.settle_frame.Goals as goal
-
-pub read_page_frame-frame-requires : goal.read_page_frame-frame-requires
-read_page_frame-frame-requires c = omega (arith, block_length c.requires.0)
-
-pub write_page_frame-requires : goal.write_page_frame-requires
-write_page_frame-requires c = omega (arith, block_length c.requires.0)
 
 pub returns : goal.returns
 returns c =

@@ -1,18 +1,13 @@
 -- `replay::settle::settle_frames` meets its contract. The invariant: the first pages have their settled frames. Assumes nothing.
-use mathlib.Core.Path.{sym, ◌∙◌}
 use native.Mathlib.Omega.{arith}
 use Rattle.model.specs.Definitions.Parts.{member}
 use Rattle.model.specs.Definitions.Bank.{on_working, on_frames}
-use Rattle.steps.specs.BlockLaws.{block_length}
 use Rattle.replay.specs.Replaced.{replaced_none, replaced_block, replaced_more, replaced_last}
 use Rattle.replay.specs.Settle.{settling_ok, settling_next}
 use Rattle.replay.proofs.settle.settle_frames.Goals as goal
 
 pub loop-page-init : goal.loop-page-init
 loop-page-init c = (omega arith, replaced_none c.requires _ (settling_ok c.requires (λ p. member p c.args.owned)))
-
-pub has-requires : goal.has-requires
-has-requires c = omega (arith, c.requires.few)
 
 pub settle_frame-requires : goal.settle_frame-requires
 settle_frame-requires c = (
@@ -31,12 +26,6 @@ loop-page-preserved c =
       replaced_more c.requires _ (settling_ok c.requires (λ p. member p c.args.owned)) _ _ loop.invariant.1 _ _ h
           c.settle_frame.ensures next,
     )
-
-pub shape_of-block : goal.shape_of-block
-shape_of-block c =
-    block_length (replaced_block c.requires _ (settling_ok c.requires (λ p. member p c.args.owned)) _ _ c.loop-page.invariant.1
-    c.loop-page.invariant.0)
-    ∙ sym (block_length c.requires)
 
 pub returns : goal.returns
 unfolding on_working on_frames

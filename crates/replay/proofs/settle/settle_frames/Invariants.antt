@@ -1,6 +1,6 @@
 -- `replay::settle::settle_frames` meets its contract. The invariant: the first pages have their settled frames. Assumes nothing.
 use mathlib.Core.Path.{◌≡◌}
-use Prim.Native.Nat.{ℕ, ◌≤◌, ◌-◌}
+use Prim.Native.Nat.{ℕ, ◌≤◌}
 use mathlib.Core.List.{List}
 use Rattle.types.specs.declared.Frame.{Frame}
 use Rattle.model.specs.Definitions.Parts.{each, member}
@@ -17,6 +17,3 @@ settling pages l owned = each (λ p f. settled_frame (member p owned) f) (board_
 abbrev pub invariant-loop-page : goal.invariant-loop-page
 invariant-loop-page l =
     (l.page ≤ l.pages) × (l.block ≡ encode_board (replacing l.page (settling l.pages l.initial.block l.owned) (board_of l.pages l.initial.block)))
-
-abbrev pub decreases-loop-page : goal.decreases-loop-page
-decreases-loop-page l = l.pages - l.page

@@ -12,7 +12,7 @@ use Rattle.replay.proofs.used.replay_access.Goals as goal
 
 pub use_up-requires : goal.use_up-requires
 use_up-requires c =
-    performed_block _ c.requires.0 c.args.writes c.args.page c.args.offset c.args.value c.requires.4 c.requires.1
+    performed_block _ c.requires.0 c.args.write c.requires.4 c.requires.1
     c.requires.2 c.perform.ensures
 
 pub returns : goal.returns

@@ -1,22 +1,12 @@
 -- `replay::used::use_record` meets its contract. Assumes nothing.
 use native.Mathlib.Omega.{arith}
 use Rattle.model.specs.Definitions.Codec.{decode_board_in}
-use Rattle.steps.specs.BlockLaws.{block_length}
 use Rattle.replay.specs.Used.{record_used}
 use Rattle.replay.proofs.used.use_record.Goals as goal
-
-pub read_place-place-requires : goal.read_place-place-requires
-read_place-place-requires c = omega (arith, block_length c.requires.0)
 
 pub overflow_add-place : goal.overflow_add-place
 unfolding decode_board_in
 overflow_add-place c = omega (arith, c.read_place-place.ensures)
-
-pub write_place-requires : goal.write_place-requires
-write_place-requires c = omega (arith, block_length c.requires.0)
-
-pub write_since-requires : goal.write_since-requires
-write_since-requires c = omega (arith, block_length c.requires.0)
 
 pub returns : goal.returns
 returns c =

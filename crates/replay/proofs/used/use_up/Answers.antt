@@ -1,17 +1,11 @@
 -- `replay::used::use_up` meets its contract. The invariant: what is left to use up gives what the whole gives. Assumes nothing.
-use mathlib.Core.Path.{refl, sym, ap, ◌∙◌}
+use mathlib.Core.Path.{sym, ap, ◌∙◌}
 use Rattle.model.specs.Definitions.Codec.{encode_board}
 use Rattle.model.specs.Definitions.Replay.{used_up}
-use Rattle.steps.specs.BlockLaws.{block_length, board_written, block_written}
+use Rattle.steps.specs.BlockLaws.{board_written, block_written}
 use Rattle.steps.specs.Blocks.{board_of}
 use Rattle.replay.specs.Used.{used_up_idle, used_next_used}
 use Rattle.replay.proofs.used.use_up.Goals as goal
-
-pub loop-init : goal.loop-init
-loop-init c = (c.requires, refl)
-
-pub use_next-requires : goal.use_next-requires
-use_next-requires c = c.loop.invariant.0
 
 pub loop-smaller : goal.loop-smaller
 loop-smaller c =
@@ -30,11 +24,6 @@ loop-preserved c =
       ap used_up (board_written _ b.few u.fields e) ∙ sym u.same
           ∙ c.loop.invariant.1,
     )
-
-pub shape_of-block : goal.shape_of-block
-shape_of-block c =
-    c.use_next.auto.block ∙ block_length c.loop.invariant.0
-    ∙ sym (block_length c.requires)
 
 pub returns : goal.returns
 returns c =

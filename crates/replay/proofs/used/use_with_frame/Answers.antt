@@ -1,12 +1,7 @@
 -- `replay::used::use_with_frame` meets its contract. Assumes nothing.
 use mathlib.Core.Path.{◌∙◌}
-use native.Mathlib.Omega.{arith}
-use Rattle.steps.specs.BlockLaws.{block_length}
 use Rattle.replay.specs.Used.{frame_used}
 use Rattle.replay.proofs.used.use_with_frame.Goals as goal
-
-pub write_page_frame-requires : goal.write_page_frame-requires
-write_page_frame-requires c = omega (arith, block_length c.requires.0)
 
 pub returns : goal.returns
 returns c =

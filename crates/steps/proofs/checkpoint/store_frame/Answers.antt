@@ -1,15 +1,7 @@
 -- `steps::checkpoint::store_frame` meets its contract. Assumes nothing.
 use mathlib.Core.Path.{◌∙◌}
-use native.Mathlib.Omega.{arith}
 use Rattle.steps.specs.Checkpoint.{store_frame_bytes}
-use Rattle.steps.specs.BlockLaws.{block_length}
 use Rattle.steps.proofs.checkpoint.store_frame.Goals as goal
-
-pub read_page_frame-frame-requires : goal.read_page_frame-frame-requires
-read_page_frame-frame-requires c = omega (arith, block_length c.requires.0)
-
-pub store_frame-requires : goal.store_frame-requires
-store_frame-requires c = omega (arith, block_length c.requires.0)
 
 pub returns : goal.returns
 returns c =

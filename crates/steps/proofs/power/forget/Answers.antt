@@ -22,9 +22,6 @@ loop-page-preserved c =
       went.ensures ∙ forget_next (decode c.args.bank.now) loop.bank loop.page c.args.board (omega arith) loop.invariant.2,
     )
 
-pub shape_of-bank : goal.shape_of-bank
-shape_of-bank c = c.loop-page.invariant.1
-
 pub returns : goal.returns
 returns c =
     let loop = c.loop-page in

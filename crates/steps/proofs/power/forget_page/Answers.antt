@@ -20,4 +20,4 @@ returns c =
     c.write_entry.ensures
     ∙ ap (λ (e : Entry). splice args.bank.now (head_size + args.page * entry_size) (encode_entry e))
     (entry_forgotten _ _ _ _ _ c.read_owner-owner.ensures
-    c.read_copies-copies.ensures c.without_holder.ensures)
+    c.read_copies-copies.ensures c.without_member.ensures)

@@ -35,9 +35,6 @@ lent c =
       size = c.block_size-size.ensures;
     }
 
-pub overflow_add-a : goal.overflow_add-a
-overflow_add-a c = omega (arith, lent_in (lent c))
-
 pub slice_bounds-wipe-end : goal.slice_bounds-wipe-end
 slice_bounds-wipe-end c = lent_in (lent c)
 

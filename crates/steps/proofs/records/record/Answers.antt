@@ -5,12 +5,6 @@ use Rattle.steps.specs.Logs.{volatile_read, record_bytes}
 use Rattle.steps.specs.BlockLaws.{block_length}
 use Rattle.steps.proofs.records.record.Goals as goal
 
-pub read_since-count-requires : goal.read_since-count-requires
-read_since-count-requires c = omega (arith, block_length c.requires.0)
-
-pub read_volatile_count-at-requires : goal.read_volatile_count-at-requires
-read_volatile_count-at-requires c = omega (arith, block_length c.requires.0)
-
 pub write_volatile-requires : goal.write_volatile-requires
 write_volatile-requires c =
     (c.requires.0.few, omega (arith, block_length c.requires.0, volatile_read c.args.pages c.args.block.now))
@@ -23,13 +17,6 @@ overflow_add-at c =
           args.block.now,
     )
 
-pub write_volatile_count-requires : goal.write_volatile_count-requires
-write_volatile_count-requires c = omega (arith, block_length c.requires.0)
-
-pub write_since-requires : goal.write_since-requires
-write_since-requires c =
-    omega (arith, block_length c.requires.0)
-
 pub returns : goal.returns
 returns c =
     let args = c.args in
@@ -39,6 +26,7 @@ returns c =
       c.write_since.ensures,
       c.write_volatile_count.ensures,
       c.write_volatile.ensures,
+      c.from.ensures,
     )
     (record_bytes c.requires.0 args.kind args.peer args.bytes _ _
     c.read_since-count.ensures counted

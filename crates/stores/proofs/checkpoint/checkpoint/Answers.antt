@@ -1,94 +1,66 @@
 -- `stores::checkpoint::checkpoint` meets its contract. Assumes nothing.
-use mathlib.Core.Path.{◌≡◌}
+use mathlib.Core.Path.{◌≡◌, refl, sym, ◌∙◌}
 use Prim.Native.Nat.{◌+◌}
 use native.Mathlib.Omega.{arith}
 use Rattle.model.specs.Definitions.Steps.{stored_head, stored_selector}
-use Rattle.stores.specs.Store.{at_block, at_next, at_cut}
-use Rattle.stores.specs.Checkpoint.{head_ok, selector_ok, frames_at, frames_lost, head_lost, selector_lost, checkpoint_ran}
+use Rattle.steps.specs.Blocks.{board_of}
+use Rattle.stores.specs.Store.{passed_on, At, at_block, at_next, at_cut}
+use Rattle.stores.specs.Checkpoint.{frames_run, head_run, selector_run, head_ok, selector_ok, frames_at, frames_lost, head_lost, selector_lost, checkpoint_ran}
+use Rattle.stores.proofs.checkpoint.checkpoint.Goals.{In_ok-stores, In_ok-spend, In_ok-spend-2}
 use Rattle.stores.proofs.checkpoint.checkpoint.Goals as goal
 
-pub returns-then-frames : goal.returns-then-frames
-returns-then-frames c =
-    record { run = frames_lost c.requires c.store_frames-frames.ensures.run c.if-frames.true; few = omega arith }
+-- the run so far, where there is power yet: after the frames, after the head, after the selector
+saved : (c : In_ok-stores) → At c.args.pages (frames_run c.args.pages (board_of c.args.pages c.args.block.now)) c.store_frames.new.block c.in_ok-stores.stores
+saved c = frames_at c.requires c.in_ok-stores.ensures.run refl
+
+headed : (c : In_ok-spend) → At c.args.pages (head_run c.args.pages (board_of c.args.pages c.args.block.now)) c.spend.new.block (c.in_ok-stores.stores + 1)
+headed c =
+    let s = frames_at c.requires c.in_ok-stores.ensures.run refl in
+    at_next s stored_head c.store_head.ensures (head_ok s) c.in_ok-spend.ensures.run refl
+
+selected : (c : In_ok-spend-2) → At c.args.pages (selector_run c.args.pages (board_of c.args.pages c.args.block.now)) c.spend-2.new.block (c.in_ok-stores.stores + 2)
+selected c =
+    let s = frames_at c.requires c.in_ok-stores.ensures.run refl in
+    let h = at_next s stored_head c.store_head.ensures (head_ok s) c.in_ok-spend.ensures.run refl in
+    let e : c.in_ok-stores.stores + 1 + 1 ≡ c.in_ok-stores.stores + 2 = omega arith in
+    rw e at (at_next h stored_selector c.store_selector.ensures (selector_ok h) c.in_ok-spend-2.ensures.run refl)
+
+pub returns-in_err-stores-clause-run : goal.returns-in_err-stores-clause-run
+returns-in_err-stores-clause-run c =
+    passed_on _ _ _ c.from_residual.ensures.1 refl (frames_lost c.requires c.in_err-stores.ensures.run refl)
 
 pub store_head-requires : goal.store_head-requires
-store_head-requires c = (frames_at c.requires
-    c.store_frames-frames.ensures.run c.if-frames.false).block
+store_head-requires c = (saved (goal.at.store_head-requires c).In_ok-stores).block
 
 pub spend-requires : goal.spend-requires
 spend-requires c =
-    let saved = frames_at c.requires
-    c.store_frames-frames.ensures.run c.if-frames.false in
-    at_block saved stored_head c.store_head.ensures (head_ok saved)
+    let s = saved (goal.at.spend-requires c).In_ok-stores in
+    at_block s stored_head c.store_head.ensures (head_ok s)
 
-pub returns-then-spend : goal.returns-then-spend
-returns-then-spend c =
-    let frames = c.store_frames-frames in
-    let saved = frames_at c.requires frames.ensures.run c.if-frames.false in
-    record {
-      run = head_lost c.requires (at_cut saved stored_head c.store_head.ensures (head_ok saved)
-          c.spend.ensures c.if-spend.true);
-      few = omega arith;
-    }
+pub returns-in_err-spend-clause-run : goal.returns-in_err-spend-clause-run
+returns-in_err-spend-clause-run c =
+    let s = saved (goal.at.returns-in_err-spend-clause-run c).In_ok-stores in
+    passed_on _ _ _ c.from_residual-in_err-spend.ensures.1 c.in_err-spend.ensures.made
+    (head_lost c.requires (at_cut s stored_head c.store_head.ensures (head_ok s) c.in_err-spend.ensures.run refl))
 
 pub store_selector-requires : goal.store_selector-requires
-store_selector-requires c =
-    let frames = c.store_frames-frames in
-    let saved = frames_at c.requires frames.ensures.run c.if-frames.false in
-    let headed = at_next saved stored_head c.store_head.ensures (head_ok saved)
-    c.spend.ensures c.if-spend.false in
-    headed.block
+store_selector-requires c = (headed (goal.at.store_selector-requires c).In_ok-spend).block
 
 pub spend-requires-2 : goal.spend-requires-2
 spend-requires-2 c =
-    let frames = c.store_frames-frames in
-    let saved = frames_at c.requires frames.ensures.run
-    c.if-frames.false in
-    let headed = at_next saved stored_head
-    c.store_head.ensures (head_ok saved)
-    c.spend.ensures c.if-spend.false in
-    at_block headed stored_selector c.store_selector.ensures (selector_ok headed)
+    let h = headed (goal.at.spend-requires-2 c).In_ok-spend in
+    at_block h stored_selector c.store_selector.ensures (selector_ok h)
 
-pub returns-then-spend-2 : goal.returns-then-spend-2
-returns-then-spend-2 c =
-    let frames = c.store_frames-frames in
-    let saved = frames_at c.requires frames.ensures.run
-    c.if-frames.false in
-    let headed = at_next saved stored_head
-    c.store_head.ensures
-    (head_ok saved) c.spend.ensures
-    c.if-spend.false in
-    let e : frames.result.stores + 1 + 1 ≡ frames.result.stores + 2 = omega arith in
-    record {
-      run = rw e at (selector_lost c.requires (at_cut headed stored_selector c.store_selector.ensures
-          (selector_ok headed) c.spend-2.ensures c.if-spend-2.true));
-      few = omega arith;
-    }
+pub returns-in_err-spend-2-clause-run : goal.returns-in_err-spend-2-clause-run
+returns-in_err-spend-2-clause-run c =
+    let h = headed (goal.at.returns-in_err-spend-2-clause-run c).In_ok-spend in
+    let e : c.in_ok-stores.stores + 1 + 1 ≡ c.in_ok-stores.stores + 2 = omega arith in
+    passed_on _ _ _ c.from_residual-in_err-spend-2.ensures.1 (c.in_err-spend-2.ensures.made ∙ sym e)
+    (selector_lost c.requires (at_cut h stored_selector c.store_selector.ensures (selector_ok h) c.in_err-spend-2.ensures.run refl))
 
 pub rest-requires : goal.rest-requires
-rest-requires c =
-    let frames = c.store_frames-frames in
-    let saved = frames_at c.requires frames.ensures.run
-    c.if-frames.false in
-    let headed = at_next saved stored_head
-    c.store_head.ensures (head_ok saved)
-    c.spend.ensures
-    c.if-spend.false in
-    let selected = at_next headed stored_selector c.store_selector.ensures
-    (selector_ok headed) c.spend-2.ensures c.if-spend-2.false in
-    selected.block
+rest-requires c = (selected (goal.at.rest-requires c).In_ok-spend-2).block
 
-pub returns : goal.returns
-returns c =
-    let frames = c.store_frames-frames in
-    let saved = frames_at c.requires frames.ensures.run
-    c.if-frames.false in
-    let headed = at_next saved stored_head
-    c.store_head.ensures (head_ok saved)
-    c.spend.ensures
-    c.if-spend.false in
-    let selected = at_next headed stored_selector
-    c.store_selector.ensures (selector_ok headed)
-    c.spend-2.ensures c.if-spend-2.false in
-    let e : frames.result.stores + 1 + 1 ≡ frames.result.stores + 2 = omega arith in
-    record { run = rw e at (checkpoint_ran c.requires selected c.rest.ensures); few = omega arith }
+pub returns-clause-run : goal.returns-clause-run
+returns-clause-run c =
+    checkpoint_ran c.requires (selected (goal.at.returns-clause-run c).In_ok-spend-2) c.rest.ensures

@@ -10,22 +10,20 @@ use Rattle.stores.proofs.spend.spend.Goals as goal
 pub wipe-requires : goal.wipe-requires
 wipe-requires c =
     let block = c.requires in
-    block_written _ block.few (burnt_fields block.fields) c.burn-blown.ensures.1
+    block_written _ block.few (burnt_fields block.fields) c.burn.ensures.1
 
-pub returns-then-blown : goal.returns-then-blown
-returns-then-blown c =
+pub returns-then-burn-clause-run : goal.returns-then-burn-clause-run
+returns-then-burn-clause-run c =
     let block = c.requires in
-    let burn = c.burn-blown in (
-      burn.ensures.0,
+    let burn = c.burn in
+    let blown = sym c.if-burn.true ∙ burn.ensures.0 in (
+      blown,
       c.wipe.ensures
           ∙ ap (λ x. encode_board (powered_off x)) (board_written _ block.few (burnt_fields block.fields) burn.ensures.1)
-          ∙ ap encode_board (sym (spent_cut _ (sym burn.ensures.0 ∙ c.if-blown.true))),
+          ∙ ap encode_board (sym (spent_cut _ (sym blown))),
     )
 
-pub returns-else-blown : goal.returns-else-blown
-returns-else-blown c =
-    let block = c.requires in
-    let burn = c.burn-blown in (
-      burn.ensures.0,
-      burn.ensures.1 ∙ ap encode_board (sym (spent_kept _ (sym burn.ensures.0 ∙ c.if-blown.false))),
-    )
+pub returns-clause-run : goal.returns-clause-run
+returns-clause-run c =
+    let kept = sym c.if-burn.false ∙ c.burn.ensures.0 in
+    (kept, c.burn.ensures.1 ∙ ap encode_board (sym (spent_kept _ (sym kept))))

@@ -1,12 +1,15 @@
--- `validity::bank::log_count` meets its contract: the volatile log, or an area's. Assumes nothing.
-use mathlib.Core.Path.{sym, ◌∙◌}
+-- `validity::bank::log_count` meets its contract: an area's log, or the volatile one. Assumes nothing.
 use Rattle.validity.specs.Pieces.{log_count}
-use Rattle.validity.specs.Search.{area_count_lem}
 use Rattle.validity.proofs.bank.log_count.Goals as goal
 
-pub returns-then-log-eq-VOLATILE_LOG : goal.returns-then-log-eq-VOLATILE_LOG
+pub returns-in-First : goal.returns-in-First
 unfolding log_count
-returns-then-log-eq-VOLATILE_LOG c = rw c.if-log-eq-VOLATILE_LOG.true c.volatile_count.ensures.0
+returns-in-First c = cc
 
-pub returns : goal.returns
-returns c = c.area_count.ensures.0 ∙ sym (area_count_lem _ _ _ _ c.if-log-eq-VOLATILE_LOG.false)
+pub returns-in-Second : goal.returns-in-Second
+unfolding log_count
+returns-in-Second c = cc
+
+pub returns-in-Volatile : goal.returns-in-Volatile
+unfolding log_count
+returns-in-Volatile c = cc

@@ -1,16 +1,13 @@
 -- `validity::bank::well_formed` meets its contract: the slots are tested where all else passed. Assumes nothing.
+use Rattle.std.proofs.Common.{rules, tests, arith}
+use Rattle.std.proofs.lemmas.Bool.Decides.{nat_tests}
 use Rattle.model.specs.Definitions.Check.{well_formed_in}
-use Rattle.validity.specs.Search.{failed, passed}
 use Rattle.validity.proofs.bank.well_formed.Goals as goal
 
-pub returns-then-not-formed_in : goal.returns-then-not-formed_in
+pub returns-then-formed_in : goal.returns-then-formed_in
 unfolding well_formed_in
-returns-then-not-formed_in c = rw (failed c.formed_in.ensures c.if-not-formed_in.true-raw)
+returns-then-formed_in c = grind (arith, nat_tests)
 
-pub slots_clean-requires : goal.slots_clean-requires
-slots_clean-requires c = passed c.formed_in.ensures c.if-not-formed_in.false-raw
-
-pub returns : goal.returns
+pub returns-else-formed_in : goal.returns-else-formed_in
 unfolding well_formed_in
-returns c =
-    rw (passed c.formed_in.ensures c.if-not-formed_in.false-raw, c.slots_clean.ensures)
+returns-else-formed_in c = search (rules, tests)

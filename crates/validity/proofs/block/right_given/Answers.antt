@@ -7,24 +7,12 @@ use Rattle.validity.proofs.block.right_given.Goals as goal
 
 pub returns-then-entry-board : goal.returns-then-entry-board
 unfolding decode_entry byte_at
-returns-then-entry-board c = rw (c.right_byte.ensures, right_in_owner (decode_entry c.args.entry.now) _ c.if-entry-board.true)
+returns-then-entry-board c = sym (right_in_owner (decode_entry c.args.entry.now) _ c.if-entry-board.true)
 
-pub returns-then-holds : goal.returns-then-holds
+pub returns-then-has : goal.returns-then-has
 unfolding decode_entry byte_at
-returns-then-holds c =
-    let h = rw c.wide.ensures.0 at c.holds.ensures in
-    rw (
-      c.right_byte-then-holds.ensures,
-      right_in_copy (decode_entry c.args.entry.now) _
-          c.if-entry-board.false (sym h ∙ c.if-holds.true),
-    )
+returns-then-has c = sym (right_in_copy (decode_entry c.args.entry.now) _ c.if-entry-board.false (sym (rw c.from.ensures at c.has.ensures) ∙ c.if-has.true))
 
-pub returns : goal.returns
+pub returns-else-has : goal.returns-else-has
 unfolding decode_entry byte_at
-returns c =
-    let h = rw c.wide.ensures.0 at c.holds.ensures in
-    rw (
-      c.right_byte-2.ensures,
-      right_in_none (decode_entry c.args.entry.now) _
-          c.if-entry-board.false (sym h ∙ c.if-holds.false),
-    )
+returns-else-has c = sym (right_in_none (decode_entry c.args.entry.now) _ c.if-entry-board.false (sym (rw c.from.ensures at c.has.ensures) ∙ c.if-has.false))

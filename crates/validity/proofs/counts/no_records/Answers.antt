@@ -17,7 +17,7 @@ use Rattle.model.proofs.Laws.Counts.{no_records_counts}
 use Rattle.validity.specs.Sizes.{BankSized}
 use Rattle.validity.specs.Search.{failed, passed, below_none, below_next, below_stop, below_end, lent_block}
 use Rattle.validity.proofs.counts.no_records.Goals as goal
-use Rattle.validity.proofs.counts.no_records.Goals.{After-block_at_in-a, After-block_size_in-size, After-counts_zero, After-wide-pages}
+use Rattle.validity.proofs.counts.no_records.Goals.{After-block_at_in-a, After-block_size_in-size, After-counts_zero, After-from-pages}
 
 -- the tests of all boards are the definition's
 tests_of : (form : Form) (s : List ℕ) (n p : ℕ) → n ≡ byte_at s boards_at → p ≡ byte_at s pages_at
@@ -25,7 +25,7 @@ tests_of : (form : Form) (s : List ℕ) (n p : ℕ) → n ≡ byte_at s boards_a
 tests_of form s n p e f = rw (e, f) (sym (no_records_counts form s))
 
 -- what the head says of the numbers that were read
-head_of : (c : goal.After-wide-pages) → HeadOk (form_of c.args.since) c.args.bank.now
+head_of : (c : goal.After-from-pages) → HeadOk (form_of c.args.since) c.args.bank.now
 head_of c = head_ok _ c.requires.1
 
 module _ (c : goal.After-block_size_in-size) where
@@ -36,13 +36,13 @@ module _ (c : goal.After-block_size_in-size) where
   form = form_of c.args.since
 
   abbrev boards_of : ℕ
-  boards_of = c.wide-boards.result
+  boards_of = c.from-boards.result
 
   abbrev pages_of : ℕ
-  pages_of = c.wide-pages.result
+  pages_of = c.from-pages.result
 
   head : HeadOk form bytes
-  head = head_of (goal.at.After-block_size_in-size c).After-wide-pages
+  head = head_of (goal.at.After-block_size_in-size c).After-from-pages
 
   -- the test of a board
   abbrev test : ℕ → Bool
@@ -51,12 +51,12 @@ module _ (c : goal.After-block_size_in-size) where
   sized : BankSized form.since_width boards_of pages_of bytes
   unfolding byte_at
   sized =
-      let size = rw (← c.wide-boards.ensures.0, ← c.wide-pages.ensures.0) at head.size in
+      let size = rw (← c.from-boards.ensures, ← c.from-pages.ensures) at head.size in
       (omega arith, size, omega (arith, head.boards), omega (arith, head.pages))
 
   tests : every_below boards_of test ≡ no_records (decode_in form bytes)
   unfolding byte_at
-  tests = tests_of form bytes boards_of pages_of c.wide-boards.ensures.0 c.wide-pages.ensures.0
+  tests = tests_of form bytes boards_of pages_of c.from-boards.ensures c.from-pages.ensures
 
 -- a board's block, as it is lent
 module _ (c : goal.After-block_at_in-a) where
@@ -71,7 +71,7 @@ tested : (c : goal.After-counts_zero)
     → c.counts_zero.result ≡ test (goal.at.After-counts_zero c).After-block_size_in-size c.loop-board.board
 tested c =
     c.counts_zero.ensures
-    ∙ rw (lent_block (form_of c.args.since) c.args.bank.now c.wide-pages.result c.loop-board.board _ _ c.block_at_in-a.ensures
+    ∙ rw (lent_block (form_of c.args.since) c.args.bank.now c.from-pages.result c.loop-board.board _ _ c.block_at_in-a.ensures
     c.block_size_in-size.ensures)
 
 pub bounds-bank-2 : goal.bounds-bank-2
@@ -82,10 +82,10 @@ bounds-bank-3 c = omega (arith, (head_ok c.args.bank.now c.requires.1).size)
 
 pub block_size_in-size-requires : goal.block_size_in-size-requires
 unfolding byte_at
-block_size_in-size-requires c = omega (arith, (head_of c).pages, c.wide-pages.ensures)
+block_size_in-size-requires c = omega (arith, (head_of c).pages, c.from-pages.ensures)
 
 pub loop-board-init : goal.loop-board-init
-loop-board-init c = (omega arith, below_none _)
+loop-board-init c = below_none _
 
 pub block_at_in-a-requires : goal.block_at_in-a-requires
 block_at_in-a-requires c = omega (arith, sized (goal.at.block_at_in-a-requires c).After-block_size_in-size)
@@ -107,13 +107,10 @@ returns-then-not-counts_zero c =
     let after_block_at_in_a = (goal.at.returns-then-not-counts_zero c).After-block_at_in-a in
     below_stop _ _ _ (omega arith) (failed (tested after_counts_zero) c.if-not-counts_zero.true-raw) ∙ tests (read after_block_at_in_a)
 
-pub overflow_add-board : goal.overflow_add-board
-overflow_add-board c = omega (arith, sized (read (goal.at.overflow_add-board c).After-block_at_in-a))
-
 pub loop-board-preserved : goal.loop-board-preserved
 loop-board-preserved c =
     let after_counts_zero = (goal.at.loop-board-preserved c).After-counts_zero in
-    (omega arith, below_next _ _ c.loop-board.invariant.1 (passed (tested after_counts_zero) c.if-not-counts_zero.false-raw))
+    below_next _ _ c.loop-board.invariant (passed (tested after_counts_zero) c.if-not-counts_zero.false-raw)
 
 pub returns : goal.returns
-returns c = below_end _ _ _ (omega arith) (omega arith) c.loop-board.invariant.1 ∙ tests (goal.at.returns c).After-block_size_in-size
+returns c = below_end _ _ _ (omega arith) (omega arith) c.loop-board.invariant ∙ tests (goal.at.returns c).After-block_size_in-size

@@ -1,6 +1,5 @@
 -- `validity::counts::no_records` meets its contract. The loop's invariant: the blocks before `board` have no record. Assumes nothing.
 use mathlib.Core.Path.{◌≡◌}
-use Prim.Native.Nat.{◌-◌, ◌≤◌}
 use mathlib.Core.Bool.{true}
 use Rattle.model.specs.Definitions.Layout.{form_of}
 use Rattle.model.specs.Definitions.Parts.{every_below}
@@ -10,7 +9,4 @@ use Rattle.validity.proofs.counts.no_records.Given as goal
 
 abbrev pub invariant-loop-board : goal.invariant-loop-board
 invariant-loop-board l =
-    (l.board ≤ l.boards) × (every_below l.board (λ b. counts_zero (form_of l.since) l.pages (block_of_in (form_of l.since) l.pages l.bank b)) ≡ true)
-
-abbrev pub decreases-loop-board : goal.decreases-loop-board
-decreases-loop-board l = l.boards - l.board
+    every_below l.board (λ b. counts_zero (form_of l.since) l.pages (block_of_in (form_of l.since) l.pages l.bank b)) ≡ true

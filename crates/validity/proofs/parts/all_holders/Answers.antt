@@ -6,13 +6,13 @@ use Rattle.validity.specs.Words.{holders_none, holders_next}
 use Rattle.validity.proofs.parts.all_holders.Goals as goal
 
 pub loop-page-init : goal.loop-page-init
-loop-page-init c = (omega arith, holders_none _)
+loop-page-init c = holders_none _
 
 pub loop-page-preserved : goal.loop-page-preserved
 unfolding byte_at
-loop-page-preserved c = (omega arith, λ b. holders_next _ _ _ _ b refl (c.loop-page.invariant.1 b))
+loop-page-preserved c = λ b. holders_next _ _ _ _ b refl (c.loop-page.invariant b)
 
 pub returns : goal.returns
 returns c =
     let e : c.loop-page.page ≡ c.args.pages = omega arith in
-    rw (← e) c.loop-page.invariant.1
+    rw (← e) c.loop-page.invariant

@@ -4,11 +4,10 @@ use Rattle.model.specs.Definitions.Parts.{byte_at}
 use Rattle.validity.specs.Words.{frame_none, frame_some}
 use Rattle.validity.proofs.parts.frame_valid.Goals as goal
 
-pub returns-then-right-right_byte : goal.returns-then-right-right_byte
+pub returns-then-right-from : goal.returns-then-right-from
 unfolding byte_at
-returns-then-right-right_byte c = c.zero_page.ensures ∙ frame_none _ (c.if-right-right_byte.true ∙ c.right_byte.ensures)
+returns-then-right-from c = c.zero_page.ensures ∙ frame_none _ (c.if-right-from.true ∙ c.from.ensures)
 
-pub returns : goal.returns
+pub returns-else-right-from : goal.returns-else-right-from
 unfolding byte_at
-returns c =
-    rw c.right_byte-2.ensures (frame_some _ (λ e. c.if-right-right_byte.false (e ∙ sym c.right_byte.ensures)))
+returns-else-right-from c = rw c.from-else-right-from.ensures (frame_some _ (λ e. c.if-right-from.false (e ∙ sym c.from.ensures)))

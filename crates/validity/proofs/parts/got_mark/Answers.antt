@@ -1,16 +1,17 @@
 -- `validity::parts::got_mark` meets its contract: each return follows the definition's tests. Assumes nothing.
-use borrow.Author.Tests.{eq-eqb, ne_eqb}
+use Rattle.std.proofs.Common.{arith}
+use Rattle.std.proofs.lemmas.Bool.Decides.{nat_tests}
 use Rattle.model.specs.Definitions.Check.{got_mark}
 use Rattle.validity.proofs.parts.got_mark.Goals as goal
 
-pub returns-then-m0-ne-GOT_MARK0 : goal.returns-then-m0-ne-GOT_MARK0
+pub returns-in-67 : goal.returns-in-67
 unfolding got_mark
-returns-then-m0-ne-GOT_MARK0 c = rw (ne_eqb _ _ c.if-m0-ne-GOT_MARK0.true)
+returns-in-67 c = grind (arith, nat_tests)
 
-pub returns-then-m1-eq-COPY_MARK1 : goal.returns-then-m1-eq-COPY_MARK1
+pub returns-in_default : goal.returns-in_default
 unfolding got_mark
-returns-then-m1-eq-COPY_MARK1 c = rw (eq-eqb _ _ c.if-m0-ne-GOT_MARK0.false, eq-eqb _ _ c.if-m1-eq-COPY_MARK1.true)
+returns-in_default c = grind (arith, nat_tests)
 
-pub returns : goal.returns
+pub returns-else-m0-eq-GOT_MARK0 : goal.returns-else-m0-eq-GOT_MARK0
 unfolding got_mark
-returns c = rw (eq-eqb _ _ c.if-m0-ne-GOT_MARK0.false, ne_eqb _ _ c.if-m1-eq-COPY_MARK1.false)
+returns-else-m0-eq-GOT_MARK0 c = grind (arith, nat_tests)

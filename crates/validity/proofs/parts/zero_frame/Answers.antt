@@ -6,4 +6,4 @@ use Rattle.validity.proofs.parts.zero_frame.Goals as goal
 
 pub returns : goal.returns
 unfolding byte_at
-returns c = frame_zero _ _ c.byte.result c.page_bits.result (omega arith) c.byte.ensures.0 c.page_bits.ensures
+returns c = frame_zero _ _ c.from.result c.page_bits.result (omega arith) c.from.ensures c.page_bits.ensures

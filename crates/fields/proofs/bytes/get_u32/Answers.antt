@@ -1,7 +1,0 @@
--- `fields::bytes::get_u32` meets its contract. Assumes nothing.
-use Rattle.model.specs.Definitions.Parts.{part}
-use Rattle.fields.proofs.bytes.get_u32.Goals as goal
-
-pub returns : goal.returns
-unfolding part
-returns c = c.read_u32.ensures

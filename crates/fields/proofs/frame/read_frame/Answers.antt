@@ -1,8 +1,0 @@
--- `fields::frame::read_frame` meets its contract: field by field, what the readers say. Assumes nothing.
-use Rattle.model.specs.Definitions.Parts.{byte_at, part}
-use Rattle.model.specs.Definitions.Codec.{decode_frame}
-use Rattle.fields.proofs.frame.read_frame.Goals as goal
-
-pub returns : goal.returns
-unfolding decode_frame byte_at part
-returns c = rw (c.right_of-right.ensures, c.read_page-bytes.ensures)
