@@ -11,7 +11,7 @@ use Rattle.words.specs.Bytes.{each_nil, each_cons}
 use Rattle.types.specs.declared.CopyOrOwn.TheVariants.{GotOwn}
 use Rattle.types.specs.declared.Answer.{Answer}
 use Rattle.types.specs.declared.Answer.TheVariants.{Done, OwnerNotUp, LogFull, PowerLost}
-use Rattle.steps.specs.declared.access.CellWrite.{CellWrite}
+use Rattle.steps.specs.declared.written.CellWrite.{CellWrite}
 use Rattle.accesses.specs.declared.ask.Ask.{Ask}
 use Rattle.model.specs.Definitions.Answers.{code, value}
 use Rattle.model.specs.Definitions.Parts.{first_below, member}

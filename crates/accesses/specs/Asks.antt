@@ -4,7 +4,7 @@ use Rattle.std.specs.Prelude.{◌≡◌, ℕ, ◌*◌, ◌<◌, false, List, len
 use Rattle.std.proofs.Math.Option.{none}
 use Rattle.std.proofs.lemmas.Option.{IfSome_then}
 use Rattle.words.specs.Bytes.{Each, each_nil, each_cons}
-use Rattle.steps.specs.declared.access.CellWrite.{CellWrite}
+use Rattle.steps.specs.declared.written.CellWrite.{CellWrite}
 use Rattle.accesses.specs.declared.ask.Ask.{Ask}
 use Rattle.model.specs.Definitions.Parts.{member}
 use Rattle.model.specs.Definitions.Layout.{byte_values, page_size, last_since, last_number}
@@ -66,8 +66,6 @@ pub record InRange (pages : ℕ) (q : Ask) (asked : List ℕ) (bytes : ℕ) : Ty
   pub cells : Each (CellIn pages) (cells_asked asked)
   pub room : length asked ≡ 2 * bytes
   pub byte : IfSome q.write (λ w. (w.page < pages) × (w.offset < page_size))
-  -- (its type says so too)
-  pub small : IfSome q.write (λ w. w.value < byte_values)
 
 pub page_in : {pages : ℕ} {q : Ask} {asked : List ℕ} {bytes : ℕ} → InRange pages q asked bytes → IfSome q.write (λ w. w.page < pages)
 page_in {pages} {q} h =
@@ -76,6 +74,11 @@ page_in {pages} {q} h =
     IfSome_then q.write {P = P} {Q = Q} h.byte (λ w i. i.0)
 
 -- ---- an access leaves every field in range
+
+-- what is written is a byte, by its type
+pub value_small : (write : Option CellWrite) → IfSome write (λ w. w.value < byte_values)
+value_small (Some w) = w.small
+value_small None = tt
 
 wrote_small : (write : Option CellWrite) → IfSome write (λ w. w.value < byte_values) → Each (λ w. w.1 < byte_values) (wrote_byte write)
 wrote_small (Some w) h = each_cons h each_nil

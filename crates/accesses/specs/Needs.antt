@@ -13,7 +13,7 @@ use borrow.Author.Tests.{eq-eqb, ne_eqb, lt-ltb, le-ltb, leb-true, leb-false}
 use mathlib.Core.List.{List}
 use Rattle.types.specs.declared.Frame.{Frame}
 use Rattle.types.specs.declared.CopyOrOwn.TheVariants.{GotOwn}
-use Rattle.steps.specs.declared.access.CellWrite.{CellWrite}
+use Rattle.steps.specs.declared.written.CellWrite.{CellWrite}
 use Rattle.accesses.specs.declared.ask.Ask.{Ask}
 use Rattle.model.specs.Definitions.Parts.{member, first_from, first_below, sum_from, sum_below}
 use Rattle.model.specs.Definitions.Layout.{slot_count}

@@ -4,7 +4,7 @@ ghost use Rattle.checks.specs.Refusals.{refusal_answer, outcome_of};
 
 use types::{Answer, Outcome};
 
-// Why a call is refused before it makes a store. Not an answer, which is longer: every call would keep room for two of them on its stack.
+// Why the tests on entry refuse a call. Not an answer, which is longer: every call would keep room for two of them on its stack.
 #[derive(Clone, Copy)]
 pub enum Refusal {
     Malformed,
@@ -34,15 +34,18 @@ impl From<Refusal> for Answer {
     }
 }
 
-// A refusal makes no store.
+// A refusal makes no store, whatever it answers.
+pub fn refuse(answer: Answer) -> Outcome
+    ensures { result ≡ record { answer = answer; stores = 0 } }
+{
+    Outcome { answer, stores: 0 }
+}
+
 impl From<Refusal> for Outcome {
     ghost from_gives = { λ r o. o ≡ record { answer = refusal_answer r; stores = 0 } };
 
     fn from(refusal: Refusal) -> Outcome {
-        Outcome {
-            answer: Answer::from(refusal),
-            stores: 0,
-        }
+        refuse(Answer::from(refusal))
     }
 }
 

@@ -6,6 +6,7 @@ use Rattle.std.specs.declared.result.Result.{Result as Checked}
 use Rattle.std.proofs.Math.Option.{none}
 use Rattle.types.specs.declared.State.{State}
 use Rattle.types.specs.declared.State.TheVariants.{Replaying}
+use Rattle.types.specs.declared.Answer.{Answer}
 use Rattle.types.specs.declared.Answer.TheVariants.{OutOfRange, WrongCells, WrongState, CountersFull, ReplayDiffers}
 use Rattle.types.specs.declared.Outcome.{Outcome}
 use Rattle.model.specs.Definitions.Answers.{code}
@@ -140,11 +141,15 @@ refusal_plain g by.HasRecords = refl
 refusal_plain g by.SameBoard = refl
 
 -- a refusal leaves the bytes, and nothing is read
-refused_answered : {a : Access} {s out : List ℕ} (r : Refusal) {t : Result} → IsBank s
-    → t ≡ record { answer = refusal_answer r; run = start (decode s); given = [] } → Answered a s (record { answer = refusal_answer r; stores = 0 }) 0 t out
+refused_answered : {a : Access} {s out : List ℕ} {o : Outcome} (x : Answer) {t : Result} → on_value (λ v. 0) x ≡ x → code x ≢ 0 → IsBank s
+    → t ≡ record { answer = x; run = start (decode s); given = [] } → o ≡ record { answer = x; stores = 0 } → Answered a s o 0 t out
 unfolding start
-refused_answered r ok e =
-    rw e (record { bytes = sym ok.back; answer = sym (refusal_plain (λ v. 0) r); stores = refl; read = λ z. absurd (refusal_code r z) })
+refused_answered x same not ok e q = rw e (record { bytes = sym ok.back; answer = rw q (sym same); stores = rw q; read = λ z. absurd (not z) })
+
+-- of one that is told by its reason
+told_answered : {a : Access} {s out : List ℕ} (r : Refusal) {t : Result} → IsBank s
+    → t ≡ record { answer = refusal_answer r; run = start (decode s); given = [] } → Answered a s (record { answer = refusal_answer r; stores = 0 }) 0 t out
+told_answered r ok e = refused_answered (refusal_answer r) (refusal_plain (λ v. 0) r) (refusal_code r) ok e refl
 
 pub asks_counted : {pages : ℕ} {q : Ask} {s : List ℕ} (boards : ℕ) → Asks (length (decode s).boards) pages q s → boards ≡ length (decode s).boards
     → Asks boards pages q s
@@ -159,7 +164,7 @@ module _ {boards pages : ℕ} {q : Ask} {s cells : List ℕ} (h : Asks boards pa
   k = decode s
 
   pub answers_down : {out : List ℕ} → is_down state ≡ true → Answered a s (record { answer = WrongState b; stores = 0 }) 0 (access_bank b a k) out
-  answers_down d = refused_answered (by.WrongState b) h.bank.bank (access_down b a k w.range w.right (rw (← is) d))
+  answers_down d = told_answered (by.WrongState b) h.bank.bank (access_down b a k w.range w.right (rw (← is) d))
 
   module _ (power : is_down state ≡ false) {m : Checked (Unit {0}) Refusal} (told : m ≡ admission_of b (is_replaying state) a (board_at k b)) where
     on : is_down (board_at k b).state ≡ false
@@ -170,7 +175,7 @@ module _ {boards pages : ℕ} {q : Ask} {s cells : List ℕ} (h : Asks boards pa
 
     pub answers_refused : {r : Refusal} {out : List ℕ} → m ≡ Err r
         → Answered a s (record { answer = refusal_answer r; stores = 0 }) 0 (access_bank b a k) out
-    answers_refused {r} e = refused_answered r h.bank.bank (access_refused b a k w.range w.right on told_of e)
+    answers_refused {r} e = told_answered r h.bank.bank (access_refused b a k w.range w.right on told_of e)
 
     module _ (e : m ≡ Ok tt) where
       none_holds : first_given (access_refusals b a k) ≡ none

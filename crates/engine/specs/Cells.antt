@@ -121,7 +121,7 @@ module _ {a : Access} {cells : List ℕ} (x : Reading a cells) (b : ℕ) (k : Ba
       }
 
   pub read_range : (named n : ℕ) → length cells ≡ 2 * n → InRange pages (read_ask b named) cells n
-  read_range named n l = record { cells = reads_within; room = l; byte = tt; small = tt }
+  read_range named n l = record { cells = reads_within; room = l; byte = tt }
 
 -- a list of cells is in range if each of them is
 pub cells_range : (b : ℕ) (cells : List ℕ) (n : ℕ) (k : Bank) → ltb b (length k.boards) ≡ true
@@ -141,17 +141,13 @@ right_cells cells n h =
     let same : n ≡ length (cells_asked cells) = eqb-true n (length (cells_asked cells)) (not-false (eqb n (length (cells_asked cells))) three.1) in
     (by_eq (length cells % 2) 1 (λ e. absurd (even e)) (λ e. omega (arith, same, count_cells cells, e)), omega (arith, same, few))
 
-abbrev pub write_ask : ℕ → ℕ → ℕ → ℕ → ℕ → Ask
-write_ask b named p o v = record { board = b; named = named; write = Some (record { page = p; offset = o; value = v }) }
+abbrev pub write_ask : ℕ → ℕ → (p o v : ℕ) → v < byte_values → Ask
+write_ask b named p o v small = record { board = b; named = named; write = Some (record { page = p; offset = o; value = v; small = small }) }
 
 module _ (b p o v : ℕ) (k : Bank) (range : access_in_range b (Write p o v) k ≡ true) {pages : ℕ} (e : pages ≡ length k.directory) where
   written_in : CellIn pages (record { page = p; offset = o })
   unfolding cells_written
   written_in = rw e (each_head (writes_in b (Write p o v) k range))
-
-  value_in : v < byte_values
-  unfolding cells_written
-  value_in = each_head (values_in b (Write p o v) k range)
 
   pub write_within : Each (CellIn pages) (cells_asked (p ∷ o ∷ []))
   unfolding cells_asked
@@ -161,10 +157,10 @@ module _ (b p o v : ℕ) (k : Bank) (range : access_in_range b (Write p o v) k �
   unfolding names any_cell any_write cells_read cells_written cells_asked
   write_names q = refl
 
-  pub write_asked : (named : ℕ) → ((q : ℕ) → member q named ≡ any_cell (cells_asked (p ∷ o ∷ [])) q)
-      → WellAsked pages (Write p o v) (write_ask b named p o v) [] k
+  pub write_asked : {small : v < byte_values} (named : ℕ) → ((q : ℕ) → member q named ≡ any_cell (cells_asked (p ∷ o ∷ [])) q)
+      → WellAsked pages (Write p o v) (write_ask b named p o v small) [] k
   unfolding cells_read cells_written cells_asked takes got wrong_cells
-  write_asked named members =
+  write_asked {small} named members =
       record {
         stands = record { takes = takes_named (p ∷ o ∷ []) write_names write_within members true refl; writes = refl };
         reads = refl;
@@ -172,9 +168,9 @@ module _ (b p o v : ℕ) (k : Bank) (range : access_in_range b (Write p o v) k �
         right = refl;
       }
 
-  pub write_range : (named : ℕ) → InRange pages (write_ask b named p o v) [] 0
+  pub write_range : {small : v < byte_values} (named : ℕ) → InRange pages (write_ask b named p o v small) [] 0
   unfolding cells_asked
-  write_range named = record { cells = each_nil; room = refl; byte = written_in; small = value_in }
+  write_range {small} named = record { cells = each_nil; room = refl; byte = written_in }
 
 pub few_pages : {b : ℕ} {s : List ℕ} {st : State} → OnBoard b s st → {pages : ℕ} → pages ≡ length (decode s).directory → pages ≤ most_pages
 few_pages on e = omega (arith, e, on.whole.sizes.pages)

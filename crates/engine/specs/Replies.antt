@@ -1,7 +1,7 @@
 -- What a call replies, once its tests are known, one law for each way through it; and the contract from such a law. Assumes nothing.
 use Rattle.std.specs.Prelude.{◌≡◌, ℕ, ◌+◌, ◌≤◌, Bool, true, false, ◌&&◌, List, [], length, Err, ltb}
 use Rattle.std.specs.declared.result.Result.{Result as Checked}
-use Rattle.std.proofs.Common.{refl, sym, ◌∙◌, arith, lt-ltb}
+use Rattle.std.proofs.Common.{sym, ◌∙◌, arith, lt-ltb}
 use Rattle.std.proofs.Math.Path.{ap}
 use Rattle.types.specs.declared.State.{State}
 use Rattle.types.specs.declared.Answer.{Answer}

@@ -24,8 +24,8 @@ use checks::bank::{board_count, page_count};
 use checks::entry::enter;
 use checks::refusal::{Refusal, answered};
 use fields::cells::{MOST_CELLS, cells_fit, named_pages, wrong_cells};
-use steps::access::CellWrite;
 use steps::state::{is_down, is_replaying};
+use steps::written::CellWrite;
 use types::{Answer, Outcome, State};
 
 // An access whose numbers fit: codes 3, 4 and 5, then the access. The bytes of its cells are in `out` when it is done.

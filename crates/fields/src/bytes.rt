@@ -55,12 +55,15 @@ pub fn write_page(s: &mut [u8], at: usize, page: [u8; PAGE_SIZE])
     s[at..at + PAGE_SIZE].copy_from_slice(&page);
 }
 
-// The `n` bytes at a place of one slice over those at a place of another.
+// The `n` bytes at a place of one slice over those at a place of another. (A loop: `copy_from_slice` of a length that isn't known calls for `memmove`, which
+// the archive then needs from outside.)
 pub fn copy(from: &[u8], a: usize, to: &mut [u8], b: usize, n: usize)
     requires { (a + n ≤ length from.now) × (b + n ≤ length to.old) }
     ensures { to.new ≡ splice to.old b (part from.now a n) }
 {
-    to[b..b + n].copy_from_slice(&from[a..a + n]);
+    for i in 0..n {
+        to[b + i] = from[a + i];
+    }
 }
 
 // All of a part made zero.

@@ -33,3 +33,13 @@ pub fn count_line(tally: &mut Tally, code: u8)
         tally.refused += 1;
     }
 }
+
+// The same by value, for every other caller: the tally is a local here, and lent from here.
+pub fn with_line(tally: Tally, code: u8) -> Tally
+    requires { Counts tally }
+    ensures { result ≡ counted code tally }
+{
+    let mut lent = tally;
+    count_line(&mut lent, code);
+    lent
+}

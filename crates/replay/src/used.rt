@@ -14,7 +14,8 @@ ghost use Rattle.replay.specs.Clauses.{uses_next, used_next};
 
 use crate::next::next_ready;
 use format::block::{read_place, write_page_frame, write_place, write_since};
-use steps::access::{CellWrite, empty_frame, perform};
+use steps::access::{empty_frame, perform};
+use steps::written::CellWrite;
 use types::{Frame, Kind};
 
 // One record used: the next place, since 0.

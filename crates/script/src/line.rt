@@ -5,7 +5,7 @@ ghost use Rattle.script.specs.Clauses.{Ready, Ran, state_of};
 use crate::work::line_work;
 use lines::print::put_line;
 use lines::request::read_request;
-use lines::tally::{Tally, count_line};
+use lines::tally::{Tally, with_line};
 
 // How far the runner is: the bank's bytes, the tally, and the place of the output's next byte.
 #[derive(Clone, Copy, Default)]
@@ -24,11 +24,9 @@ pub fn run_line(line: &[u8], bank: &mut [u8], out: &mut [u8], from: Progress) ->
     let number = from.tally.read + 1;
     let work = line_work(bank, from.size, number, read_request(line));
     let at = put_line(out, from.at, number, work.printed);
-    let mut tally = from.tally;
-    count_line(&mut tally, work.printed.code);
     Progress {
         size: work.size,
-        tally,
+        tally: with_line(from.tally, work.printed.code),
         at,
     }
 }

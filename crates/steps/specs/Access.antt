@@ -23,7 +23,7 @@ use Rattle.model.proofs.Laws.Valid.{Writable}
 use Rattle.model.proofs.Laws.BlockFields.{read_right, read_byte, write_frame, write_byte}
 use Rattle.model.proofs.Laws.BlockWorking.{accessed_read}
 use Rattle.model.proofs.Laws.BoardFields.{accessed_fields}
-use Rattle.steps.specs.declared.access.CellWrite.{CellWrite}
+use Rattle.steps.specs.declared.written.CellWrite.{CellWrite}
 use Rattle.steps.specs.Asked.{got, Takes, wrote_byte}
 use Rattle.steps.specs.Blocks.{IsBlock, board_of}
 use Rattle.steps.specs.BlockLaws.{block_written}

@@ -3,7 +3,7 @@
 use Rattle.std.specs.Prelude.{◌≡◌, ℕ, ◌<◌, Bool, true, false, List, [], ◌∷◌, Option, Some, None}
 use Rattle.types.specs.declared.CopyOrOwn.{CopyOrOwn}
 use Rattle.types.specs.declared.CopyOrOwn.TheVariants.{GotCopy, GotOwn}
-use Rattle.steps.specs.declared.access.CellWrite.{CellWrite}
+use Rattle.steps.specs.declared.written.CellWrite.{CellWrite}
 use Rattle.model.specs.Definitions.Parts.{member}
 use Rattle.model.specs.Definitions.Steps.{Access, Cell, names, takes}
 

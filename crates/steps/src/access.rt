@@ -13,6 +13,7 @@ ghost use Rattle.steps.specs.Blocks.{IsBlock, board_of};
 ghost use Rattle.fields.specs.Cells.{CellIn};
 ghost use Rattle.steps.specs.Asked.{got, Takes, wrote_byte};
 
+use crate::written::CellWrite;
 use fields::bytes::{get, put};
 use fields::sets::Set;
 use fields::widths::{FRAME_BYTES_AT, FRAME_SIZE, RIGHT_AT};
@@ -111,14 +112,6 @@ fn read_access(block: &mut [u8], pages: usize)
     let since = read_since(block);
     write_number(block, number + 1);
     write_since(block, since + 1);
-}
-
-// The byte that a write leaves, and where.
-#[derive(Clone, Copy)]
-pub struct CellWrite {
-    pub page: usize,
-    pub offset: usize,
-    pub value: u8,
 }
 
 // A write counts as a read does; its byte besides.

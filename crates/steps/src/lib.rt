@@ -8,3 +8,4 @@ pub mod fuse;
 pub mod power;
 pub mod records;
 pub mod state;
+pub mod written;

@@ -11,7 +11,7 @@ use Rattle.model.proofs.Laws.Logic.{clash}
 use Rattle.steps.specs.Blocks.{IsBlock, board_of}
 use Rattle.steps.specs.BlockLaws.{board_written, block_written}
 use Rattle.replay.specs.Got.{took_due_fields}
-use Rattle.accesses.specs.Asks.{Stands}
+use Rattle.accesses.specs.Asks.{Stands, value_small}
 use Rattle.accesses.specs.BlockReplay.{Repeats, taken_number, taken_since, taken_writable, repeated_fields}
 use Rattle.accesses.proofs.Repeated.{to_live, to_last, to_going}
 use Rattle.accesses.proofs.blocks.replay.Goals.{After-replay_access, After-take_due, Else-replay_over, Start}
@@ -34,7 +34,7 @@ left c = sym (c.replay_over.ensures ∙ ap replay_over (board_written (took_due 
 -- the access repeated, and the bytes after it
 again_ok : (c : Else-replay_over) (a : Access) → Stands c.args.pages a c.args.ask → Repeats a (board_of c.args.pages c.args.block.now)
     → FieldsOk c.args.pages (replayed a (took_due (board_of c.args.pages c.args.block.now)))
-again_ok c a s h = repeated_fields c.requires.0.fields a h c.args.ask s c.requires.1.small (sym (c.replay_over.ensures ∙ ap replay_over (board_written (took_due (board_of c.args.pages c.args.block.now)) c.requires.0.few (took_due_fields (board_of c.args.pages c.args.block.now) c.requires.0.fields) c.take_due.ensures)) ∙ c.if-replay_over.false)
+again_ok c a s h = repeated_fields c.requires.0.fields a h c.args.ask s (value_small c.args.ask.write) (sym (c.replay_over.ensures ∙ ap replay_over (board_written (took_due (board_of c.args.pages c.args.block.now)) c.requires.0.few (took_due_fields (board_of c.args.pages c.args.block.now) c.requires.0.fields) c.take_due.ensures)) ∙ c.if-replay_over.false)
 
 did : (c : After-replay_access) (a : Access) → Stands c.args.pages a c.args.ask
     → c.replay_access.new.block ≡ encode_board (replayed a (took_due (board_of c.args.pages c.args.block.now)))
@@ -67,7 +67,7 @@ replay_access-requires c =
       rw e (taken_number c.requires.0.fields a h),
       rw e (taken_since c.requires.0.fields a h),
       c.requires.1.byte,
-      rw e (taken_writable c.requires.0.fields a h c.args.ask c.requires.2.1 c.requires.1.small (left (goal.at.replay_access-requires c).Else-replay_over)),
+      rw e (taken_writable c.requires.0.fields a h c.args.ask c.requires.2.1 (value_small c.args.ask.write) (left (goal.at.replay_access-requires c).Else-replay_over)),
     )
 
 pub replay_over-requires-2 : goal.replay_over-requires-2

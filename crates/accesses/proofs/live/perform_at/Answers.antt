@@ -1,7 +1,7 @@
 -- `accesses::live::perform_at` meets its contract: the access is done on the board's block, which is lent. Assumes nothing.
 use Rattle.copies.specs.Banks.{lent_of, lent_holds}
 use Rattle.steps.specs.BankBlocks.{LentBlock, lent_in, lent_fields, lent_block, lent_board}
-use Rattle.accesses.specs.Asks.{performed_fields}
+use Rattle.accesses.specs.Asks.{performed_fields, value_small}
 use Rattle.model.specs.Definitions.Steps.{cells_asked, cell_byte, accessed, access}
 use Rattle.model.specs.Definitions.Codec.{decode}
 use Rattle.model.specs.Definitions.Bank.{Board, on_working}
@@ -36,5 +36,5 @@ returns c =
       read = did.ensures.read ∙ ap (λ (x : Board). map (cell_byte x.working.frames) (cells_asked c.args.cells.now)) (lent_board block);
       did = λ a s ready.
           lent_holds c.requires.0 block (on_working (accessed a)) did.new.block
-          (performed_fields a q s c.requires.1.small (lent_fields block) ready.right ready.number ready.since) did.auto.block (did.ensures.did a s);
+          (performed_fields a q s (value_small c.args.ask.write) (lent_fields block) ready.right ready.number ready.since) did.auto.block (did.ensures.did a s);
     }

@@ -3,6 +3,7 @@ use mathlib.Core.Path.{ap, ◌∙◌}
 use Rattle.model.specs.Definitions.Codec.{decode}
 use Rattle.steps.specs.BankBlocks.{LentBlock, lent_in, lent_fields, lent_block, lent_board}
 use Rattle.copies.specs.Banks.{lent_of, lent_holds}
+use Rattle.accesses.specs.Asks.{value_small}
 use Rattle.accesses.specs.BlockReplay.{replayed_board, replayed_to, replayed_fields}
 use Rattle.accesses.proofs.replaying.replay_at.Goals.{After-block_size-size}
 use Rattle.accesses.proofs.replaying.replay_at.Goals as goal
@@ -34,6 +35,6 @@ returns c =
           let told = did.ensures.did a s (rw e h) in (
             told.0 ∙ ap (replayed_to a) e,
             lent_holds c.requires.0 block (replayed_board a) did.new.block
-                (replayed_fields (lent_fields block) a h c.args.ask s c.requires.1.small) did.auto.block told.1,
+                (replayed_fields (lent_fields block) a h c.args.ask s (value_small c.args.ask.write)) did.auto.block told.1,
           );
     }

@@ -8,5 +8,5 @@ returns c =
     let called = c.line_work-work in
     let put = c.put_line-at in
     line_ran c.args.line.now asked.result c.args.from c.args.bank.now called.new.bank c.args.out.now
-    put.new.out called.result c.count_line.new.tally put.result c.requires.counts.sums asked.ensures called.ensures
-    put.ensures.bytes put.ensures.near c.count_line.ensures
+    put.new.out called.result c.with_line.result put.result c.requires.counts.sums asked.ensures called.ensures
+    put.ensures.bytes put.ensures.near c.with_line.ensures

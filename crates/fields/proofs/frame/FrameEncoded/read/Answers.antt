@@ -1,4 +1,4 @@
--- `fields::frame::read_frame` meets its contract: field by field, what the readers say. Assumes nothing.
+-- `fields::frame::FrameEncoded::read` meets its contract: field by field, what the readers say. Assumes nothing.
 use Rattle.model.specs.Definitions.Parts.{byte_at, part}
 use Rattle.model.specs.Definitions.Codec.{decode_frame}
 use Rattle.fields.proofs.frame.FrameEncoded.read.Goals as goal

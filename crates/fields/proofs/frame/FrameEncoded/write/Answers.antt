@@ -1,4 +1,4 @@
--- `fields::frame::write_frame` meets its contract. Assumes nothing.
+-- `fields::frame::FrameEncoded::write` meets its contract. Assumes nothing.
 use mathlib.Core.Path.{◌≡◌, refl}
 use Prim.Native.Nat.{ℕ}
 use native.Mathlib.Omega.{arith}

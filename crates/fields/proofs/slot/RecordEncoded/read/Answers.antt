@@ -1,4 +1,4 @@
--- `fields::slot::read_record` meets its contract: field by field, what the readers say. Assumes nothing.
+-- `fields::slot::RecordEncoded::read` meets its contract: field by field, what the readers say. Assumes nothing.
 use Rattle.model.specs.Definitions.Parts.{byte_at}
 use Rattle.model.specs.Definitions.Codec.{decode_record_in}
 use Rattle.fields.proofs.slot.RecordEncoded.read.Goals as goal

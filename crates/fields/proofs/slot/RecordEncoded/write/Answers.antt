@@ -1,4 +1,4 @@
--- `fields::slot::write_record` meets its contract. Assumes nothing.
+-- `fields::slot::RecordEncoded::write` meets its contract. Assumes nothing.
 use mathlib.Core.Path.{◌≡◌}
 use Prim.Native.Nat.{ℕ}
 use native.Mathlib.Omega.{arith}
